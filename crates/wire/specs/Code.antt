@@ -1,0 +1,21 @@
+-- Error codes: "a signed 32-bit number, zero or below".
+use Prim.Native.Nat.{ℕ, zero, suc, _+_, _-_, min}
+use mathlib.Core.List.{List}
+use lib.IntN.{ℤ, pos, negsuc}
+use Rattle.wire.specs.Bytes.{le}
+
+-- the number of the error: a code's negation. The smallest i32 has none that fits and gives the largest i32.
+unfoldable pub negated : ℤ → ℤ
+negated (pos zero) = pos 0
+negated (pos (suc n)) = negsuc n
+negated (negsuc n) = pos (min (suc n) 2147483647)
+
+-- the two's complement of a signed number at 32 bits
+unfoldable pub twos : ℤ → ℕ
+twos (pos n) = n
+twos (negsuc n) = 4294967296 - suc n
+
+-- its four bytes
+unfoldable pub codeBytes : ℤ → List ℕ
+unfolding twos
+codeBytes e = le 4 (twos e)
