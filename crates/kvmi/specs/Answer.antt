@@ -1,0 +1,41 @@
+-- "Host answers": document 01's number and values of each case of an answer.
+use Prim.Native.Nat.{ℕ}
+use mathlib.Core.List.{List, [], _∷_}
+use lib.ListN.{getD}
+use Rattle.kvmi.specs.declared.Answer.{Answer}
+use Rattle.kvmi.specs.declared.Answer.the-variants.{Handled, Closing, Closed, ShortOut, BadVcpu, BadState, Waiting, BadSettings, BadForm, Forbidden, Busy, NotApplicable}
+use Rattle.kvmi.specs.declared.Signal.{Signal}
+use Rattle.kvmi.specs.declared.Signal.the-variants.{Quiet, Kick, Crash}
+
+-- number, count of bytes written, signal (none, kick(vCPU, wait), crash(vCPU)), offset; what an answer has none of is 0 or none
+pub record Paper : Type 0 where
+  pub number : ℕ
+  pub count : ℕ
+  pub signal : Signal
+  pub offset : ℕ
+
+-- answer 0
+abbrev pub handled : ℕ → Signal → Paper
+handled n g = record { number = 0; count = n; signal = g; offset = 0 }
+
+-- the answers with no values
+abbrev pub plain : ℕ → Paper
+plain k = record { number = k; count = 0; signal = Quiet; offset = 0 }
+
+-- answers 8 and 9
+abbrev pub plainAt : ℕ → ℕ → Paper
+plainAt k off = record { number = k; count = 0; signal = Quiet; offset = off }
+
+abbrev pub paper : Answer → Paper
+paper (Handled n g) = handled n g
+paper Closing = plain 1
+paper Closed = plain 2
+paper ShortOut = plain 3
+paper BadVcpu = plain 4
+paper BadState = plain 5
+paper Waiting = plain 6
+paper BadSettings = plain 7
+paper (BadForm off) = plainAt 8 off
+paper (Forbidden off) = plainAt 9 off
+paper Busy = plain 10
+paper NotApplicable = plain 14

@@ -1,0 +1,157 @@
+-- The host calls of demand 3's list on the model, each with its arguments: its answer, what it leaves in lent memory, and the model after it.
+-- They read nothing but the model, the arguments and the settings.
+use Prim.Native.Nat.{ℕ, _-_}
+use mathlib.Core.List.{List, [], _∷_, _++_}
+use mathlib.Core.Bool.{Bool, true, false, cond, not, _||_}
+use mathlib.Core.Option.{Option, none, some}
+use lib.IntN.{ℤ}
+use lib.ListN.{length, drop}
+use lib.Dec.{leb, ltb, eqb}
+use Rattle.wire.specs.Header.{headerOf}
+use Rattle.wire.specs.declared.Header.{Header}
+use Rattle.wire.specs.declared.Header.the-variants.{Whole, Broken}
+use Rattle.kvmi.specs.declared.Settings.{Settings}
+use Rattle.kvmi.specs.declared.Signal.{Signal}
+use Rattle.kvmi.specs.declared.Signal.the-variants.{Quiet}
+use Rattle.kvmi.specs.declared.ReplyMode.{ReplyMode}
+use Rattle.kvmi.specs.declared.Change.{Change}
+use Rattle.kvmi.specs.declared.Verdict.{Verdict}
+use Rattle.kvmi.specs.declared.Verdict.the-variants.{Closes, Fails, Does}
+use Rattle.kvmi.specs.Answer.{Paper, handled, plain, plainAt}
+use Rattle.kvmi.specs.Settings.{inRange}
+use Rattle.kvmi.specs.Tables.{Vcpu, Tables, vcpuAt, withReady, withPauses}
+use Rattle.kvmi.specs.Model.{Awaited, Model, begun, fresh, closedModel, withSeq, setAwaited, awaitedBy, onVcpu, nextSeq, isSome}
+use Rattle.kvmi.specs.Message.{layoutOf, vcpuOf}
+use Rattle.kvmi.specs.Verdict.{verdict, factsOf}
+use Rattle.kvmi.specs.Change.{Applied, apply, signalOf, modeFor}
+use Rattle.kvmi.specs.Reply.{replyData, pauseEvent, answerOf, answerSeq}
+use Rattle.kvmi.specs.Image.{Loaded, loaded, badForm, forbidden, image, loadImage}
+
+-- what a call gives and leaves: its answer, output, guest memory, and the model
+pub record Step : Type 0 where
+  pub answer : Paper
+  pub out : List ℕ
+  pub guest : List ℕ
+  pub model : Model
+
+-- "None": nothing in session, output or guest memory changes
+abbrev pub unchanged : ℕ → Model → List ℕ → List ℕ → Step
+unchanged k m out guest = record { answer = plain k; out = out; guest = guest; model = m }
+
+-- answer 1: "0 bytes, session closes"; "Settings and guest memory are kept."
+abbrev pub closing : Settings → List ℕ → List ℕ → Step
+closing s out guest = record { answer = plain 1; out = out; guest = guest; model = closedModel s }
+
+-- answer 0 with bytes written; "output past the count is untouched"
+abbrev pub writing : List ℕ → Signal → List ℕ → List ℕ → Model → Step
+writing bytes g out guest m = record { answer = handled (length bytes) g; out = bytes ++ drop (length bytes) out; guest = guest; model = m }
+
+-- ---- how a session begins
+-- its answer and, unless it is refused, its model
+pub record Begin : Type 0 where
+  pub answer : Paper
+  pub model : Option Model
+
+abbrev pub beginning : Model → Begin
+beginning m = record { answer = handled 0 Quiet; model = some m }
+
+-- "no session"
+abbrev pub noSession : Paper → Begin
+noSession p = record { answer = p; model = none }
+
+unfoldable pub beginFresh : Settings → Begin
+beginFresh s = cond (inRange s) (beginning (fresh s)) (noSession (plain 7))
+
+abbrev pub beginLoaded : Loaded → Begin
+beginLoaded (loaded t) = beginning (begun t)
+beginLoaded (badForm off) = noSession (plainAt 8 off)
+beginLoaded (forbidden off) = noSession (plainAt 9 off)
+
+-- "image reader 7, then 8 or 9"; "Loaded sessions have replies on, seq 0."
+unfoldable pub beginFrom : Settings → List ℕ → Begin
+beginFrom s l = cond (inRange s) (beginLoaded (loadImage s l)) (noSession (plain 7))
+
+-- ---- a message: "Orders: message 2, 3, then below"
+-- a command of a mode to be answered by, with its code and reply data
+unfoldable pub answering : ReplyMode → ℕ → ℕ → ℤ → List ℕ → Signal → List ℕ → List ℕ → Model → Step
+answering mode id seq code d g out guest m =
+    writing (answerOf (layoutOf id .reply) mode (m .seq) id seq code d) g out guest (withSeq m (answerSeq mode (m .seq) code))
+
+unfoldable pub doing : Settings → ℕ → ℕ → List ℕ → ReplyMode → List ℕ → List ℕ → Change → Applied → Step
+doing s id seq d old out guest c a =
+    answering (modeFor old c) id seq (a .code) (replyData s guest id d) (signalOf c) out (a .guest) (a .model)
+
+unfoldable pub judged : Settings → Model → ℕ → ℕ → List ℕ → List ℕ → List ℕ → Verdict → Step
+judged s m id seq d out guest Closes = closing s out guest
+judged s m id seq d out guest (Fails code) = answering (m .mode) id seq code [] Quiet out guest m
+judged s m id seq d out guest (Does c) = doing s id seq d (m .mode) out guest c (apply m guest d c)
+
+-- test 1: "Fewer than 8 bytes, or size unequal to the bytes that follow: closes."
+unfoldable pub headed : Settings → Model → List ℕ → List ℕ → List ℕ → Header → Step
+headed s m d out guest Broken = closing s out guest
+headed s m d out guest (Whole id size seq) = judged s m id seq d out guest (verdict s (factsOf m (length guest) (vcpuOf d)) id seq d)
+
+unfoldable pub messageStep : Settings → Model → List ℕ → List ℕ → List ℕ → Step
+messageStep s m msg out guest =
+    cond (m .closed) (unchanged 2 m out guest)
+    (cond (ltb (length out) 4112) (unchanged 3 m out guest)
+    (headed s m (drop 8 msg) out guest (headerOf msg)))
+
+-- ---- a ready mark: "2, 4"
+unfoldable pub readyStep : Settings → Model → ℕ → Step
+readyStep s m vcpu =
+    cond (m .closed) (unchanged 2 m [] [])
+    (cond (leb (s .vcpus) vcpu) (unchanged 4 m [] [])
+    (writing [] Quiet [] [] (onVcpu m vcpu (λ v. withReady v true))))
+
+-- ---- "Entry of a vCPU into the guest": "2, 4, 5, 3, 6"
+-- "with a pause queued, writes the pause event (552 bytes), one pause less, reply awaited; else 0 bytes"
+unfoldable pub pausing : Model → ℕ → List ℕ → List ℕ → Step
+pausing m vcpu state out =
+    writing (pauseEvent (m .seq) vcpu state) Quiet out []
+    (withSeq (setAwaited (onVcpu m vcpu (λ v. withPauses v (v .pauses - 1))) vcpu (some (record { event = 2; seq = m .seq }))) (nextSeq (m .seq)))
+
+unfoldable pub enterStep : Settings → Model → ℕ → List ℕ → List ℕ → Step
+enterStep s m vcpu state out =
+    cond (m .closed) (unchanged 2 m out [])
+    (cond (leb (s .vcpus) vcpu) (unchanged 4 m out [])
+    (cond (not (eqb (length state) 536)) (unchanged 5 m out [])
+    (cond (ltb (length out) 552) (unchanged 3 m out [])
+    (cond (isSome (awaitedBy m vcpu)) (unchanged 6 m out [])
+    (cond (leb 1 (vcpuAt (m .tables) vcpu .pauses)) (pausing m vcpu state out) (writing [] Quiet out [] m))))))
+
+-- ---- image writing: "2, 10, 3"
+abbrev pub awaitsAny : List (Option Awaited) → Bool
+awaitsAny [] = false
+awaitsAny (a ∷ rest) = isSome a || awaitsAny rest
+
+unfoldable pub imageStep : Model → List ℕ → Step
+imageStep m out =
+    cond (m .closed) (unchanged 2 m out [])
+    (cond (awaitsAny (m .awaited)) (unchanged 10 m out [])
+    (cond (ltb (length out) (length (image (m .tables)))) (unchanged 3 m out [])
+    (writing (image (m .tables)) Quiet out [] m)))
+
+-- ---- a list of them, each on what the one before it left
+pub data Call : Type 0 where
+  -- message, output, guest memory
+  message : List ℕ → List ℕ → List ℕ → Call
+  -- vCPU
+  ready : ℕ → Call
+  -- vCPU, register block, output
+  enter : ℕ → List ℕ → List ℕ → Call
+  -- output
+  writeImage : List ℕ → Call
+
+unfoldable pub step : Settings → Model → Call → Step
+step s m (message msg out guest) = messageStep s m msg out guest
+step s m (ready vcpu) = readyStep s m vcpu
+step s m (enter vcpu state out) = enterStep s m vcpu state out
+step s m (writeImage out) = imageStep m out
+
+unfoldable pub move : Settings → Model → Call → Model
+move s m c = step s m c .model
+
+unfoldable pub after : Settings → Model → List Call → Model
+after s m [] = m
+after s m (c ∷ cs) = after s (move s m c) cs

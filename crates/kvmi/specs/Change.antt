@@ -1,0 +1,119 @@
+-- What a message that passes its tests changes: "a message handled without error sets its switch to enable (5, 10, 11, 12, 14)
+-- or adds a pause (9); applied entries of 13 set pages; reply mode, events, event replies [..] act as written."
+use Prim.Native.Nat.{ℕ, suc, _+_, _*_, _^_}
+use mathlib.Core.List.{List, [], _∷_}
+use mathlib.Core.Bool.{Bool, true, false, cond, not, _&&_}
+use mathlib.Core.Option.{Option, none, some}
+use lib.IntN.{ℤ}
+use lib.ListN.{length, drop}
+use lib.Dec.{leb, eqb}
+use Rattle.wire.specs.Bytes.{store}
+use Rattle.kvmi.specs.declared.ReplyMode.{ReplyMode}
+use Rattle.kvmi.specs.declared.Signal.{Signal}
+use Rattle.kvmi.specs.declared.Signal.the-variants.{Quiet, Kick, Crash}
+use Rattle.kvmi.specs.declared.Change.{Change}
+use Rattle.kvmi.specs.declared.Change.the-variants.{Nothing, SetVmEvent, WritePhysical, QueuePause, SetVcpuEvent, SetCr, SetMsr, SetPages, SetSinglestep, SetReplies, EndWait}
+use Rattle.kvmi.specs.Bits.{putBit}
+use Rattle.kvmi.specs.Codes.{OK, ENOMEM}
+use Rattle.kvmi.specs.Table.{has, put, forget}
+use Rattle.kvmi.specs.Tables.{Vcpu, Msr, Page, Tables, msrKey, pageKey, crBit, withSinglestep, withCrs, withEvents, withPauses, withVmEvents, withMsrs, withPages}
+use Rattle.kvmi.specs.Model.{Model, withTables, withMode, setAwaited, onVcpu}
+use Rattle.kvmi.specs.Message.{Entry, entriesOf}
+
+-- "1,024 pages (all views together)"
+abbrev pub pageLimit : ℕ
+pageLimit = 1024
+
+-- ---- message 13
+-- the pages below rwx, and whether an entry was skipped
+pub record Run : Type 0 where
+  pub pages : List Page
+  pub skipped : Bool
+
+abbrev pub pageOf : ℕ → Entry → Page
+pageOf view e = record { view = view; page = e .page; access = e .access }
+
+-- "An entry is skipped exactly if its page stands at rwx, it asks for less, and 1,024 pages [..] stand below rwx then."
+unfoldable pub isSkipped : ℕ → Page → List Page → Bool
+isSkipped limit p ps = not (has pageKey (pageKey p) ps) && not (eqb (p .access) 7) && leb limit (length ps)
+
+-- "Access 7 forgets a page, and its room is used again."
+unfoldable pub setPage : Page → List Page → List Page
+setPage p ps = cond (eqb (p .access) 7) (forget pageKey (pageKey p) ps) (put pageKey p ps)
+
+unfoldable pub takeEntry : ℕ → ℕ → Entry → Run → Run
+takeEntry limit view e r =
+    cond (isSkipped limit (pageOf view e) (r .pages))
+    (record { pages = r .pages; skipped = true })
+    (record { pages = setPage (pageOf view e) (r .pages); skipped = r .skipped })
+
+-- "Entries of message 13 act in order. [..] Others are applied, later ones too"
+unfoldable pub takeEntries : ℕ → ℕ → List Entry → Run → Run
+takeEntries limit view [] r = r
+takeEntries limit view (e ∷ es) r = takeEntries limit view es (takeEntry limit view e r)
+
+-- ---- message 12
+unfoldable pub setMsr : Msr → Bool → List Msr → List Msr
+setMsr m on ms = cond on (put msrKey m ms) (forget msrKey (msrKey m) ms)
+
+-- ---- each change
+-- the model and guest memory after a change, and its code: 0, or -12 of message 13 ("any skip gives -12")
+pub record Applied : Type 0 where
+  pub model : Model
+  pub guest : List ℕ
+  pub code : ℤ
+
+abbrev pub applied : Model → List ℕ → Applied
+applied m guest = record { model = m; guest = guest; code = OK }
+
+abbrev pub appliedRun : Model → List ℕ → Run → Applied
+appliedRun m guest r = record { model = withTables m (withPages (m .tables) (r .pages)); guest = guest; code = cond (r .skipped) ENOMEM OK }
+
+-- d is the message's data
+unfoldable pub apply : Model → List ℕ → List ℕ → Change → Applied
+apply m guest d Nothing = applied m guest
+apply m guest d (SetVmEvent event on) = applied (withTables m (withVmEvents (m .tables) (putBit (m .tables .events) event on))) guest
+apply m guest d (WritePhysical gpa) = applied m (store guest gpa (drop 16 d))
+apply m guest d (QueuePause vcpu wait) = applied (onVcpu m vcpu (λ v. withPauses v (v .pauses + 1))) guest
+apply m guest d (SetVcpuEvent vcpu event on) = applied (onVcpu m vcpu (λ v. withEvents v (putBit (v .events) event on))) guest
+apply m guest d (SetCr vcpu cr on) = applied (onVcpu m vcpu (λ v. withCrs v (putBit (v .crs) (crBit cr) on))) guest
+apply m guest d (SetMsr vcpu msr on) =
+    applied (withTables m (withMsrs (m .tables) (setMsr (record { vcpu = vcpu; msr = msr }) on (m .tables .msrs)))) guest
+apply m guest d (SetPages view count) =
+    appliedRun m guest (takeEntries pageLimit view (entriesOf count (drop 8 d)) (record { pages = m .tables .pages; skipped = false }))
+apply m guest d (SetSinglestep vcpu on) = applied (onVcpu m vcpu (λ v. withSinglestep v on)) guest
+apply m guest d (SetReplies mode now) = applied (withMode m mode) guest
+apply m guest d (EndWait vcpu crash) = applied (setAwaited m vcpu none) guest
+
+-- ---- what else a change decides
+-- kick(vCPU, wait) of message 9, and "A crash is signalled"
+abbrev pub crashing : ℕ → Bool → Signal
+crashing vcpu true = Crash vcpu
+crashing vcpu false = Quiet
+
+abbrev pub signalOf : Change → Signal
+signalOf Nothing = Quiet
+signalOf (SetVmEvent event on) = Quiet
+signalOf (WritePhysical gpa) = Quiet
+signalOf (QueuePause vcpu wait) = Kick vcpu wait
+signalOf (SetVcpuEvent vcpu event on) = Quiet
+signalOf (SetCr vcpu cr on) = Quiet
+signalOf (SetMsr vcpu msr on) = Quiet
+signalOf (SetPages view count) = Quiet
+signalOf (SetSinglestep vcpu on) = Quiet
+signalOf (SetReplies mode now) = Quiet
+signalOf (EndWait vcpu crash) = crashing vcpu crash
+
+-- the mode by which a message is answered: "message 15 with now 1 applies to its own reply, with now 0 from the next message"
+abbrev pub modeFor : ReplyMode → Change → ReplyMode
+modeFor old Nothing = old
+modeFor old (SetVmEvent event on) = old
+modeFor old (WritePhysical gpa) = old
+modeFor old (QueuePause vcpu wait) = old
+modeFor old (SetVcpuEvent vcpu event on) = old
+modeFor old (SetCr vcpu cr on) = old
+modeFor old (SetMsr vcpu msr on) = old
+modeFor old (SetPages view count) = old
+modeFor old (SetSinglestep vcpu on) = old
+modeFor old (SetReplies mode now) = cond now mode old
+modeFor old (EndWait vcpu crash) = old

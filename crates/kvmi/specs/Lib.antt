@@ -1,0 +1,15 @@
+pub mod Bits
+pub mod Table
+pub mod Row
+pub mod Settings
+pub mod Codes
+pub mod Answer
+pub mod Tables
+pub mod Model
+pub mod Message
+pub mod Verdict
+pub mod Change
+pub mod Reply
+pub mod Record
+pub mod Image
+pub mod Call

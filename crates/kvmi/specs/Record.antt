@@ -1,0 +1,86 @@
+-- The records of the table image as rows of numbers behind a mark, and a list of bytes cut into them.
+use Prim.Native.Nat.{ℕ, zero, suc, _+_, _*_, _^_}
+use mathlib.Core.List.{List, [], _∷_, _++_}
+use mathlib.Core.Bool.{Bool, true, false, cond}
+use mathlib.Core.Option.{Option, none, some}
+use lib.ListN.{length, drop}
+use lib.Dec.{eqb, leb}
+use Rattle.wire.specs.Bytes.{num}
+use Rattle.kvmi.specs.Row.{Row, writeRow, readRow, width}
+
+pub data Kind : Type 0 where
+  VM VC MS PA EN : Kind
+
+-- "Each record begins with two mark bytes, ASCII", here read as a number
+abbrev pub mark : Kind → ℕ
+mark VM = 0x4D56
+mark VC = 0x4356
+mark MS = 0x534D
+mark PA = 0x4150
+mark EN = 0x4E45
+
+abbrev pub kindIn : List Kind → ℕ → Option Kind
+kindIn [] m = none
+kindIn (k ∷ ks) m = cond (eqb m (mark k)) (some k) (kindIn ks m)
+
+abbrev pub kinds : List Kind
+kinds = VM ∷ VC ∷ MS ∷ PA ∷ EN ∷ []
+
+-- the widths of the numbers behind the mark
+abbrev pub widths : Kind → List ℕ
+-- version, vCPU count, VM event bits
+widths VM = 2 ∷ 2 ∷ 2 ∷ []
+-- vCPU, flags, CR bits, event bits, pauses, zero
+widths VC = 2 ∷ 1 ∷ 1 ∷ 2 ∷ 1 ∷ 1 ∷ []
+-- vCPU, MSR
+widths MS = 2 ∷ 4 ∷ []
+-- view, access, zero, page
+widths PA = 2 ∷ 1 ∷ 1 ∷ 8 ∷ []
+-- count of the records before it
+widths EN = 4 ∷ []
+
+abbrev pub size : Kind → ℕ
+size k = width (2 ∷ widths k)
+
+-- a whole record, or bytes that begin none
+pub data Rec : Type 0 where
+  whole : (k : Kind) → Row (widths k) → Rec
+  cut : List ℕ → Rec
+
+-- the place of a record in the image's order: kind, then vCPU or view, then MSR or page
+abbrev pub place : ℕ → ℕ → ℕ → ℕ
+place kind major minor = kind * 2 ^ 80 + (major * 2 ^ 64 + minor)
+
+abbrev pub orderOf : (k : Kind) → Row (widths k) → ℕ
+orderOf VM f = place 0 0 0
+orderOf VC f = place 1 (f .0) 0
+orderOf MS f = place 2 (f .0) (f .1 .0)
+orderOf PA f = place 3 (f .0) (f .1 .1 .1 .0)
+orderOf EN f = place 4 0 0
+
+abbrev pub write : Rec → List ℕ
+write (whole k f) = writeRow (2 ∷ widths k) (mark k, f)
+write (cut l) = l
+
+abbrev pub writeAll : List Rec → List ℕ
+writeAll [] = []
+writeAll (r ∷ rs) = write r ++ writeAll rs
+
+-- the kind of the record with which the bytes begin, where all of it is there
+abbrev pub held : List ℕ → Option Kind → Option Kind
+held l none = none
+held l (some k) = cond (leb (size k) (length l)) (some k) none
+
+unfoldable pub kindAt : List ℕ → Option Kind
+kindAt l = held l (kindIn kinds (num 2 l))
+
+abbrev pub from : (List ℕ → List Rec) → List ℕ → Option Kind → List Rec
+from parse l none = cut l ∷ []
+from parse l (some k) = whole k (readRow (2 ∷ widths k) l .1) ∷ parse (drop (size k) l)
+
+-- n bounds the number of records: the number of bytes will do
+abbrev pub parse : ℕ → List ℕ → List Rec
+parse zero [] = []
+parse zero (b ∷ l) = cut (b ∷ l) ∷ []
+parse (suc n) [] = []
+parse (suc n) (b ∷ l) = from (λ r. parse n r) (b ∷ l) (kindAt (b ∷ l))

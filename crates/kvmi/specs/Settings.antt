@@ -1,0 +1,34 @@
+-- "Settings": their ranges, and what they allow.
+use Prim.Native.Nat.{ℕ}
+use mathlib.Core.List.{List, [], _∷_}
+use mathlib.Core.Bool.{Bool, not, _&&_, _||_}
+use lib.Dec.{leb, eqb}
+use Rattle.kvmi.specs.declared.Settings.{Settings}
+use Rattle.kvmi.specs.Bits.{isOn, among}
+
+-- "vCPU count 1..16; view count 1..8"; answer 7 otherwise
+unfoldable pub inRange : Settings → Bool
+inRange s = leb 1 (s .vcpus) && leb (s .vcpus) 16 && (leb 1 (s .views) && leb (s .views) 8)
+
+-- a flag is set where it is not 0
+unfoldable pub isSet : ℕ → Bool
+isSet flag = not (eqb flag 0)
+
+-- test 2: "1, 2, 3 and 16 are always allowed"
+unfoldable pub allowsCommand : Settings → ℕ → Bool
+allowsCommand s id = among id (1 ∷ 2 ∷ 3 ∷ 16 ∷ []) || isOn (s .commands) id
+
+unfoldable pub allowsEvent : Settings → ℕ → Bool
+allowsEvent s event = isOn (s .events) event
+
+-- "message 14 without the singlestep feature (first feature byte 0)"
+unfoldable pub canSinglestep : Settings → Bool
+canSinglestep s = isSet (s .singlestep)
+
+-- "enabling event 8 where it can't be caught"
+unfoldable pub uncatchable : Settings → ℕ → Bool
+uncatchable s event = eqb event 8 && not (isSet (s .descriptors))
+
+-- "enabling event 4 while the host has it"
+unfoldable pub taken : Settings → ℕ → Bool
+taken s event = eqb event 4 && isSet (s .breakpoints)

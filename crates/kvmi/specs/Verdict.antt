@@ -1,0 +1,148 @@
+-- "What is tested first": tests 2 to 6 of a message with a whole header, in their order, and the rule of EVENT_REPLY.
+use Prim.Native.Nat.{ℕ, _+_, _*_, _/_, _%_}
+use mathlib.Core.List.{List, [], _∷_, map}
+use mathlib.Core.Bool.{Bool, true, false, cond, not, _&&_, _||_}
+use mathlib.Core.Option.{Option, none, some}
+use lib.IntN.{ℤ}
+use lib.ListN.{length, getD, drop}
+use lib.Dec.{leb, ltb, eqb}
+use Rattle.wire.specs.Bytes.{load}
+use Rattle.kvmi.specs.declared.Settings.{Settings}
+use Rattle.kvmi.specs.declared.ReplyMode.{ReplyMode}
+use Rattle.kvmi.specs.declared.ReplyMode.the-variants.{On, Off, ErrorsOnly}
+use Rattle.kvmi.specs.declared.Layout.{Layout}
+use Rattle.kvmi.specs.declared.Change.{Change}
+use Rattle.kvmi.specs.declared.Change.the-variants.{Nothing, SetVmEvent, WritePhysical, QueuePause, SetVcpuEvent, SetCr, SetMsr, SetPages, SetSinglestep, SetReplies, EndWait}
+use Rattle.kvmi.specs.declared.Verdict.{Verdict}
+use Rattle.kvmi.specs.declared.Verdict.the-variants.{Closes, Fails, Does}
+use Rattle.kvmi.specs.Bits.{among, every}
+use Rattle.kvmi.specs.Codes.{EPERM, ENOENT, EAGAIN, EBUSY, EINVAL, EOPNOTSUPP, ENOSYS}
+use Rattle.kvmi.specs.Settings.{allowsCommand, allowsEvent, canSinglestep, uncatchable, taken}
+use Rattle.kvmi.specs.Tables.{isCr, isMsr, vcpuAt}
+use Rattle.kvmi.specs.Model.{Awaited, Model, awaitedBy}
+use Rattle.kvmi.specs.Message.{layoutOf, sizeFits, carriesData, namesVcpu, vcpuOf, enables, flagsAt, eventOf, registerOf, gpaOf, sizeOf, countOf, countFits, viewOf, Entry, entriesOf, firstPadding, takesEvent}
+
+-- what the tests ask of the session: the reply mode, how much guest memory is lent, and what stands for the vCPU that the message names
+pub record Facts : Type 0 where
+  pub mode : ReplyMode
+  pub guest : ℕ
+  pub ready : Bool
+  pub pauses : ℕ
+  pub awaited : Option Awaited
+
+abbrev pub factsOf : Model → ℕ → ℕ → Facts
+factsOf m guest vcpu =
+    record { mode = m .mode; guest = guest; ready = vcpuAt (m .tables) vcpu .ready; pauses = vcpuAt (m .tables) vcpu .pauses; awaited = awaitedBy m vcpu }
+
+abbrev pub repliesOn : ReplyMode → Bool
+repliesOn On = true
+repliesOn Off = false
+repliesOn ErrorsOnly = false
+
+-- ---- test 6, cause by cause
+-- "any access other than 0, 1, 3, 4, 5, 7": W needs R
+unfoldable pub isAccess : ℕ → Bool
+isAccess a = among a (0 ∷ 1 ∷ 3 ∷ 4 ∷ 5 ∷ 7 ∷ [])
+
+-- "physical size 0, or (gpa mod 4096) + size above 4096"
+unfoldable pub inOnePage : ℕ → ℕ → Bool
+inOnePage gpa size = leb 1 size && leb (gpa % 4096 + size) 4096
+
+-- -22 EINVAL, in the sentence's order
+unfoldable pub isInvalid : Settings → ℕ → List ℕ → Bool
+isInvalid s id d =
+    not (eqb (firstPadding id d) 0)
+    || namesVcpu id && leb (s .vcpus) (vcpuOf d)
+    || not (every (λ at. leb (getD d at 0) 1) (flagsAt id))
+    || among id (3 ∷ 5 ∷ 10 ∷ []) && not (takesEvent id (eventOf id d))
+    || eqb id 2 && not (leb 1 (load 2 d 0) && leb (load 2 d 0) 15)
+    || eqb id 11 && not (isCr (registerOf d))
+    || eqb id 12 && not (isMsr (registerOf d))
+    || eqb id 13 && leb (s .views) (viewOf d)
+    || eqb id 13 && not (countFits d && every (λ (e : Entry). isAccess (e .access)) (entriesOf (countOf d) (drop 8 d)))
+    || among id (6 ∷ 7 ∷ []) && not (inOnePage (gpaOf d) (sizeOf d))
+
+-- -11 EAGAIN
+unfoldable pub isUnready : Facts → ℕ → Bool
+isUnready f id = namesVcpu id && not (f .ready)
+
+-- -1 EPERM
+unfoldable pub isDenied : Settings → ℕ → List ℕ → Bool
+isDenied s id d = among id (3 ∷ 5 ∷ 10 ∷ []) && not (allowsEvent s (eventOf id d)) || eqb id 2 && not (allowsCommand s (load 2 d 0))
+
+-- -95 EOPNOTSUPP
+unfoldable pub isUnsupported : Settings → ℕ → List ℕ → Bool
+isUnsupported s id d = eqb id 14 && not (canSinglestep s) || eqb id 10 && enables id d && uncatchable s (eventOf id d)
+
+-- -16 EBUSY
+unfoldable pub isBusy : Settings → Facts → ℕ → List ℕ → Bool
+isBusy s f id d = eqb id 10 && enables id d && taken s (eventOf id d) || eqb id 9 && leb 8 (f .pauses)
+
+-- "a page (4,096 bytes) exists if it lies wholly inside"
+unfoldable pub pageExists : ℕ → ℕ → Bool
+pageExists guest gpa = leb ((gpa / 4096 + 1) * 4096) guest
+
+-- -2 ENOENT
+unfoldable pub isAbsent : Facts → ℕ → List ℕ → Bool
+isAbsent f id d = among id (6 ∷ 7 ∷ []) && not (pageExists (f .guest) (gpaOf d))
+
+-- ---- the change of a message that passes
+-- "Its flag is kept only with enable 0."
+abbrev pub modeOf : Bool → Bool → ReplyMode
+modeOf true flag = On
+modeOf false true = ErrorsOnly
+modeOf false false = Off
+
+unfoldable pub changeOf : ℕ → List ℕ → Change
+changeOf id d =
+    cond (eqb id 5) (SetVmEvent (eventOf id d) (enables id d))
+    (cond (eqb id 7) (WritePhysical (gpaOf d))
+    (cond (eqb id 9) (QueuePause (vcpuOf d) (enables id d))
+    (cond (eqb id 10) (SetVcpuEvent (vcpuOf d) (eventOf id d) (enables id d))
+    (cond (eqb id 11) (SetCr (vcpuOf d) (registerOf d) (enables id d))
+    (cond (eqb id 12) (SetMsr (vcpuOf d) (registerOf d) (enables id d))
+    (cond (eqb id 13) (SetPages (viewOf d) (countOf d))
+    (cond (eqb id 14) (SetSinglestep (vcpuOf d) (enables id d))
+    (cond (eqb id 15) (SetReplies (modeOf (enables id d) (eqb (getD d 2 0) 1)) (eqb (getD d 1 0) 1))
+    Nothing))))))))
+
+-- test 5, its second sentence: "enable 0 and flag bit 0 set while event 13 is not allowed"
+unfoldable pub losesErrors : Settings → ℕ → List ℕ → Bool
+losesErrors s id d = eqb id 15 && not (enables id d) && eqb (getD d 2 0) 1 && not (allowsEvent s 13)
+
+-- test 6: "errors, the first that applies". (-12 is known when the entries of message 13 have run.)
+unfoldable pub commandVerdict : Settings → Facts → ℕ → List ℕ → Verdict
+commandVerdict s f id d =
+    cond (isInvalid s id d) (Fails EINVAL)
+    (cond (isUnready f id) (Fails EAGAIN)
+    (cond (isDenied s id d) (Fails EPERM)
+    (cond (isUnsupported s id d) (Fails EOPNOTSUPP)
+    (cond (isBusy s f id d) (Fails EBUSY)
+    (cond (isAbsent f id d) (Fails ENOENT)
+    (cond (losesErrors s id d) Closes (Does (changeOf id d))))))))
+
+-- ---- "An EVENT_REPLY closes unless padding is zero, the vCPU awaits one, seq and event match, and the action is 0 continue or 2 crash"
+abbrev pub matches : Option Awaited → ℕ → ℕ → Bool
+matches none seq event = false
+matches (some a) seq event = eqb (a .seq) seq && eqb (a .event) event
+
+unfoldable pub eventReplyVerdict : Facts → ℕ → List ℕ → Verdict
+eventReplyVerdict f seq d =
+    cond (eqb (firstPadding 16 d) 0 && matches (f .awaited) seq (getD d 9 0) && among (getD d 8 0) (0 ∷ 2 ∷ []))
+    (Does (EndWait (vcpuOf d) (eqb (getD d 8 0) 2)))
+    Closes
+
+-- ---- tests 2 to 6
+-- "With replies off, either closes."
+abbrev pub refuse : ReplyMode → ℤ → Verdict
+refuse mode code = cond (repliesOn mode) (Fails code) Closes
+
+unfoldable pub verdict : Settings → Facts → ℕ → ℕ → List ℕ → Verdict
+verdict s f id seq d =
+    cond (not (leb 1 id && leb id 16)) (refuse (f .mode) ENOSYS)
+    (cond (not (allowsCommand s id)) (refuse (f .mode) EPERM)
+    (cond (not (repliesOn (f .mode)) && carriesData (layoutOf id .reply)) Closes
+    (cond (not (sizeFits (layoutOf id .size) d)) Closes
+    (cond (eqb id 16) (eventReplyVerdict f seq d)
+    (cond (eqb id 9 && not (allowsEvent s 2)) Closes
+    (commandVerdict s f id d))))))

@@ -1,0 +1,120 @@
+// KVMI as the filter speaks it: the types that every layer shares. Ids, events, errors and actions have kvmi.rst's names.
+pub mod message;
+
+// What the host allows and has, fixed for a session. Unsigned integers only: a flag is set where it is not 0.
+#[repr(C)]
+pub struct Settings {
+    pub vcpus: u32,
+    pub views: u32,
+    // Bit k for the command or the event with number k.
+    pub commands: u32,
+    pub events: u32,
+    pub tsc: u64,
+    // The five feature bytes of GET_VERSION.
+    pub singlestep: u8,
+    pub vmfunc: u8,
+    pub eptp: u8,
+    pub ve: u8,
+    pub spp: u8,
+    // Whether descriptor events can be caught, and whether the host has taken breakpoints for itself.
+    pub descriptors: u8,
+    pub breakpoints: u8,
+}
+
+// Whether commands are replied to. With ErrorsOnly they are not, and one that fails is told by a CMD_ERROR event.
+pub enum ReplyMode {
+    On,
+    Off,
+    ErrorsOnly,
+}
+
+// What the host is to do beside sending the bytes.
+pub enum Signal {
+    Quiet,
+    Kick { vcpu: u16, wait: bool },
+    Crash { vcpu: u16 },
+}
+
+// What a host call answers.
+pub enum Answer {
+    Handled { count: usize, signal: Signal },
+    Closing,
+    Closed,
+    ShortOut,
+    BadVcpu,
+    BadState,
+    Waiting,
+    BadSettings,
+    BadForm { offset: usize },
+    Forbidden { offset: usize },
+    Busy,
+    NotApplicable,
+}
+
+// How many data bytes a message has.
+pub enum SizeRule {
+    Exactly { bytes: u16 },
+    // 16 and as many as its size field says.
+    SizeField,
+    // 8, and 16 for each of the entries that it counts.
+    Entries,
+    // Of an unknown id: no rule.
+    Unruled,
+}
+
+// What answers a message that is taken: an error code alone, one with data behind it, or nothing.
+pub enum ReplyKind {
+    CodeOnly,
+    WithData,
+    Silent,
+}
+
+// Which message it is.
+pub enum Handler {
+    GetVersion,
+    VmCheckCommand,
+    VmCheckEvent,
+    VmGetInfo,
+    VmControlEvents,
+    VmReadPhysical,
+    VmWritePhysical,
+    VcpuGetInfo,
+    VcpuPause,
+    VcpuControlEvents,
+    VcpuControlCr,
+    VcpuControlMsr,
+    VmSetPageAccess,
+    VcpuControlSinglestep,
+    VmControlCmdResponse,
+    EventReply,
+    Unknown,
+}
+
+// A row of the table of messages.
+pub struct Layout {
+    pub size: SizeRule,
+    pub reply: ReplyKind,
+    pub handler: Handler,
+}
+
+// What a message that passes all tests changes.
+pub enum Change {
+    Nothing,
+    SetVmEvent { event: u16, on: bool },
+    WritePhysical { gpa: u64 },
+    QueuePause { vcpu: u16, wait: bool },
+    SetVcpuEvent { vcpu: u16, event: u16, on: bool },
+    SetCr { vcpu: u16, cr: u32, on: bool },
+    SetMsr { vcpu: u16, msr: u32, on: bool },
+    SetPages { view: u16, count: u16 },
+    SetSinglestep { vcpu: u16, on: bool },
+    SetReplies { mode: ReplyMode, now: bool },
+    EndWait { vcpu: u16, crash: bool },
+}
+
+// What the tests say of a message: it closes the session, it fails with an error code, or it makes one change.
+pub enum Verdict {
+    Closes,
+    Fails(i32),
+    Does(Change),
+}
