@@ -63,6 +63,6 @@ pub fn layout(id: u16) -> Layout
             ReplyKind::Silent,
             Handler::EventReply,
         ),
-        0..=0 | 17..=65535 => row(SizeRule::Unruled, ReplyKind::CodeOnly, Handler::Unknown),
+        0 | 17..=65535 => row(SizeRule::Unruled, ReplyKind::CodeOnly, Handler::Unknown),
     }
 }
