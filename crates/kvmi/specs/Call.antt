@@ -1,6 +1,7 @@
 -- The host calls of demand 3's list on the model, each with its arguments: its answer, what it leaves in lent memory, and the model after it.
 -- They read nothing but the model, the arguments and the settings.
 use Prim.Native.Nat.{ℕ, _-_}
+use mathlib.Core.Path.{_≡_}
 use mathlib.Core.List.{List, [], _∷_, _++_}
 use mathlib.Core.Bool.{Bool, true, false, cond, not, _||_}
 use mathlib.Core.Option.{Option, none, some}
@@ -70,6 +71,11 @@ beginLoaded (forbidden off) = noSession (plainAt 9 off)
 -- "image reader 7, then 8 or 9"; "Loaded sessions have replies on, seq 0."
 unfoldable pub beginFrom : Settings → List ℕ → Begin
 beginFrom s l = cond (inRange s) (beginLoaded (loadImage s l)) (noSession (plain 7))
+
+-- a session that began, and the model that it began with
+pub data Began (s : Settings) : Model → Type 0 where
+  anew : inRange s ≡ true → Began s (fresh s)
+  fromImage : (l : List ℕ) (t : Tables) → inRange s ≡ true → loadImage s l ≡ loaded t → Began s (begun t)
 
 -- ---- a message: "Orders: message 2, 3, then below"
 -- a command of a mode to be answered by, with its code and reply data

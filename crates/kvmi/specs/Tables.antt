@@ -1,5 +1,6 @@
 -- The tables (document 01's standing): what the table image states.
 use Prim.Native.Nat.{ℕ, _+_, _*_, _^_}
+use mathlib.Core.Path.{_≡_}
 use mathlib.Core.List.{List, [], _∷_}
 use mathlib.Core.Bool.{Bool, true, false, cond, _&&_, _||_}
 use lib.ListN.{length, getD, set, replicate}
@@ -120,3 +121,14 @@ accessIn (p ∷ ps) view page = cond (eqb (p .view) view && eqb (p .page) page) 
 
 unfoldable pub access : Tables → ℕ → ℕ → ℕ
 access t view page = accessIn (t .pages) view page
+
+-- the tables are equal, said by lookup: every ready mark, every switch, every queue, the access of every view and page
+pub record SameTables (t u : Tables) : Type 0 where
+  pub vmEvents : (event : ℕ) → vmEventOn t event ≡ vmEventOn u event
+  pub ready : (vcpu : ℕ) → vcpuAt t vcpu .ready ≡ vcpuAt u vcpu .ready
+  pub events : (vcpu event : ℕ) → eventOn t vcpu event ≡ eventOn u vcpu event
+  pub crs : (vcpu cr : ℕ) → crOn t vcpu cr ≡ crOn u vcpu cr
+  pub msrs : (vcpu msr : ℕ) → msrOn t vcpu msr ≡ msrOn u vcpu msr
+  pub singlestep : (vcpu : ℕ) → vcpuAt t vcpu .singlestep ≡ vcpuAt u vcpu .singlestep
+  pub pauses : (vcpu : ℕ) → vcpuAt t vcpu .pauses ≡ vcpuAt u vcpu .pauses
+  pub pages : (view page : ℕ) → access t view page ≡ access u view page

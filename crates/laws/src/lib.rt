@@ -1,0 +1,1 @@
+// Theorems on the definitions of `kvmi`: no code.
