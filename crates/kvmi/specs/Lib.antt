@@ -13,3 +13,4 @@ pub mod Reply
 pub mod Record
 pub mod Image
 pub mod Call
+pub mod Case

@@ -1,0 +1,36 @@
+-- Document 01's number and values tell all cases of an answer apart.
+use Prim.Native.Nat.{ℕ}
+use mathlib.Core.Path.{_≡_, refl, sym, ap, _∙_}
+use mathlib.Core.List.{List, [], _∷_}
+use lib.ListN.{getD}
+use Rattle.kvmi.specs.declared.Answer.{Answer}
+use Rattle.kvmi.specs.declared.Answer.the-variants.{Handled, Closing, Closed, ShortOut, BadVcpu, BadState, Waiting, BadSettings, BadForm, Forbidden, Busy, NotApplicable}
+use Rattle.kvmi.specs.Answer.{Paper, paper}
+
+-- the answer with a number and values
+answerOf : Paper → Answer
+answerOf p =
+    getD
+    (Handled (p .count) (p .signal) ∷ Closing ∷ Closed ∷ ShortOut ∷ BadVcpu ∷ BadState ∷ Waiting ∷ BadSettings ∷ BadForm (p .offset)
+    ∷ Forbidden (p .offset)
+    ∷ Busy ∷ [])
+    (p .number)
+    NotApplicable
+
+answer-of-paper : (a : Answer) → answerOf (paper a) ≡ a
+unfolding answerOf
+answer-of-paper (Handled n g) = refl
+answer-of-paper Closing = refl
+answer-of-paper Closed = refl
+answer-of-paper ShortOut = refl
+answer-of-paper BadVcpu = refl
+answer-of-paper BadState = refl
+answer-of-paper Waiting = refl
+answer-of-paper BadSettings = refl
+answer-of-paper (BadForm off) = refl
+answer-of-paper (Forbidden off) = refl
+answer-of-paper Busy = refl
+answer-of-paper NotApplicable = refl
+
+pub paper-injective : (a b : Answer) → paper a ≡ paper b → a ≡ b
+paper-injective a b e = sym (answer-of-paper a) ∙ ap answerOf e ∙ answer-of-paper b

@@ -1,0 +1,35 @@
+-- Document 01's cases P1 to P12 and further edges, each list by one computed statement: a case more adds a row and no proof.
+use mathlib.Core.Path.{_≡_, refl}
+use mathlib.Core.List.{List, map}
+use Rattle.wire.specs.Bytes.{le, num, load, store}
+use Rattle.wire.specs.Header.{isWhole, headerOf}
+use Rattle.wire.specs.Code.{twos, codeBytes}
+use Rattle.kvmi.specs.Bits.{bitOf, isOn, putBit, bitsHave}
+use Rattle.kvmi.specs.Row.{writeRow, readRow}
+use Rattle.kvmi.specs.Settings.{inRange, isSet, allowsCommand, allowsEvent, canSinglestep, uncatchable, taken}
+use Rattle.kvmi.specs.Tables.{isCr, crBit, isMsr}
+use Rattle.kvmi.specs.Model.{nextSeq}
+use Rattle.kvmi.specs.Message.{layoutOf, sizeFits, namesVcpu, vcpuOf, enableAt, enables, flagsAt, eventOf, registerOf, gpaOf, sizeOf, countOf, countFits, viewOf, entryOf, entriesOf, entryPadding, padding, firstNonZero, firstOfRuns, firstPadding, isVmEvent, isVcpuEvent, takesEvent}
+use Rattle.kvmi.specs.Verdict.{isAccess, inOnePage, isInvalid, isUnready, isDenied, isUnsupported, isBusy, pageExists, isAbsent, changeOf, losesErrors, commandVerdict, eventReplyVerdict, verdict}
+use Rattle.kvmi.specs.Change.{isSkipped, setPage, takeEntry, takeEntries, setMsr, apply}
+use Rattle.kvmi.specs.Reply.{messageBytes, replyBytes, replyData, eventBytes, pauseEvent, commandErrorEvent, answerBytes, answerSeq, answerOf}
+use Rattle.kvmi.specs.Record.{kindAt}
+use Rattle.kvmi.specs.Image.{image, vmForm, isIdle, vcForm, msForm, paForm, vmMay, mayEnable, vcMay, paMay, loadImage}
+use Rattle.kvmi.specs.Call.{beginFresh, beginFrom, answering, doing, judged, headed, messageStep, readyStep, pausing, enterStep, imageStep, step}
+use Rattle.kvmi.specs.Case.{Case, Seen, seen, cases, edges, crowded, crowdedSeen}
+
+abbrev Right : List Case → Type 0
+Right cs = map seen cs ≡ map (λ (c : Case). c .expected) cs
+
+pub cases-right : Right cases
+unfolding le num load store isWhole headerOf twos codeBytes bitOf isOn putBit bitsHave writeRow readRow inRange isSet allowsCommand allowsEvent canSinglestep uncatchable taken isCr crBit isMsr nextSeq layoutOf sizeFits namesVcpu vcpuOf enableAt enables flagsAt eventOf registerOf gpaOf sizeOf countOf countFits viewOf entryOf entriesOf entryPadding padding firstNonZero firstOfRuns firstPadding isVmEvent isVcpuEvent takesEvent isAccess inOnePage isInvalid isUnready isDenied isUnsupported isBusy pageExists isAbsent changeOf losesErrors commandVerdict eventReplyVerdict verdict isSkipped setPage takeEntry takeEntries setMsr apply messageBytes replyBytes replyData eventBytes pauseEvent commandErrorEvent answerBytes answerSeq answerOf kindAt image vmForm isIdle vcForm msForm paForm vmMay mayEnable vcMay paMay loadImage beginFresh beginFrom answering doing judged headed messageStep readyStep pausing enterStep imageStep step seen
+cases-right = refl
+
+pub edges-right : Right edges
+unfolding le num load store isWhole headerOf twos codeBytes bitOf isOn putBit bitsHave writeRow readRow inRange isSet allowsCommand allowsEvent canSinglestep uncatchable taken isCr crBit isMsr nextSeq layoutOf sizeFits namesVcpu vcpuOf enableAt enables flagsAt eventOf registerOf gpaOf sizeOf countOf countFits viewOf entryOf entriesOf entryPadding padding firstNonZero firstOfRuns firstPadding isVmEvent isVcpuEvent takesEvent isAccess inOnePage isInvalid isUnready isDenied isUnsupported isBusy pageExists isAbsent changeOf losesErrors commandVerdict eventReplyVerdict verdict isSkipped setPage takeEntry takeEntries setMsr apply messageBytes replyBytes replyData eventBytes pauseEvent commandErrorEvent answerBytes answerSeq answerOf kindAt image vmForm isIdle vcForm msForm paForm vmMay mayEnable vcMay paMay loadImage beginFresh beginFrom answering doing judged headed messageStep readyStep pausing enterStep imageStep step seen
+edges-right = refl
+
+-- the skip rule
+pub crowded-right : crowded ≡ crowdedSeen
+unfolding isSkipped setPage takeEntry takeEntries
+crowded-right = refl
