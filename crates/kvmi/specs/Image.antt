@@ -26,21 +26,27 @@ msRow m = (m .vcpu, (m .msr, tt))
 abbrev pub paRow : Page → Row (widths PA)
 paRow p = (p .view, (p .access, (0, (p .page, tt))))
 
+abbrev pub vcRecord : ℕ → Vcpu → Rec
+vcRecord i v = whole VC (vcRow i v)
+
+abbrev pub msRecord : Msr → Rec
+msRecord m = whole MS (msRow m)
+
+abbrev pub paRecord : Page → Rec
+paRecord p = whole PA (paRow p)
+
 abbrev pub enRecord : ℕ → Rec
 enRecord n = whole EN (n, tt)
 
 -- the records of a list, and then the rest
+abbrev pub onto {ℓ} : {A : Type ℓ} → (A → Rec) → List A → List Rec → List Rec
+onto f [] rest = rest
+onto f (x ∷ xs) rest = f x ∷ onto f xs rest
+
+-- those of the vCPUs from i on
 abbrev pub vcRecords : ℕ → List Vcpu → List Rec → List Rec
 vcRecords i [] rest = rest
-vcRecords i (v ∷ vs) rest = whole VC (vcRow i v) ∷ vcRecords (suc i) vs rest
-
-abbrev pub msRecords : List Msr → List Rec → List Rec
-msRecords [] rest = rest
-msRecords (m ∷ ms) rest = whole MS (msRow m) ∷ msRecords ms rest
-
-abbrev pub paRecords : List Page → List Rec → List Rec
-paRecords [] rest = rest
-paRecords (p ∷ ps) rest = whole PA (paRow p) ∷ paRecords ps rest
+vcRecords i (v ∷ vs) rest = vcRecord i v ∷ vcRecords (suc i) vs rest
 
 -- how many records come before EN
 abbrev pub recordCount : Tables → ℕ
@@ -48,7 +54,7 @@ recordCount t = 1 + length (t .vcpus) + length (t .msrs) + length (t .pages)
 
 -- "Order: one VM; one VC for every vCPU, ascending; MS by vCPU then MSR; PA by view then page [..]; EN, then nothing."
 abbrev pub recordsBefore : ℕ → Tables → List Rec → List Rec
-recordsBefore n t rest = vmRecord n (t .events) ∷ vcRecords 0 (t .vcpus) (msRecords (t .msrs) (paRecords (t .pages) rest))
+recordsBefore n t rest = vmRecord n (t .events) ∷ vcRecords 0 (t .vcpus) (onto msRecord (t .msrs) (onto paRecord (t .pages) rest))
 
 abbrev pub records : Tables → List Rec
 records t = recordsBefore (length (t .vcpus)) t (enRecord (recordCount t) ∷ [])
