@@ -1,2 +1,3 @@
 pub mod Bool
 pub mod Bits
+pub mod Table
