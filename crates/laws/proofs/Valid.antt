@@ -11,6 +11,7 @@ use Rattle.kvmi.specs.declared.Settings.{Settings}
 use Rattle.kvmi.specs.Bits.{every, bitsHave, among}
 use Rattle.kvmi.specs.Table.{rising}
 use Rattle.kvmi.specs.Tables.{Vcpu, Msr, Page, Tables, msrKey, pageKey, isMsr}
+use Rattle.kvmi.specs.Message.{isVmEvent, isVcpuEvent}
 use Rattle.kvmi.specs.Image.{vmForm, vcForm, msForm, paForm, vmMay, vcMay, paMay, recordCount}
 use Rattle.laws.proofs.Bool.{and-l, and-r, either, every-head, every-tail}
 use Rattle.laws.proofs.Bits.{bits-small}
@@ -39,7 +40,7 @@ vm-few n e h = leb-true n 16 (search (and-l, and-r))
 
 pub vm-bits : (n e : ℕ) → So (vmForm n e) → e < 2 ^ 16
 unfolding vmForm
-vm-bits n e h = bits-small _ 0 16 e (search (and-l, and-r))
+vm-bits n e h = bits-small isVmEvent 0 16 e (search (and-l, and-r))
 
 -- an MSR of message 12's two ranges, and its place among the 16,384 of them
 abbrev seat : ℕ → ℕ
@@ -91,7 +92,7 @@ pa-numbers p h =
 pub vc-numbers : (v : Vcpu) → So (vcForm v) → (v .crs ≤ 7) × (v .events < 2 ^ 16) × (v .pauses ≤ 8)
 unfolding vcForm
 vc-numbers v h =
-    (leb-true (v .crs) 7 (search (and-l, and-r)), bits-small _ 0 16 (v .events) (search (and-l, and-r)), leb-true (v .pauses) 8 (search (and-l, and-r)))
+    (leb-true (v .crs) 7 (search (and-l, and-r)), bits-small isVcpuEvent 0 16 (v .events) (search (and-l, and-r)), leb-true (v .pauses) 8 (search (and-l, and-r)))
 
 -- ---- the number of MSR switches: each has a place of its own among 16 times 16,384
 abbrev rank : Msr → ℕ
