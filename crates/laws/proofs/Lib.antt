@@ -5,3 +5,7 @@ pub mod Valid
 pub mod Record
 pub mod Load
 pub mod Write
+pub mod Verdicts
+pub mod Kept
+pub mod Temp
+pub mod Steps

@@ -1,0 +1,113 @@
+-- The ways that the tests of a message can go, and what holds of one that passes. Assumes nothing.
+use mathlib.Core.Path.{_≡_, refl, sym, ap, _∙_}
+use Prim.Native.Nat.{ℕ, _+_, _*_, _≤_, _<_}
+use mathlib.Core.List.{List, [], _∷_}
+use mathlib.Core.Bool.{Bool, true, false, cond, not, _&&_, _||_}
+use lib.IntN.{ℤ}
+use lib.ListN.{getD, drop, length}
+use lib.Dec.{leb, eqb}
+use borrow.Author.Tests.{not-false, eqb-true}
+use Rattle.wire.specs.Bytes.{load}
+use Rattle.kvmi.specs.declared.Settings.{Settings}
+use Rattle.kvmi.specs.declared.Layout.{Layout}
+use Rattle.kvmi.specs.declared.ReplyMode.{ReplyMode}
+use Rattle.kvmi.specs.declared.Change.{Change}
+use Rattle.kvmi.specs.declared.Change.the-variants.{EndWait}
+use Rattle.kvmi.specs.declared.Verdict.{Verdict}
+use Rattle.kvmi.specs.declared.Verdict.the-variants.{Closes, Fails, Does}
+use Rattle.kvmi.specs.Bits.{among, every}
+use Rattle.kvmi.specs.Codes.{EPERM, ENOENT, EAGAIN, EBUSY, EINVAL, EOPNOTSUPP, ENOSYS}
+use Rattle.kvmi.specs.Settings.{allowsCommand, allowsEvent}
+use Rattle.kvmi.specs.Tables.{isCr, isMsr}
+use Rattle.kvmi.specs.Message.{layoutOf, sizeFits, carriesData, namesVcpu, vcpuOf, flagsAt, eventOf, registerOf, gpaOf, sizeOf, countOf, countFits, viewOf, Entry, entriesOf, firstPadding, takesEvent}
+use Rattle.kvmi.specs.Verdict.{Facts, repliesOn, isAccess, inOnePage, isInvalid, isUnready, isDenied, isUnsupported, isBusy, isAbsent, changeOf, losesErrors, commandVerdict, matches, eventReplyVerdict, refuse, verdict}
+
+pub or-false-l : (a b : Bool) → (a || b) ≡ false → a ≡ false
+or-false-l true b h = h
+or-false-l false b h = refl
+
+pub or-false-r : (a b : Bool) → (a || b) ≡ false → b ≡ false
+or-false-r true b h = let z : true ≡ false = h in (cc)
+or-false-r false b h = h
+
+-- of a test that fails under a condition that holds
+pub and-false : (a b : Bool) → (a && b) ≡ false → a ≡ true → b ≡ false
+and-false true b h e = h
+and-false false b h e = (cc)
+
+-- by cases on a test
+pub pick : {A : Type 0} (P : A → Type 0) (b : Bool) (x y : A) → (b ≡ true → P x) → (b ≡ false → P y) → P (cond b x y)
+pick P true x y f g = f refl
+pick P false x y f g = g refl
+
+-- a command that tests 2 to 6 pass
+pub record Passed (s : Settings) (f : Facts) (id : ℕ) (d : List ℕ) : Type 0 where
+  pub size : sizeFits (layoutOf id .size) d ≡ true
+  pub pauses : (eqb id 9 && not (allowsEvent s 2)) ≡ false
+  pub valid : isInvalid s id d ≡ false
+  pub ready : isUnready f id ≡ false
+  pub allowed : isDenied s id d ≡ false
+  pub supported : isUnsupported s id d ≡ false
+  pub free : isBusy s f id d ≡ false
+  pub present : isAbsent f id d ≡ false
+
+-- a message closes, fails, or does its change
+pub verdict-cases : (P : Verdict → Type 0) (s : Settings) (f : Facts) (id seq : ℕ) (d : List ℕ) → P Closes → ((code : ℤ) → P (Fails code))
+    → (Passed s f id d → P (Does (changeOf id d))) → P (Does (EndWait (vcpuOf d) (eqb (getD d 8 0) 2))) → P (verdict s f id seq d)
+unfolding verdict commandVerdict eventReplyVerdict
+verdict-cases P s f id seq d closes fails does ends =
+    let refused : (code : ℤ) → P (refuse (f .mode) code) = λ code. pick P (repliesOn (f .mode)) (Fails code) Closes (λ _. fails code) (λ _. closes) in
+    pick P (not (leb 1 id && leb id 16)) _ _ (λ _. refused ENOSYS)
+    (λ _. pick P (not (allowsCommand s id)) _ _ (λ _. refused EPERM)
+    (λ _. pick P (not (repliesOn (f .mode)) && carriesData (layoutOf id .reply)) _ _ (λ _. closes)
+    (λ _. pick P (not (sizeFits (layoutOf id .size) d)) _ _ (λ _. closes)
+    (λ size. pick P (eqb id 16) _ _
+    (λ _. pick P (eqb (firstPadding 16 d) 0 && matches (f .awaited) seq (getD d 9 0) && among (getD d 8 0) (0 ∷ 2 ∷ [])) _ _ (λ _. ends) (λ _. closes))
+    (λ _. pick P (eqb id 9 && not (allowsEvent s 2)) _ _ (λ _. closes)
+    (λ pauses. pick P (isInvalid s id d) _ _ (λ _. fails EINVAL)
+    (λ valid. pick P (isUnready f id) _ _ (λ _. fails EAGAIN)
+    (λ ready. pick P (isDenied s id d) _ _ (λ _. fails EPERM)
+    (λ allowed. pick P (isUnsupported s id d) _ _ (λ _. fails EOPNOTSUPP)
+    (λ supported. pick P (isBusy s f id d) _ _ (λ _. fails EBUSY)
+    (λ free. pick P (isAbsent f id d) _ _ (λ _. fails ENOENT)
+    (λ present. pick P (losesErrors s id d) _ _ (λ _. closes)
+    (λ _. does
+    (record {
+      size = not-false (sizeFits (layoutOf id .size) d) size;
+      pauses = pauses;
+      valid = valid;
+      ready = ready;
+      allowed = allowed;
+      supported = supported;
+      free = free;
+      present = present;
+    }))))))))))))))
+
+-- ---- the causes of -22, none of which applies
+pub record Sound (s : Settings) (id : ℕ) (d : List ℕ) : Type 0 where
+  pub padding : not (eqb (firstPadding id d) 0) ≡ false
+  pub vcpu : (namesVcpu id && leb (s .vcpus) (vcpuOf d)) ≡ false
+  pub flags : not (every (λ at. leb (getD d at 0) 1) (flagsAt id)) ≡ false
+  pub event : (among id (3 ∷ 5 ∷ 10 ∷ []) && not (takesEvent id (eventOf id d))) ≡ false
+  pub command : (eqb id 2 && not (leb 1 (load 2 d 0) && leb (load 2 d 0) 15)) ≡ false
+  pub cr : (eqb id 11 && not (isCr (registerOf d))) ≡ false
+  pub msr : (eqb id 12 && not (isMsr (registerOf d))) ≡ false
+  pub view : (eqb id 13 && leb (s .views) (viewOf d)) ≡ false
+  pub entries : (eqb id 13 && not (countFits d && every (λ (e : Entry). isAccess (e .access)) (entriesOf (countOf d) (drop 8 d)))) ≡ false
+  pub range : (among id (6 ∷ 7 ∷ []) && not (inOnePage (gpaOf d) (sizeOf d))) ≡ false
+
+pub sound-of : (s : Settings) (id : ℕ) (d : List ℕ) → isInvalid s id d ≡ false → Sound s id d
+unfolding isInvalid
+sound-of s id d h =
+    record {
+      padding = search (or-false-l, or-false-r) depth 12;
+      vcpu = search (or-false-l, or-false-r) depth 12;
+      flags = search (or-false-l, or-false-r) depth 12;
+      event = search (or-false-l, or-false-r) depth 12;
+      command = search (or-false-l, or-false-r) depth 12;
+      cr = search (or-false-l, or-false-r) depth 12;
+      msr = search (or-false-l, or-false-r) depth 12;
+      view = search (or-false-l, or-false-r) depth 12;
+      entries = search (or-false-l, or-false-r) depth 12;
+      range = search (or-false-l, or-false-r) depth 12;
+    }
