@@ -1,3 +1,4 @@
 pub mod Bool
 pub mod Bits
 pub mod Table
+pub mod Lookup
