@@ -27,6 +27,7 @@ module _ {A B : Type 0} (F : Fields A B) where
   abbrev pub keyOf : A → ℕ
   keyOf x = F .major x * 2 ^ 64 + F .minor x
 
+  -- the minor number fits 64 bits: the key then says both numbers
   abbrev pub small : A → Bool
   small x = ltb (F .minor x) (2 ^ 64)
 
@@ -36,6 +37,7 @@ module _ {A B : Type 0} (F : Fields A B) where
   abbrev isAt : ℕ → ℕ → A → Bool
   isAt v n x = eqb (F .major x) v && eqb (F .minor x) n
 
+  -- the value of the entry with two numbers
   abbrev pub lookIn : List A → ℕ → ℕ → B
   lookIn [] v n = F .none
   lookIn (x ∷ xs) v n = cond (isAt v n x) (F .value x) (lookIn xs v n)
