@@ -1,8 +1,10 @@
 pub mod Bool
 pub mod Bits
 pub mod Table
-pub mod Valid
+pub mod Lookup
+pub mod Row
 pub mod Record
+pub mod Valid
 pub mod Load
 pub mod Write
 pub mod Verdicts

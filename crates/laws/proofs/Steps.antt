@@ -23,12 +23,12 @@ use Rattle.kvmi.specs.Bits.{every, among, putBit, bitsHave}
 use Rattle.kvmi.specs.Settings.{inRange, allowsEvent, canSinglestep, uncatchable, taken}
 use Rattle.kvmi.specs.Table.{rising, has, put, forget}
 use Rattle.kvmi.specs.Tables.{Vcpu, Msr, Page, Tables, msrKey, pageKey, resting, vcpuAt, setVcpu, withVmEvents, withMsrs, withPages, withReady, withPauses, withEvents, withCrs, withSinglestep, isMsr}
-use Rattle.kvmi.specs.Model.{Model, fresh, begun, onVcpu}
+use Rattle.kvmi.specs.Model.{Model, fresh, begun, onVcpu, awaitedBy, isSome}
 use Rattle.kvmi.specs.Message.{namesVcpu, vcpuOf, enables, eventOf, registerOf, countOf, countFits, viewOf, Entry, entryOf, entriesOf, isVmEvent, isVcpuEvent, takesEvent}
 use Rattle.kvmi.specs.Verdict.{Facts, factsOf, isAccess, isInvalid, isUnready, isDenied, isUnsupported, isBusy, changeOf, modeOf, verdict}
 use Rattle.kvmi.specs.Change.{Run, pageOf, pageLimit, isSkipped, setPage, takeEntry, takeEntries, setMsr, Applied, apply}
 use Rattle.kvmi.specs.Image.{vmForm, msForm, paForm, vmMay, mayEnable, paMay, image, Loaded, loaded, loadImage}
-use Rattle.kvmi.specs.Call.{Began, anew, fromImage, Call, message, ready, enter, writeImage, Step, answering, doing, judged, headed, messageStep, readyStep, pausing, enterStep, imageStep, step, move, after}
+use Rattle.kvmi.specs.Call.{Began, anew, fromImage, Call, message, ready, enter, writeImage, Step, answering, doing, judged, headed, messageStep, readyStep, pausing, enterStep, awaitsAny, imageStep, step, move, after}
 use Rattle.laws.proofs.Bool.{and-l, and-r, and-i, or-l, or-r, either, test, clash, every-head, every-tail, every-and}
 use Rattle.laws.proofs.Bits.{bits-put}
 use Rattle.laws.proofs.Table.{rising-put, rising-forget, length-put, length-put-found, length-put-new, length-forget, every-put, every-forget}
@@ -234,7 +234,7 @@ module _ (s : Settings) (ok : So (inRange s)) (m : Model) (a : Valid s (m .table
   change-fine id p =
       pick Fine (eqb id 5) _ _ (λ e. rw (eqb-true id 5 e) (fine-5 (rw (eqb-true id 5 e) at p)))
       (λ _. pick Fine (eqb id 7) _ _ (λ _. a)
-      (λ _. pick Fine (eqb id 9) _ _ (λ e. rw (eqb-true id 9 e) (fine-9 (rw (eqb-true id 9 e) at p)))
+      (λ _. pick Fine (eqb id 9) _ _ (λ e. fine-9 (rw (eqb-true id 9 e) at p))
       (λ _. pick Fine (eqb id 10) _ _ (λ e. rw (eqb-true id 10 e) (fine-10 (rw (eqb-true id 10 e) at p)))
       (λ _. pick Fine (eqb id 11) _ _ (λ e. rw (eqb-true id 11 e) (fine-11 (rw (eqb-true id 11 e) at p)))
       (λ _. pick Fine (eqb id 12) _ _ (λ e. rw (eqb-true id 12 e) (fine-12 (rw (eqb-true id 12 e) at p)))
@@ -277,7 +277,7 @@ module _ (s : Settings) (ok : So (inRange s)) where
       (λ _. pick Kept (leb (s .vcpus) vcpu) _ _ (λ _. a)
       (λ _. pick Kept (not (eqb (length state) 536)) _ _ (λ _. a)
       (λ _. pick Kept (ltb (length out) 552) _ _ (λ _. a)
-      (λ _. pick Kept _ _ _ (λ _. a)
+      (λ _. pick Kept (isSome (awaitedBy m vcpu)) _ _ (λ _. a)
       (λ _. pick Kept (leb 1 (vcpuAt (m .tables) vcpu .pauses)) _ _
       (λ e. let u = unpaused-good s (vcpuAt (m .tables) vcpu) (leb-true 1 (vcpuAt (m .tables) vcpu .pauses) e) (vcpu-good s (m .tables) vcpu a) in
         vcpu-valid s (m .tables) vcpu _ (u .0) (λ _. u .1) a)
@@ -285,7 +285,8 @@ module _ (s : Settings) (ok : So (inRange s)) where
 
   image-kept : (m : Model) (out : List ℕ) → Valid s (m .tables) → Kept (imageStep m out)
   unfolding imageStep
-  image-kept m out a = pick Kept (m .closed) _ _ (λ _. a) (λ _. pick Kept _ _ _ (λ _. a) (λ _. pick Kept _ _ _ (λ _. a) (λ _. a)))
+  image-kept m out a = pick Kept (m .closed) _ _ (λ _. a) 
+      (λ _. pick Kept (awaitsAny (m .awaited)) _ _ (λ _. a) (λ _. pick Kept (ltb (length out) (length (image (m .tables)))) _ _ (λ _. a) (λ _. a)))
 
   pub step-kept : (m : Model) (c : Call) → Valid s (m .tables) → Kept (step s m c)
   unfolding step
