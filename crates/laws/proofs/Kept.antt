@@ -53,8 +53,8 @@ ms-form-set vs i v keep m h =
     let was : getD vs (m .vcpu) resting .ready ≡ true = search (and-l, and-r) in
     let now : getD (set vs i v) (m .vcpu) resting .ready ≡ true = test (eqb (m .vcpu) i)
     (λ e. let same = eqb-true (m .vcpu) i e in
-      let w : i < length vs = rw same at (ltb-true (m .vcpu) (length vs) here) in
-      rw (same, getD-set-same vs i v resting w) (keep (rw same at was)))
+    let w : i < length vs = rw same at (ltb-true (m .vcpu) (length vs) here) in
+    rw (same, getD-set-same vs i v resting w) (keep (rw same at was)))
     (λ e. rw (getD-set-other vs i (m .vcpu) v resting (eqb-false (m .vcpu) i e)) was) in
     rw length-set (and-i _ _ (and-i _ _ here (search (and-l, and-r))) now)
 
@@ -152,9 +152,11 @@ unpaused-good s v h g =
     let some : eqb (v .pauses) 0 ≡ false = ne-eqb (v .pauses) 0 (λ e. omega arith) in
     let isReady : v .ready ≡ true = either (v .ready) (isIdle v) (formReady s v g) (λ p. p) (λ p. let z : So (eqb (v .pauses) 0) = search (and-l, and-r) in clash z some) in
     let allowed : So (allowsEvent s 2) = either (eqb (v .pauses) 0) (allowsEvent s 2) (mayPauses s v g) (λ p. clash p some) (λ p. p) in
-    let few = leb-true (v .pauses) 8 (formPauses s v g) in
-    (good-of s (withPauses v (v .pauses - 1)) isReady (formCrs s v g) (formEvents s v g) (le-leb (v .pauses - 1) 8 (omega arith)) (mayEvents s v g)
-    (or-r (eqb (v .pauses - 1) 0) (allowsEvent s 2) allowed) (mayStep s v g), isReady)
+    let few = leb-true (v .pauses) 8 (formPauses s v g) in (
+      good-of s (withPauses v (v .pauses - 1)) isReady (formCrs s v g) (formEvents s v g) (le-leb (v .pauses - 1) 8 (omega arith)) (mayEvents s v g)
+          (or-r (eqb (v .pauses - 1) 0) (allowsEvent s 2) allowed) (mayStep s v g),
+      isReady,
+    )
 
 -- one pause more
 pub paused-good : (s : Settings) (v : Vcpu) → v .ready ≡ true → v .pauses < 8 → So (allowsEvent s 2) → So (vcGood s v) → So (vcGood s (withPauses v (v .pauses + 1)))

@@ -9,5 +9,7 @@ pub mod Load
 pub mod Write
 pub mod Verdicts
 pub mod Kept
+pub mod Same
 pub mod Temp
 pub mod Steps
+pub mod Theorems

@@ -66,8 +66,8 @@ unfolding isSkipped
 room p ps h n few =
     test (has pageKey (pageKey p) ps) (λ e. rw (length-put-found pageKey p ps e) few)
     (λ e. let full : leb 1024 (length ps) ≡ false = rw (e, n) at h in
-      let less = leb-false 1024 (length ps) full in
-      rw (length-put-new pageKey p ps e) (omega arith))
+    let less = leb-false 1024 (length ps) full in
+    rw (length-put-new pageKey p ps e) (omega arith))
 
 entry-pages : (s : Settings) (view : ℕ) (e : Entry) (r : Run) → So (inRange s) → view < s .views → So (entryGood e) → Pages s (r .pages) → Pages s (takeEntry pageLimit view e r .pages)
 unfolding takeEntry setPage
@@ -280,12 +280,12 @@ module _ (s : Settings) (ok : So (inRange s)) where
       (λ _. pick Kept (isSome (awaitedBy m vcpu)) _ _ (λ _. a)
       (λ _. pick Kept (leb 1 (vcpuAt (m .tables) vcpu .pauses)) _ _
       (λ e. let u = unpaused-good s (vcpuAt (m .tables) vcpu) (leb-true 1 (vcpuAt (m .tables) vcpu .pauses) e) (vcpu-good s (m .tables) vcpu a) in
-        vcpu-valid s (m .tables) vcpu _ (u .0) (λ _. u .1) a)
+      vcpu-valid s (m .tables) vcpu _ (u .0) (λ _. u .1) a)
       (λ _. a))))))
 
   image-kept : (m : Model) (out : List ℕ) → Valid s (m .tables) → Kept (imageStep m out)
   unfolding imageStep
-  image-kept m out a = pick Kept (m .closed) _ _ (λ _. a) 
+  image-kept m out a = pick Kept (m .closed) _ _ (λ _. a)
       (λ _. pick Kept (awaitsAny (m .awaited)) _ _ (λ _. a) (λ _. pick Kept (ltb (length out) (length (image (m .tables)))) _ _ (λ _. a) (λ _. a)))
 
   pub step-kept : (m : Model) (c : Call) → Valid s (m .tables) → Kept (step s m c)

@@ -1,0 +1,91 @@
+-- Valid tables with equal lookups are equal. Assumes nothing.
+use mathlib.Core.Path.{_≡_, refl, sym, ap, _∙_}
+use Prim.Native.Nat.{ℕ, zero, suc, _+_, _/_, _^_, _≤_, _<_}
+use native.Mathlib.Nat.{pow-suc}
+use native.Mathlib.Omega.{arith}
+use mathlib.Core.List.{List, [], _∷_}
+use mathlib.Core.Bool.{Bool, true, false, not, _&&_, So}
+use lib.ListN.{length}
+use lib.Seq.{ext-getD}
+use lib.Dec.{eqb, ltb}
+use borrow.Author.Tests.{eqb-true, lt-ltb, ne-eqb}
+use Rattle.kvmi.specs.declared.Settings.{Settings}
+use Rattle.kvmi.specs.Bits.{isOn, every}
+use Rattle.kvmi.specs.Tables.{Vcpu, Msr, Page, Tables, resting, vcpuAt, isCr, crBit, vmEventOn, eventOn, crOn, msrOn, access, SameTables}
+use Rattle.kvmi.specs.Image.{vmMay, msForm, paForm, paMay, vcForm, vcMay}
+use Rattle.laws.proofs.Bool.{and-l, and-r, every-imp}
+use Rattle.laws.proofs.Bits.{on-none, on-suc, bits-ext}
+use Rattle.laws.proofs.Lookup.{paged, lowered, numbered, access-ext, msr-ext}
+use Rattle.laws.proofs.Valid.{Valid, vcGood, paGood, vm-bits, vm-few, vc-numbers, ms-numbers, pa-numbers}
+use Rattle.laws.proofs.Kept.{vcpu-good}
+
+-- a set of numbers below n has none above
+pub on-high : (n w k : ℕ) → w < 2 ^ n → n ≤ k → isOn w k ≡ false
+on-high zero w k h g = let z : w ≡ 0 = omega arith in rw z (on-none k)
+on-high (suc n) w zero h g = absurd (omega arith)
+on-high (suc n) w (suc k) h g = let p = pow-suc 2 n in on-suc w k ∙ on-high n (w / 2) k (omega arith) (omega arith)
+
+pub count-is : (s : Settings) (t : Tables) → Valid s t → length (t .vcpus) ≡ s .vcpus
+unfolding vmMay
+count-is s t a = let h = a .may in eqb-true (length (t .vcpus)) (s .vcpus) (search (and-l, and-r))
+
+-- CR switches are those of CR0, CR3 and CR4
+crs-same : (v w : ℕ) → v < 8 → w < 8 → isOn v 0 ≡ isOn w 0 → isOn v 1 ≡ isOn w 1 → isOn v 2 ≡ isOn w 2 → v ≡ w
+crs-same v w h g a b c = bits-ext 3 v w h g at
+  where
+    at : (k : ℕ) → isOn v k ≡ isOn w k
+    at zero = a
+    at (suc zero) = b
+    at (suc (suc zero)) = c
+    at (suc (suc (suc k))) = on-high 3 v (suc (suc (suc k))) h (omega arith) ∙ sym (on-high 3 w (suc (suc (suc k))) g (omega arith))
+
+module _ (s : Settings) (t u : Tables) (a : Valid s t) (b : Valid s u) (e : SameTables t u) where
+  vcpu-same : (i : ℕ) → vcpuAt t i ≡ vcpuAt u i
+  unfolding eventOn crOn isCr crBit
+  vcpu-same i =
+      let v = vc-numbers (vcpuAt t i) (and-l _ (vcMay s (vcpuAt t i)) (vcpu-good s t i a)) in
+      let w = vc-numbers (vcpuAt u i) (and-l _ (vcMay s (vcpuAt u i)) (vcpu-good s u i b)) in
+      let crs = crs-same (vcpuAt t i .crs) (vcpuAt u i .crs) (omega arith) (omega arith) (e .crs i 0) (e .crs i 3) (e .crs i 4) in
+      let events = bits-ext 16 (vcpuAt t i .events) (vcpuAt u i .events) (v .1) (w .1) (λ k. e .events i k) in
+      λ j. record { ready = e .ready i j; singlestep = e .singlestep i j; crs = crs j; events = events j; pauses = e .pauses i j }
+
+  vcpus-same : t .vcpus ≡ u .vcpus
+  vcpus-same = ext-getD resting (t .vcpus) (u .vcpus) (count-is s t a ∙ sym (count-is s u b)) (λ i _. vcpu-same i)
+
+  vm-events-same : t .events ≡ u .events
+  unfolding vmEventOn
+  vm-events-same = bits-ext 16 (t .events) (u .events) (vm-bits _ (t .events) (a .vm)) (vm-bits _ (u .events) (b .vm)) (λ k. e .vmEvents k)
+
+pub numbered-all : (s : Settings) (t : Tables) → Valid s t → So (every numbered (t .msrs))
+numbered-all s t a =
+    every-imp (msForm (t .vcpus)) numbered (λ m h. let w = ms-numbers (t .vcpus) m h in lt-ltb (m .msr) (2 ^ 64) (omega arith)) (t .msrs) (a .mss)
+
+pub paged-all : (s : Settings) (t : Tables) → Valid s t → So (every paged (t .pages))
+paged-all s t a =
+    every-imp (paGood s) paged (λ p h. let w = pa-numbers p (and-l (paForm p) (paMay s p) h) in lt-ltb (p .page) (2 ^ 64) (omega arith)) (t .pages) (a .pas)
+
+pub lowered-all : (s : Settings) (t : Tables) → Valid s t → So (every lowered (t .pages))
+lowered-all s t a =
+    every-imp (paGood s) lowered (λ p h. let w = pa-numbers p (and-l (paForm p) (paMay s p) h) in ap not (ne-eqb (p .access) 7 (λ q. omega arith))) (t .pages) (a .pas)
+
+pub same-equal : (s : Settings) (t u : Tables) → Valid s t → Valid s u → SameTables t u → t ≡ u
+unfolding msrOn access
+same-equal s t u a b e =
+    let events = vm-events-same s t u a b e in
+    let vcpus = vcpus-same s t u a b e in
+    let msrs = msr-ext (t .msrs) (u .msrs) (a .msUp) (numbered-all s t a) (b .msUp) (numbered-all s u b) (λ v n. e .msrs v n) in
+    let pages = access-ext (t .pages) (u .pages) (a .paUp) (paged-all s t a) (lowered-all s t a) (b .paUp) (paged-all s u b) (lowered-all s u b) (λ v n. e .pages v n) in
+    λ j. record { events = events j; vcpus = vcpus j; msrs = msrs j; pages = pages j }
+
+pub equal-same : (t u : Tables) → t ≡ u → SameTables t u
+equal-same t u e =
+    record {
+      vmEvents = λ k. ap (λ (x : Tables). vmEventOn x k) e;
+      ready = λ v. ap (λ (x : Tables). vcpuAt x v .ready) e;
+      events = λ v k. ap (λ (x : Tables). eventOn x v k) e;
+      crs = λ v k. ap (λ (x : Tables). crOn x v k) e;
+      msrs = λ v k. ap (λ (x : Tables). msrOn x v k) e;
+      singlestep = λ v. ap (λ (x : Tables). vcpuAt x v .singlestep) e;
+      pauses = λ v. ap (λ (x : Tables). vcpuAt x v .pauses) e;
+      pages = λ v n. ap (λ (x : Tables). access x v n) e;
+    }
