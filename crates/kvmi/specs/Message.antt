@@ -1,6 +1,6 @@
 -- "Messages": the table by message number, the fields and padding of each layout (kvmi.rst), and the events that messages take.
 -- d is a message's data, the bytes after its header.
-use Prim.Native.Nat.{ℕ, zero, suc, _+_, _*_, _/_}
+use Prim.Native.Nat.{ℕ, zero, suc, _+_, _*_, _/_, _%_, _^_}
 use mathlib.Core.List.{List, [], _∷_}
 use mathlib.Core.Bool.{Bool, true, false, cond, _&&_}
 use lib.ListN.{length, getD, take, drop}
@@ -103,13 +103,13 @@ countFits d = eqb (length d) (8 + 16 * countOf d)
 unfoldable pub viewOf : List ℕ → ℕ
 viewOf d = load 2 d 2
 
--- an entry of message 13; "Page number is gpa / 4096, rounded down."
+-- an entry of message 13; "Page number is gpa / 4096, rounded down", of an address of 64 bits
 pub record Entry : Type 0 where
   pub page : ℕ
   pub access : ℕ
 
 unfoldable pub entryOf : List ℕ → Entry
-entryOf e = record { page = load 8 e 0 / 4096; access = getD e 8 0 }
+entryOf e = record { page = load 8 e 0 % 2 ^ 64 / 4096; access = getD e 8 0 }
 
 -- n entries, one behind the other
 unfoldable pub entriesOf : ℕ → List ℕ → List Entry

@@ -1,6 +1,6 @@
 -- Every call, from valid tables, leaves valid tables. Assumes nothing.
 use mathlib.Core.Path.{_≡_, refl, sym, ap, _∙_}
-use Prim.Native.Nat.{ℕ, zero, suc, _+_, _*_, _-_, _/_, _^_, _≤_, _<_, zero-le}
+use Prim.Native.Nat.{ℕ, zero, suc, _+_, _*_, _-_, _/_, _%_, _^_, _≤_, _<_, zero-le}
 use native.Mathlib.Nat.{zero-add}
 use native.Mathlib.Omega.{arith}
 use mathlib.Core.List.{List, [], _∷_, _++_}
@@ -36,7 +36,6 @@ use Rattle.laws.proofs.Valid.{Valid, vcGood, paGood}
 use Rattle.laws.proofs.Load.{load-valid}
 use Rattle.laws.proofs.Verdicts.{pick, or-false-l, or-false-r, and-false, Passed, verdict-cases, Sound, sound-of}
 use Rattle.laws.proofs.Kept.{empty-valid, vcpu-good, vcpu-valid, ready-good, unpaused-good, paused-good, event-good, cr-good, singlestep-good, vm-event-small}
-use Rattle.laws.proofs.Temp.{load-small}
 
 -- ---- message 13
 record Pages (s : Settings) (ps : List Page) : Type 0 where
@@ -97,8 +96,7 @@ entries-small : (n : ℕ) (l : List ℕ) → So (every (λ (e : Entry). ltb (e .
 unfolding entriesOf entryOf
 entries-small zero l = refl
 entries-small (suc n) l =
-    let w = load-small 8 (take 16 l) 0 in
-    and-i _ _ (lt-ltb (load 8 (take 16 l) 0 / 4096) (2 ^ 52) (omega arith)) (entries-small n (drop 16 l))
+    and-i _ _ (lt-ltb (load 8 (take 16 l) 0 % 2 ^ 64 / 4096) (2 ^ 52) (omega arith)) (entries-small n (drop 16 l))
 
 -- ---- each change, of a message that passes
 module _ (s : Settings) (ok : So (inRange s)) (m : Model) (a : Valid s (m .tables)) (guest d : List ℕ) where

@@ -9,7 +9,7 @@ use lib.Dec.{ltb}
 use lib.ListN.{length, drop}
 use lib.Pow.{areBytes}
 use borrow.Author.Tests.{ltb-true, lt-ltb}
-use Rattle.wire.specs.Bytes.{le, num, load}
+use Rattle.wire.specs.Bytes.{le, num}
 
 pub length-le : (k n : ℕ) → length (le k n) ≡ k
 unfolding le
@@ -55,6 +55,3 @@ bytes-drop (suc k) (b ∷ s) h = bytes-drop k s (first-byte b s h .1)
 pub bytes-append : (s t : List ℕ) → So (areBytes s) → So (areBytes t) → So (areBytes (s ++ t))
 bytes-append [] t h g = g
 bytes-append (b ∷ s) t h g = rw (lt-ltb b 256 (first-byte b s h .0)) (bytes-append s t (first-byte b s h .1) g)
-
-pub load-small : (k : ℕ) (s : List ℕ) (at : ℕ) → load k s at < 256 ^ k
-load-small k s at = ?h
