@@ -10,7 +10,7 @@ use Rattle.kvmi.specs.Settings.{inRange, isSet, allowsCommand, allowsEve
 use Rattle.kvmi.specs.Tables.{isCr, crBit, isMsr}
 use Rattle.kvmi.specs.Model.{nextSeq}
 use Rattle.kvmi.specs.Message.{layoutOf, sizeFits, namesVcpu, vcpuOf, enableAt, enables, flagsAt, eventOf, registerOf, gpaOf, sizeOf, countOf, countFits, viewOf, entryOf, entriesOf, entryPadding, padding, firstNonZero, firstOfRuns, firstPadding, isVmEvent, isVcpuEvent, takesEvent}
-use Rattle.kvmi.specs.Verdict.{isAccess, inOnePage, isInvalid, isUnready, isDenied, isUnsupported, isBusy, pageExists, isAbsent, changeOf, losesErrors, commandVerdict, eventReplyVerdict, verdict}
+use Rattle.kvmi.specs.Verdict.{isAccess, inOnePage, isInvalid, isUnready, isDenied, isUnsupported, isBusy, pageExists, isAbsent, changeOf, losesErrors, commandVerdict, isAwaited, eventReplyVerdict, verdict}
 use Rattle.kvmi.specs.Change.{isSkipped, setPage, takeEntry, takeEntries, setMsr, apply}
 use Rattle.kvmi.specs.Reply.{messageBytes, replyBytes, replyData, eventBytes, pauseEvent, commandErrorEvent, answerBytes, answerSeq, answerOf}
 use Rattle.kvmi.specs.Record.{kindAt}
@@ -22,11 +22,11 @@ abbrev Right : List Case → Type 0
 Right cs = map seen cs ≡ map (λ (c : Case). c .expected) cs
 
 pub cases-right : Right cases
-unfolding le num load store isWhole headerOf twos codeBytes bitOf isOn putBit bitsHave writeRow readRow inRange isSet allowsCommand allowsEvent canSinglestep uncatchable taken isCr crBit isMsr nextSeq layoutOf sizeFits namesVcpu vcpuOf enableAt enables flagsAt eventOf registerOf gpaOf sizeOf countOf countFits viewOf entryOf entriesOf entryPadding padding firstNonZero firstOfRuns firstPadding isVmEvent isVcpuEvent takesEvent isAccess inOnePage isInvalid isUnready isDenied isUnsupported isBusy pageExists isAbsent changeOf losesErrors commandVerdict eventReplyVerdict verdict isSkipped setPage takeEntry takeEntries setMsr apply messageBytes replyBytes replyData eventBytes pauseEvent commandErrorEvent answerBytes answerSeq answerOf kindAt image vmForm isIdle vcForm msForm paForm vmMay mayEnable vcMay paMay loadImage beginFresh beginFrom answering doing judged headed messageStep readyStep pausing enterStep imageStep step seen
+unfolding le num load store isWhole headerOf twos codeBytes bitOf isOn putBit bitsHave writeRow readRow inRange isSet allowsCommand allowsEvent canSinglestep uncatchable taken isCr crBit isMsr nextSeq layoutOf sizeFits namesVcpu vcpuOf enableAt enables flagsAt eventOf registerOf gpaOf sizeOf countOf countFits viewOf entryOf entriesOf entryPadding padding firstNonZero firstOfRuns firstPadding isVmEvent isVcpuEvent takesEvent isAccess inOnePage isInvalid isUnready isDenied isUnsupported isBusy pageExists isAbsent changeOf losesErrors commandVerdict isAwaited eventReplyVerdict verdict isSkipped setPage takeEntry takeEntries setMsr apply messageBytes replyBytes replyData eventBytes pauseEvent commandErrorEvent answerBytes answerSeq answerOf kindAt image vmForm isIdle vcForm msForm paForm vmMay mayEnable vcMay paMay loadImage beginFresh beginFrom answering doing judged headed messageStep readyStep pausing enterStep imageStep step seen
 cases-right = refl
 
 pub edges-right : Right edges
-unfolding le num load store isWhole headerOf twos codeBytes bitOf isOn putBit bitsHave writeRow readRow inRange isSet allowsCommand allowsEvent canSinglestep uncatchable taken isCr crBit isMsr nextSeq layoutOf sizeFits namesVcpu vcpuOf enableAt enables flagsAt eventOf registerOf gpaOf sizeOf countOf countFits viewOf entryOf entriesOf entryPadding padding firstNonZero firstOfRuns firstPadding isVmEvent isVcpuEvent takesEvent isAccess inOnePage isInvalid isUnready isDenied isUnsupported isBusy pageExists isAbsent changeOf losesErrors commandVerdict eventReplyVerdict verdict isSkipped setPage takeEntry takeEntries setMsr apply messageBytes replyBytes replyData eventBytes pauseEvent commandErrorEvent answerBytes answerSeq answerOf kindAt image vmForm isIdle vcForm msForm paForm vmMay mayEnable vcMay paMay loadImage beginFresh beginFrom answering doing judged headed messageStep readyStep pausing enterStep imageStep step seen
+unfolding le num load store isWhole headerOf twos codeBytes bitOf isOn putBit bitsHave writeRow readRow inRange isSet allowsCommand allowsEvent canSinglestep uncatchable taken isCr crBit isMsr nextSeq layoutOf sizeFits namesVcpu vcpuOf enableAt enables flagsAt eventOf registerOf gpaOf sizeOf countOf countFits viewOf entryOf entriesOf entryPadding padding firstNonZero firstOfRuns firstPadding isVmEvent isVcpuEvent takesEvent isAccess inOnePage isInvalid isUnready isDenied isUnsupported isBusy pageExists isAbsent changeOf losesErrors commandVerdict isAwaited eventReplyVerdict verdict isSkipped setPage takeEntry takeEntries setMsr apply messageBytes replyBytes replyData eventBytes pauseEvent commandErrorEvent answerBytes answerSeq answerOf kindAt image vmForm isIdle vcForm msForm paForm vmMay mayEnable vcMay paMay loadImage beginFresh beginFrom answering doing judged headed messageStep readyStep pausing enterStep imageStep step seen
 edges-right = refl
 
 -- the skip rule

@@ -11,6 +11,7 @@ use Rattle.kvmi.specs.declared.Settings.{Settings}
 use Rattle.kvmi.specs.declared.ReplyMode.{ReplyMode}
 use Rattle.kvmi.specs.declared.ReplyMode.the-variants.{On, Off, ErrorsOnly}
 use Rattle.kvmi.specs.declared.Layout.{Layout}
+use Rattle.kvmi.specs.declared.Facts.{Facts}
 use Rattle.kvmi.specs.declared.Change.{Change}
 use Rattle.kvmi.specs.declared.Change.the-variants.{Nothing, SetVmEvent, WritePhysical, QueuePause, SetVcpuEvent, SetCr, SetMsr, SetPages, SetSinglestep, SetReplies, EndWait}
 use Rattle.kvmi.specs.declared.Verdict.{Verdict}
@@ -22,17 +23,26 @@ use Rattle.kvmi.specs.Tables.{isCr, isMsr, vcpuAt}
 use Rattle.kvmi.specs.Model.{Awaited, Model, awaitedBy}
 use Rattle.kvmi.specs.Message.{layoutOf, sizeFits, carriesData, namesVcpu, vcpuOf, enables, flagsAt, eventOf, registerOf, gpaOf, sizeOf, countOf, countFits, viewOf, Entry, entriesOf, firstPadding, takesEvent}
 
--- what the tests ask of the session: the reply mode, how much guest memory is lent, and what stands for the vCPU that the message names
-pub record Facts : Type 0 where
-  pub mode : ReplyMode
-  pub guest : ℕ
-  pub ready : Bool
-  pub pauses : ℕ
-  pub awaited : Option Awaited
+-- the event that a vCPU awaits a reply to, 0 for none, and its seq
+abbrev pub awaitedEvent : Option Awaited → ℕ
+awaitedEvent none = 0
+awaitedEvent (some a) = a .event
 
+abbrev pub awaitedSeq : Option Awaited → ℕ
+awaitedSeq none = 0
+awaitedSeq (some a) = a .seq
+
+-- what the tests ask of the model, for the vCPU that the message names
 abbrev pub factsOf : Model → ℕ → ℕ → Facts
 factsOf m guest vcpu =
-    record { mode = m .mode; guest = guest; ready = vcpuAt (m .tables) vcpu .ready; pauses = vcpuAt (m .tables) vcpu .pauses; awaited = awaitedBy m vcpu }
+    record {
+      mode = m .mode;
+      guest = guest;
+      ready = vcpuAt (m .tables) vcpu .ready;
+      pauses = vcpuAt (m .tables) vcpu .pauses;
+      awaited = awaitedEvent (awaitedBy m vcpu);
+      seq = awaitedSeq (awaitedBy m vcpu);
+    }
 
 abbrev pub repliesOn : ReplyMode → Bool
 repliesOn On = true
@@ -122,13 +132,12 @@ commandVerdict s f id d =
     (cond (losesErrors s id d) Closes (Does (changeOf id d))))))))
 
 -- ---- "An EVENT_REPLY closes unless padding is zero, the vCPU awaits one, seq and event match, and the action is 0 continue or 2 crash"
-abbrev pub matches : Option Awaited → ℕ → ℕ → Bool
-matches none seq event = false
-matches (some a) seq event = eqb (a .seq) seq && eqb (a .event) event
+unfoldable pub isAwaited : Facts → ℕ → ℕ → Bool
+isAwaited f seq event = not (eqb (f .awaited) 0) && eqb (f .seq) seq && eqb (f .awaited) event
 
 unfoldable pub eventReplyVerdict : Facts → ℕ → List ℕ → Verdict
 eventReplyVerdict f seq d =
-    cond (eqb (firstPadding 16 d) 0 && matches (f .awaited) seq (getD d 9 0) && among (getD d 8 0) (0 ∷ 2 ∷ []))
+    cond (eqb (firstPadding 16 d) 0 && isAwaited f seq (getD d 9 0) && among (getD d 8 0) (0 ∷ 2 ∷ []))
     (Does (EndWait (vcpuOf d) (eqb (getD d 8 0) 2)))
     Closes
 

@@ -97,6 +97,17 @@ pub struct Layout {
     pub handler: Handler,
 }
 
+// What the tests of a message ask of the session: the reply mode, how many bytes of guest memory are lent, and what stands
+// for the vCPU that the message names: its ready mark, queued pauses, and the event whose reply it awaits (0: none).
+pub struct Facts {
+    pub mode: ReplyMode,
+    pub guest: usize,
+    pub ready: bool,
+    pub pauses: u64,
+    pub awaited: u64,
+    pub seq: u64,
+}
+
 // What a message that passes all tests changes.
 pub enum Change {
     Nothing,

@@ -25,7 +25,8 @@ use Rattle.kvmi.specs.Table.{rising, has, put, forget}
 use Rattle.kvmi.specs.Tables.{Vcpu, Msr, Page, Tables, msrKey, pageKey, resting, vcpuAt, setVcpu, withVmEvents, withMsrs, withPages, withReady, withPauses, withEvents, withCrs, withSinglestep, isMsr}
 use Rattle.kvmi.specs.Model.{Model, fresh, begun, onVcpu, awaitedBy, isSome}
 use Rattle.kvmi.specs.Message.{namesVcpu, vcpuOf, enables, eventOf, registerOf, countOf, countFits, viewOf, Entry, entryOf, entriesOf, isVmEvent, isVcpuEvent, takesEvent}
-use Rattle.kvmi.specs.Verdict.{Facts, factsOf, isAccess, isInvalid, isUnready, isDenied, isUnsupported, isBusy, changeOf, modeOf, verdict}
+use Rattle.kvmi.specs.declared.Facts.{Facts}
+use Rattle.kvmi.specs.Verdict.{factsOf, isAccess, isInvalid, isUnready, isDenied, isUnsupported, isBusy, changeOf, modeOf, verdict}
 use Rattle.kvmi.specs.Change.{Run, pageOf, pageLimit, isSkipped, setPage, takeEntry, takeEntries, setMsr, Applied, apply}
 use Rattle.kvmi.specs.Image.{vmForm, msForm, paForm, vmMay, mayEnable, paMay, image, Loaded, loaded, loadImage}
 use Rattle.kvmi.specs.Call.{Began, anew, fromImage, Call, message, ready, enter, writeImage, Step, answering, doing, judged, headed, messageStep, readyStep, pausing, enterStep, awaitsAny, imageStep, step, move, after}

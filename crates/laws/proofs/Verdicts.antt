@@ -20,7 +20,8 @@ use Rattle.kvmi.specs.Codes.{EPERM, ENOENT, EAGAIN, EBUSY, EINVAL, EOPNOTSUPP, 
 use Rattle.kvmi.specs.Settings.{allowsCommand, allowsEvent}
 use Rattle.kvmi.specs.Tables.{isCr, isMsr}
 use Rattle.kvmi.specs.Message.{layoutOf, sizeFits, carriesData, namesVcpu, vcpuOf, flagsAt, eventOf, registerOf, gpaOf, sizeOf, countOf, countFits, viewOf, Entry, entriesOf, firstPadding, takesEvent}
-use Rattle.kvmi.specs.Verdict.{Facts, repliesOn, isAccess, inOnePage, isInvalid, isUnready, isDenied, isUnsupported, isBusy, isAbsent, changeOf, losesErrors, commandVerdict, matches, eventReplyVerdict, refuse, verdict}
+use Rattle.kvmi.specs.declared.Facts.{Facts}
+use Rattle.kvmi.specs.Verdict.{repliesOn, isAccess, inOnePage, isInvalid, isUnready, isDenied, isUnsupported, isBusy, isAbsent, changeOf, losesErrors, commandVerdict, isAwaited, eventReplyVerdict, refuse, verdict}
 
 pub or-false-l : (a b : Bool) → (a || b) ≡ false → a ≡ false
 or-false-l true b h = h
@@ -62,7 +63,7 @@ verdict-cases P s f id seq d closes fails does ends =
     (λ _. pick P (not (repliesOn (f .mode)) && carriesData (layoutOf id .reply)) _ _ (λ _. closes)
     (λ _. pick P (not (sizeFits (layoutOf id .size) d)) _ _ (λ _. closes)
     (λ size. pick P (eqb id 16) _ _
-    (λ _. pick P (eqb (firstPadding 16 d) 0 && matches (f .awaited) seq (getD d 9 0) && among (getD d 8 0) (0 ∷ 2 ∷ [])) _ _ (λ _. ends) (λ _. closes))
+    (λ _. pick P (eqb (firstPadding 16 d) 0 && isAwaited f seq (getD d 9 0) && among (getD d 8 0) (0 ∷ 2 ∷ [])) _ _ (λ _. ends) (λ _. closes))
     (λ _. pick P (eqb id 9 && not (allowsEvent s 2)) _ _ (λ _. closes)
     (λ pauses. pick P (isInvalid s id d) _ _ (λ _. fails EINVAL)
     (λ valid. pick P (isUnready f id) _ _ (λ _. fails EAGAIN)
