@@ -108,3 +108,66 @@ pub fn load64(s: &[u8], at: usize) -> u64
         0
     }
 }
+
+// A number into the 2 bytes at a place inside.
+fn put16(out: &mut [u8], at: usize, v: u16)
+    requires { ⌜ at + 2 ≤ length (now out) ⌝ }
+    ensures { λ _. ⌜ now (out .exit) ≡ store (now (out .entry)) at (le 2 v) ⌝ }
+{
+    out[at] = (v % 256) as u8;
+    out[at + 1] = (v / 256) as u8;
+}
+
+// A number into the 4 bytes at a place inside.
+fn put32(out: &mut [u8], at: usize, v: u32)
+    requires { ⌜ at + 4 ≤ length (now out) ⌝ }
+    ensures { λ _. ⌜ now (out .exit) ≡ store (now (out .entry)) at (le 4 v) ⌝ }
+{
+    put16(out, at, (v % 65536) as u16);
+    put16(out, at + 2, (v / 65536) as u16);
+}
+
+// A number into the 8 bytes at a place inside.
+fn put64(out: &mut [u8], at: usize, v: u64)
+    requires { ⌜ at + 8 ≤ length (now out) ⌝ }
+    ensures { λ _. ⌜ now (out .exit) ≡ store (now (out .entry)) at (le 8 v) ⌝ }
+{
+    put32(out, at, (v % 4294967296) as u32);
+    put32(out, at + 4, (v / 4294967296) as u32);
+}
+
+// A byte at a place.
+pub fn store8(out: &mut [u8], at: usize, v: u8)
+    ensures { λ _. ⌜ now (out .exit) ≡ store (now (out .entry)) at (le 1 v) ⌝ }
+{
+    if at < out.len() {
+        out[at] = v;
+    }
+}
+
+// A number into the 2 bytes at a place.
+pub fn store16(out: &mut [u8], at: usize, v: u16)
+    ensures { λ _. ⌜ now (out .exit) ≡ store (now (out .entry)) at (le 2 v) ⌝ }
+{
+    if inside(out.len(), at, 2) {
+        put16(out, at, v);
+    }
+}
+
+// A number into the 4 bytes at a place.
+pub fn store32(out: &mut [u8], at: usize, v: u32)
+    ensures { λ _. ⌜ now (out .exit) ≡ store (now (out .entry)) at (le 4 v) ⌝ }
+{
+    if inside(out.len(), at, 4) {
+        put32(out, at, v);
+    }
+}
+
+// A number into the 8 bytes at a place.
+pub fn store64(out: &mut [u8], at: usize, v: u64)
+    ensures { λ _. ⌜ now (out .exit) ≡ store (now (out .entry)) at (le 8 v) ⌝ }
+{
+    if inside(out.len(), at, 8) {
+        put64(out, at, v);
+    }
+}
