@@ -171,3 +171,30 @@ pub fn store64(out: &mut [u8], at: usize, v: u64)
         put64(out, at, v);
     }
 }
+
+// The bytes of `src` at a place.
+pub fn copy(out: &mut [u8], at: usize, src: &[u8])
+    ensures { λ _. ⌜ now (out .exit) ≡ store (now (out .entry)) at (now (src .entry)) ⌝ }
+{
+    let n = src.len();
+    if inside(out.len(), at, n) {
+        let mut i = 0;
+        while i < n {
+            out[at + i] = src[i];
+            i += 1;
+        }
+    }
+}
+
+// The byte v, n times, at a place.
+pub fn fill(out: &mut [u8], at: usize, n: usize, v: u8)
+    ensures { λ _. ⌜ now (out .exit) ≡ store (now (out .entry)) at (replicate n v) ⌝ }
+{
+    if inside(out.len(), at, n) {
+        let mut i = 0;
+        while i < n {
+            out[at + i] = v;
+            i += 1;
+        }
+    }
+}
