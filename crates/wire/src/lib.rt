@@ -198,3 +198,23 @@ pub fn fill(out: &mut [u8], at: usize, n: usize, v: u8)
         }
     }
 }
+
+// The header of a message whose bytes are all there, none missing and none left over.
+pub fn read_header(s: &[u8]) -> Header
+    ensures { λ r. ⌜ r ≡ headerOf (now (s .entry)) ⌝ }
+{
+    let n = s.len();
+    if n < 8 {
+        return Header::Broken;
+    }
+    let size = get16(s, 2);
+    if n - 8 == size as usize {
+        Header::Whole {
+            id: get16(s, 0),
+            size,
+            seq: get32(s, 4),
+        }
+    } else {
+        Header::Broken
+    }
+}
