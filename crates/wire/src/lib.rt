@@ -218,3 +218,28 @@ pub fn read_header(s: &[u8]) -> Header
         Header::Broken
     }
 }
+
+// A code's negation; the smallest i32, whose negation does not fit, gives the largest.
+pub fn negate(e: i32) -> i32
+    ensures { λ r. ⌜ r ≡ negated e ⌝ }
+{
+    if e == -2147483648 { 2147483647 } else { -e }
+}
+
+// The two's complement of a code.
+pub fn twos_complement(e: i32) -> u32
+    ensures { λ r. ⌜ r ≡ twos e ⌝ }
+{
+    if e < 0 {
+        ((e as i64) + 4294967296) as u32
+    } else {
+        e as u32
+    }
+}
+
+// A code's two's complement into the 4 bytes at a place.
+pub fn store_code(out: &mut [u8], at: usize, e: i32)
+    ensures { λ _. ⌜ now (out .exit) ≡ store (now (out .entry)) at (codeBytes e) ⌝ }
+{
+    store32(out, at, twos_complement(e));
+}
