@@ -10,6 +10,5 @@ pub mod Write
 pub mod Verdicts
 pub mod Kept
 pub mod Same
-pub mod Temp
 pub mod Steps
 pub mod Theorems

@@ -17,7 +17,7 @@ use Rattle.kvmi.specs.Row.{Row, writeRow, readRow, fits}
 use Rattle.kvmi.specs.Record.{Kind, VM, VC, MS, PA, EN, mark, kindIn, kinds, widths, size, Rec, whole, cut, write, writeAll, held, kindAt, from, parse}
 use Rattle.laws.proofs.Bool.{and-i, test, clash, every-head, every-tail, every-cons}
 use Rattle.laws.proofs.Row.{length-writeRow, bytes-writeRow, read-write, write-read, read-fits}
-use Rattle.laws.proofs.Temp.{num-le, bytes-drop, bytes-append}
+use Rattle.wire.proofs.Laws.{num-le, bytes-drop, bytes-append}
 
 pub length-write : (k : Kind) (f : Row (widths k)) → length (write (whole k f)) ≡ size k
 length-write k f = length-writeRow (2 ∷ widths k) (mark k, f)

@@ -12,7 +12,7 @@ use borrow.Author.Tests.{ltb-true, lt-ltb}
 use Rattle.wire.specs.Bytes.{le, num}
 use Rattle.kvmi.specs.Row.{Row, writeRow, readRow, width, fits}
 use Rattle.laws.proofs.Bool.{and-l, and-r, and-i}
-use Rattle.laws.proofs.Temp.{length-le, bytes-le, num-le, num-bound, le-num, bytes-drop, bytes-append}
+use Rattle.wire.proofs.Laws.{length-le, bytes-le, num-le, num-bound, le-num, bytes-drop, bytes-append}
 
 pub length-writeRow : (ws : List ℕ) (f : Row ws) → length (writeRow ws f) ≡ width ws
 unfolding writeRow
