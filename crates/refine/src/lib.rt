@@ -1,0 +1,1 @@
+// The words mean what the model says: theorems, no code.

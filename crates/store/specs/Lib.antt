@@ -1,0 +1,3 @@
+pub mod Words
+pub mod PageWords
+pub mod Meaning

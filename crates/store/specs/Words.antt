@@ -1,0 +1,58 @@
+-- The vCPU words: 272 for each vCPU, 16 plain fields and then 256 words of MSR switches, a bit each. A word past the end reads as 0, and a
+-- store there changes nothing.
+use Prim.Native.Nat.{ℕ, _+_, _*_, _/_, _%_}
+use mathlib.Core.List.{List}
+use mathlib.Core.Bool.{Bool, _&&_}
+use lib.ListN.{length, getD, set, replicate}
+use lib.Dec.{ltb}
+use Rattle.kvmi.specs.Bits.{isOn, putBit}
+
+abbrev pub blockWords : ℕ
+blockWords = 272
+
+-- the plain fields; the others are spare and 0
+abbrev pub SINGLESTEP : ℕ
+SINGLESTEP = 0
+
+abbrev pub CRS : ℕ
+CRS = 1
+
+abbrev pub EVENTS : ℕ
+EVENTS = 2
+
+abbrev pub PAUSES : ℕ
+PAUSES = 3
+
+-- the event whose reply is awaited, or 0, and its seq
+abbrev pub AWAITED : ℕ
+AWAITED = 4
+
+abbrev pub AWAITED-SEQ : ℕ
+AWAITED-SEQ = 5
+
+-- the first word of MSR switches
+abbrev pub MSRS : ℕ
+MSRS = 16
+
+unfoldable pub field : List ℕ → ℕ → ℕ → ℕ
+field w vcpu k = getD w (vcpu * 272 + k) 0
+
+unfoldable pub setField : List ℕ → ℕ → ℕ → ℕ → List ℕ
+setField w vcpu k x = set w (vcpu * 272 + k) x
+
+-- the place of an MSR's switch among the 16,384 of a vCPU: 0..0x1FFF first, then 0xC0000000..0xC0001FFF
+unfoldable pub msrSlot : ℕ → ℕ
+msrSlot msr = msr / 0xC0000000 * 8192 + msr % 8192
+
+unfoldable pub msrWord : ℕ → ℕ → ℕ
+msrWord vcpu msr = vcpu * 272 + 16 + msrSlot msr / 64
+
+unfoldable pub msrBitOn : List ℕ → ℕ → ℕ → Bool
+msrBitOn w vcpu msr = isOn (getD w (msrWord vcpu msr) 0) (msrSlot msr % 64)
+
+unfoldable pub setMsrBit : List ℕ → ℕ → ℕ → Bool → List ℕ
+setMsrBit w vcpu msr on = set w (msrWord vcpu msr) (putBit (getD w (msrWord vcpu msr) 0) (msrSlot msr % 64) on)
+
+-- all words 0
+unfoldable pub cleared : List ℕ → List ℕ
+cleared w = replicate (length w) 0
