@@ -83,14 +83,13 @@ unfoldable pub answering : ReplyMode → ℕ → ℕ → ℤ → List ℕ → Si
 answering mode id seq code d g out guest m =
     writing (answerOf (layoutOf id .reply) mode (m .seq) id seq code d) g out guest (withSeq m (answerSeq mode (m .seq) code))
 
-unfoldable pub doing : Settings → ℕ → ℕ → List ℕ → ReplyMode → List ℕ → List ℕ → Change → Applied → Step
-doing s id seq d old out guest c a =
-    answering (modeFor old c) id seq (a .code) (replyData s guest id d) (signalOf c) out (a .guest) (a .model)
+unfoldable pub doing : Settings → ℕ → ℕ → List ℕ → ReplyMode → List ℕ → Change → Applied → Step
+doing s id seq d old out c a = answering (modeFor old c) id seq (a .code) (replyData s (a .guest) id d) (signalOf c) out (a .guest) (a .model)
 
 unfoldable pub judged : Settings → Model → ℕ → ℕ → List ℕ → List ℕ → List ℕ → Verdict → Step
 judged s m id seq d out guest Closes = closing s out guest
 judged s m id seq d out guest (Fails code) = answering (m .mode) id seq code [] Quiet out guest m
-judged s m id seq d out guest (Does c) = doing s id seq d (m .mode) out guest c (apply m guest d c)
+judged s m id seq d out guest (Does c) = doing s id seq d (m .mode) out c (apply m guest d c)
 
 -- test 1: "Fewer than 8 bytes, or size unequal to the bytes that follow: closes."
 unfoldable pub headed : Settings → Model → List ℕ → List ℕ → List ℕ → Header → Step
