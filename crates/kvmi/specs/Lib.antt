@@ -12,5 +12,6 @@ pub mod Change
 pub mod Reply
 pub mod Record
 pub mod Image
+pub mod Valid
 pub mod Call
 pub mod Case

@@ -18,7 +18,7 @@ use Rattle.kvmi.specs.Message.{isVmEvent, isVcpuEvent}
 use Rattle.kvmi.specs.Image.{vmForm, isIdle, vcForm, msForm, vmMay, mayEnable, vcMay}
 use Rattle.laws.proofs.Bool.{and-l, and-r, and-i, or-l, or-r, either, test, clash, every-head, every-tail, every-imp, every-getD, every-set, every-replicate}
 use Rattle.laws.proofs.Bits.{bits-zero, bits-put, put-below}
-use Rattle.laws.proofs.Valid.{Valid, vcGood}
+use Rattle.kvmi.specs.Valid.{Valid, vcGood}
 
 resting-good : (s : Settings) → So (vcGood s resting)
 unfolding vcForm isIdle vcMay

@@ -18,7 +18,8 @@ use Rattle.kvmi.specs.Tables.{Vcpu, Msr, Page, Tables, msrKey, pageKey}
 use Rattle.kvmi.specs.Image.{vmRecord, vcRecord, msRecord, paRecord, enRecord, onto, vcRecords, recordCount, recordsBefore, records, image, vcpuOfRow, msrOfRow, pageOfRow, withRecord, vmForm, vcForm, msForm, paForm, vmMay, vcMay, paMay, mayOf, Loaded, loaded, badForm, forbidden, judge, ending, fitsIn, loadRest, stated, loadRecords, loadImage}
 use Rattle.laws.proofs.Bool.{and-l, and-r, and-i, every-snoc, length-snoc}
 use Rattle.laws.proofs.Table.{above, above-snoc, rising-snoc}
-use Rattle.laws.proofs.Valid.{Valid, vcGood, paGood, vm-few, ms-numbers, pa-numbers}
+use Rattle.kvmi.specs.Valid.{Valid, vcGood, paGood}
+use Rattle.laws.proofs.Valid.{vm-few, ms-numbers, pa-numbers}
 use Rattle.laws.proofs.Record.{write-parse}
 
 pub refused : {A : Type 0} {off : ℕ} {u : Tables} → badForm off ≡ loaded u → A

@@ -16,7 +16,8 @@ use Rattle.kvmi.specs.Image.{vmMay, msForm, paForm, paMay, vcForm, vcMay}
 use Rattle.laws.proofs.Bool.{and-l, and-r, every-imp}
 use Rattle.laws.proofs.Bits.{on-none, on-suc, bits-ext}
 use Rattle.laws.proofs.Lookup.{paged, lowered, numbered, access-ext, msr-ext}
-use Rattle.laws.proofs.Valid.{Valid, vcGood, paGood, vm-bits, vm-few, vc-numbers, ms-numbers, pa-numbers}
+use Rattle.kvmi.specs.Valid.{Valid, vcGood, paGood}
+use Rattle.laws.proofs.Valid.{vm-bits, vm-few, vc-numbers, ms-numbers, pa-numbers}
 use Rattle.laws.proofs.Kept.{vcpu-good}
 
 -- a set of numbers below n has none above

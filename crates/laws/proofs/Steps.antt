@@ -33,7 +33,7 @@ use Rattle.kvmi.specs.Call.{Began, anew, fromImage, Call, message, ready, enter
 use Rattle.laws.proofs.Bool.{and-l, and-r, and-i, or-l, or-r, either, test, clash, every-head, every-tail, every-and}
 use Rattle.laws.proofs.Bits.{bits-put}
 use Rattle.laws.proofs.Table.{rising-put, rising-forget, length-put, length-put-found, length-put-new, length-forget, every-put, every-forget}
-use Rattle.laws.proofs.Valid.{Valid, vcGood, paGood}
+use Rattle.kvmi.specs.Valid.{Valid, vcGood, paGood}
 use Rattle.laws.proofs.Load.{load-valid}
 use Rattle.laws.proofs.Verdicts.{pick, or-false-l, or-false-r, and-false, Passed, verdict-cases, Sound, sound-of}
 use Rattle.laws.proofs.Kept.{empty-valid, vcpu-good, vcpu-valid, ready-good, unpaused-good, paused-good, event-good, cr-good, singlestep-good, vm-event-small}

@@ -19,7 +19,7 @@ use Rattle.kvmi.specs.Image.{image, loaded, loadImage}
 use Rattle.kvmi.specs.Call.{Began, anew, fromImage, Call, after}
 use Rattle.laws.proofs.Bool.{and-l, and-r, and-i, test, clash}
 use Rattle.laws.proofs.Lookup.{access-put, access-put-other, access-forget, access-forget-other, has-access, msr-put, msr-put-other, msr-forget, msr-forget-other}
-use Rattle.laws.proofs.Valid.{Valid}
+use Rattle.kvmi.specs.Valid.{Valid}
 use Rattle.laws.proofs.Load.{load-write, load-valid}
 use Rattle.laws.proofs.Write.{write-load, image-injective}
 use Rattle.laws.proofs.Verdicts.{pick}

@@ -1,4 +1,4 @@
--- What an image needs of tables, and what it says of their numbers. Assumes nothing.
+-- What valid tables say of their numbers. Assumes nothing.
 use mathlib.Core.Path.{_≡_, refl, sym, ap, _∙_}
 use Prim.Native.Nat.{ℕ, zero, suc, _+_, _*_, _-_, _^_, _≤_, _<_, zero-le}
 use native.Mathlib.Omega.{arith}
@@ -13,25 +13,10 @@ use Rattle.kvmi.specs.Table.{rising}
 use Rattle.kvmi.specs.Tables.{Vcpu, Msr, Page, Tables, msrKey, pageKey, isMsr}
 use Rattle.kvmi.specs.Message.{isVmEvent, isVcpuEvent}
 use Rattle.kvmi.specs.Image.{vmForm, vcForm, msForm, paForm, vmMay, vcMay, paMay, recordCount}
+use Rattle.kvmi.specs.Valid.{Valid}
 use Rattle.laws.proofs.Bool.{and-l, and-r, either, every-head, every-tail}
 use Rattle.laws.proofs.Bits.{bits-small}
 use Rattle.laws.proofs.Table.{Side, below, level, over, side, rising-low, rising-rest}
-
-abbrev pub vcGood : Settings → Vcpu → Bool
-vcGood s v = vcForm v && vcMay s v
-
-abbrev pub paGood : Settings → Page → Bool
-paGood s p = paForm p && paMay s p
-
-pub record Valid (s : Settings) (t : Tables) : Type 0 where
-  pub vm : So (vmForm (length (t .vcpus)) (t .events))
-  pub may : So (vmMay s (length (t .vcpus)) (t .events))
-  pub vcs : So (every (vcGood s) (t .vcpus))
-  pub mss : So (every (msForm (t .vcpus)) (t .msrs))
-  pub msUp : So (rising msrKey 0 (t .msrs))
-  pub pas : So (every (paGood s) (t .pages))
-  pub paUp : So (rising pageKey 0 (t .pages))
-  pub paFew : length (t .pages) ≤ 1024
 
 -- ---- the numbers of a record that has its form
 pub vm-few : (n e : ℕ) → So (vmForm n e) → n ≤ 16

@@ -17,7 +17,8 @@ use Rattle.kvmi.specs.Tables.{Vcpu, Msr, Page, Tables, msrKey, pageKey}
 use Rattle.kvmi.specs.Image.{vcRow, msRow, paRow, vmRecord, vcRecord, msRecord, paRecord, enRecord, onto, vcRecords, recordCount, records, image, vcpuOfRow, withRecord, vmForm, vcForm, msForm, paForm, vmMay, vcMay, paMay, formOf, isNext, mayOf, Loaded, loaded, judge, fitsIn, loadRest, stated, loadRecords, loadImage}
 use Rattle.laws.proofs.Bool.{and-l, and-r, and-i, every-head, every-tail, length-snoc}
 use Rattle.laws.proofs.Table.{rising-low, rising-rest}
-use Rattle.laws.proofs.Valid.{Valid, vcGood, paGood, vm-few, vm-bits, ms-numbers, pa-numbers, vc-numbers, count-small}
+use Rattle.kvmi.specs.Valid.{Valid, vcGood, paGood}
+use Rattle.laws.proofs.Valid.{vm-few, vm-bits, ms-numbers, pa-numbers, vc-numbers, count-small}
 use Rattle.laws.proofs.Record.{sound, parse-write}
 
 passed : (form may : Bool) (off : ℕ) (next : Loaded) → So form → So may → judge form may off next ≡ next

@@ -1,0 +1,59 @@
+-- What a session stands for: the model, and the sessions that stand for one.
+use mathlib.Core.Path.{_≡_}
+use Prim.Native.Nat.{ℕ, zero, suc, _*_, _^_, _≤_, _<_}
+use mathlib.Core.List.{List, [], _∷_}
+use mathlib.Core.Bool.{Bool, cond, not, So}
+use mathlib.Core.Option.{Option, none, some}
+use lib.ListN.{length, getD}
+use lib.Dec.{eqb}
+use Rattle.kvmi.specs.Settings.{inRange}
+use Rattle.kvmi.specs.Tables.{Tables}
+use Rattle.kvmi.specs.Model.{Awaited, Model}
+use Rattle.kvmi.specs.Valid.{Valid}
+use Rattle.store.specs.Words.{field, SINGLESTEP, AWAITED, AWAITED-SEQ}
+use Rattle.store.specs.Meaning.{pagesOf, msrsOf, vcpusOf, PagesGood}
+use Rattle.session.specs.State.{State, modeOfNumber}
+
+-- the event that a vCPU awaits a reply to; 0 stands for none
+unfoldable pub awaitedIn : List ℕ → ℕ → Option Awaited
+awaitedIn w i = cond (eqb (field w i AWAITED) 0) none (some (record { event = field w i AWAITED; seq = field w i AWAITED-SEQ }))
+
+-- those of n vCPUs, from one on
+unfoldable pub awaitedOf : List ℕ → ℕ → ℕ → List (Option Awaited)
+awaitedOf w i zero = []
+awaitedOf w i (suc n) = awaitedIn w i ∷ awaitedOf w (suc i) n
+
+abbrev pub tablesOf : State → Tables
+tablesOf st =
+    record {
+      events = st .session .tool .events;
+      vcpus = vcpusOf (st .session .ready) (st .vcpus) 0 (st .session .settings .vcpus);
+      msrs = msrsOf (st .vcpus) 0 (st .session .settings .vcpus);
+      pages = pagesOf (st .pages) (st .session .tool .pages);
+    }
+
+abbrev pub modelOf : State → Model
+modelOf st =
+    record {
+      tables = tablesOf st;
+      mode = modeOfNumber (st .session .tool .mode);
+      seq = st .session .tool .seq;
+      awaited = awaitedOf (st .vcpus) 0 (st .session .settings .vcpus);
+      closed = not (eqb (st .session .tool .closed) 0);
+    }
+
+-- a session that stands for a model with valid tables; each of its words is determined by the model
+pub record WellFormed (st : State) : Type 0 where
+  pub settings : So (inRange (st .session .settings))
+  pub vcpuWords : length (st .vcpus) ≡ 4352
+  pub pageWords : length (st .pages) ≡ 1024
+  pub closed : st .session .tool .closed ≤ 1
+  pub mode : st .session .tool .mode ≤ 2
+  pub ready : st .session .ready < 2 ^ st .session .settings .vcpus
+  pub pages : PagesGood (st .pages) (st .session .tool .pages)
+  pub tables : Valid (st .session .settings) (tablesOf st)
+  -- singlestep is 0 or 1, no seq stands without an event, and spare fields and the blocks of vCPUs that there are none of are 0
+  pub flag : (i : ℕ) → field (st .vcpus) i SINGLESTEP ≤ 1
+  pub waits : (i : ℕ) → field (st .vcpus) i AWAITED ≡ 0 → field (st .vcpus) i AWAITED-SEQ ≡ 0
+  pub spare : (i k : ℕ) → 6 ≤ k → k < 16 → field (st .vcpus) i k ≡ 0
+  pub past : (j : ℕ) → st .session .settings .vcpus * 272 ≤ j → getD (st .vcpus) j 0 ≡ 0
