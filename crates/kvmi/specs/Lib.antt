@@ -14,4 +14,5 @@ pub mod Record
 pub mod Image
 pub mod Valid
 pub mod Call
+pub mod Pauses
 pub mod Case

@@ -12,3 +12,4 @@ pub mod Kept
 pub mod Same
 pub mod Steps
 pub mod Theorems
+pub mod Pauses

@@ -32,7 +32,7 @@ pub began-valid : (s : Settings) (m : Model) → Began s m → Valid s (m .table
 began-valid s m (anew ok) = empty-valid s ok
 began-valid s m (fromImage l t ok e) = load-valid s l t e
 
-began-range : (s : Settings) (m : Model) → Began s m → So (inRange s)
+pub began-range : (s : Settings) (m : Model) → Began s m → So (inRange s)
 began-range s m (anew ok) = ok
 began-range s m (fromImage l t ok e) = ok
 
