@@ -78,18 +78,17 @@ pub data Began (s : Settings) : Model → Type 0 where
   fromImage : (l : List ℕ) (t : Tables) → inRange s ≡ true → loadImage s l ≡ loaded t → Began s (begun t)
 
 -- ---- a message: "Orders: message 2, 3, then below"
--- a command of a mode to be answered by, with its code and reply data
-unfoldable pub answering : ReplyMode → ℕ → ℕ → ℤ → List ℕ → Signal → List ℕ → List ℕ → Model → Step
-answering mode id seq code d g out guest m =
-    writing (answerOf (layoutOf id .reply) mode (m .seq) id seq code d) g out guest (withSeq m (answerSeq mode (m .seq) code))
+-- a command with its data and its code, answered by a mode
+unfoldable pub answering : Settings → ReplyMode → ℕ → ℕ → ℤ → List ℕ → Signal → List ℕ → List ℕ → Model → Step
+answering s mode id seq code d g out guest m =
+    writing (answerOf (layoutOf id .reply) mode (m .seq) id seq code (replyData s guest id d)) g out guest (withSeq m (answerSeq mode (m .seq) code))
 
-unfoldable pub doing : Settings → ℕ → ℕ → List ℕ → ReplyMode → List ℕ → Change → Applied → Step
-doing s id seq d old out c a = answering (modeFor old c) id seq (a .code) (replyData s (a .guest) id d) (signalOf c) out (a .guest) (a .model)
-
+-- an error follows the old mode; a change answers by the mode and with the signal that it decides
 unfoldable pub judged : Settings → Model → ℕ → ℕ → List ℕ → List ℕ → List ℕ → Verdict → Step
 judged s m id seq d out guest Closes = closing s out guest
-judged s m id seq d out guest (Fails code) = answering (m .mode) id seq code [] Quiet out guest m
-judged s m id seq d out guest (Does c) = doing s id seq d (m .mode) out c (apply m guest d c)
+judged s m id seq d out guest (Fails code) = answering s (m .mode) id seq code d Quiet out guest m
+judged s m id seq d out guest (Does c) =
+    answering s (modeFor (m .mode) c) id seq (apply m guest d c .code) d (signalOf c) out (apply m guest d c .guest) (apply m guest d c .model)
 
 -- test 1: "Fewer than 8 bytes, or size unequal to the bytes that follow: closes."
 unfoldable pub headed : Settings → Model → List ℕ → List ℕ → List ℕ → Header → Step

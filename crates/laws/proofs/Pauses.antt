@@ -30,7 +30,7 @@ use Rattle.kvmi.specs.Settings.{inRange}
 use Rattle.kvmi.specs.Reply.{messageBytes, eventBytes, pauseEvent}
 use Rattle.kvmi.specs.Valid.{Valid}
 use Rattle.kvmi.specs.Image.{image}
-use Rattle.kvmi.specs.Call.{Began, Call, message, ready, enter, writeImage, Step, answering, doing, judged, headed, unchanged, messageStep, readyStep, pausing, enterStep, awaitsAny, imageStep, step, move, after}
+use Rattle.kvmi.specs.Call.{Began, Call, message, ready, enter, writeImage, Step, answering, judged, headed, unchanged, messageStep, readyStep, pausing, enterStep, awaitsAny, imageStep, step, move, after}
 use Rattle.kvmi.specs.Pauses.{kicks, accepted, sent, queued, acceptedIn, sentIn}
 use Rattle.laws.proofs.Bool.{test, clash}
 use Rattle.laws.proofs.Verdicts.{pick, Passed, verdict-cases, sound-of}
@@ -112,7 +112,7 @@ module _ (s : Settings) (vcpu : ℕ) where
   still m c k out guest z _ = rw z (add-zero _ ∙ sym (zero-add _))
 
   message-balanced : (m : Model) (msg out guest : List ℕ) → Valid s (m .tables) → Balanced vcpu m (message msg out guest) (messageStep s m msg out guest)
-  unfolding messageStep headed judged answering doing accepted sent queued
+  unfolding messageStep headed judged answering accepted sent queued
   message-balanced m msg out guest a =
       pick B (m .closed) _ _ (λ _. still m c 2 out guest refl)
       (λ _. pick B (ltb (length out) 4112) _ _ (λ _. still m c 3 out guest refl)

@@ -29,7 +29,7 @@ use Rattle.kvmi.specs.declared.Facts.{Facts}
 use Rattle.kvmi.specs.Verdict.{factsOf, isAccess, isInvalid, isUnready, isDenied, isUnsupported, isBusy, changeOf, modeOf, verdict}
 use Rattle.kvmi.specs.Change.{Run, pageOf, pageLimit, isSkipped, setPage, takeEntry, takeEntries, setMsr, Applied, apply}
 use Rattle.kvmi.specs.Image.{vmForm, msForm, paForm, vmMay, mayEnable, paMay, image, Loaded, loaded, loadImage}
-use Rattle.kvmi.specs.Call.{Began, anew, fromImage, Call, message, ready, enter, writeImage, Step, answering, doing, judged, headed, messageStep, readyStep, pausing, enterStep, awaitsAny, imageStep, step, move, after}
+use Rattle.kvmi.specs.Call.{Began, anew, fromImage, Call, message, ready, enter, writeImage, Step, answering, judged, headed, messageStep, readyStep, pausing, enterStep, awaitsAny, imageStep, step, move, after}
 use Rattle.laws.proofs.Bool.{and-l, and-r, and-i, or-l, or-r, either, test, clash, every-head, every-tail, every-and}
 use Rattle.laws.proofs.Bits.{bits-put}
 use Rattle.laws.proofs.Table.{rising-put, rising-forget, length-put, length-put-found, length-put-new, length-forget, every-put, every-forget}
@@ -247,7 +247,7 @@ module _ (s : Settings) (ok : So (inRange s)) where
   Kept r = Valid s (r .model .tables)
 
   message-kept : (m : Model) (msg out guest : List ℕ) → Valid s (m .tables) → Kept (messageStep s m msg out guest)
-  unfolding messageStep headed judged answering doing apply
+  unfolding messageStep headed judged answering apply
   message-kept m msg out guest a =
       pick Kept (m .closed) _ _ (λ _. a)
       (λ _. pick Kept (ltb (length out) 4112) _ _ (λ _. a)

@@ -26,7 +26,7 @@ use Rattle.kvmi.specs.Reply.{replyData, pauseEvent, answerOf}
 use Rattle.kvmi.specs.Verdict.{verdict}
 use Rattle.store.specs.Words.{field, PAUSES, AWAITED}
 use Rattle.session.specs.State.{State, modeOfNumber, factsIn, Changed, change}
-use Rattle.session.specs.Calls.{Told, toldSame, toldWritten, toldClosing, answering, doing, judgedOf, headedOf, messageOf, readyOf, pausingOf, enterOf}
+use Rattle.session.specs.Calls.{Told, toldSame, toldWritten, toldClosing, answering, judgedOf, headedOf, messageOf, readyOf, pausingOf, enterOf}
 use Rattle.laws.proofs.Verdicts.{pick}
 
 -- ---- "None": answers 2 to 6 change nothing in session, tables, output or guest memory
@@ -44,7 +44,7 @@ acts : (st : State) (out guest : List ℕ) (r : Told) → r .answer .number ≤ 
 acts st out guest r h g = absurd (omega arith)
 
 judged-acts : (st : State) (id seq : ℕ) (d out guest : List ℕ) (v : Verdict) → judgedOf st id seq d out guest v .answer .number ≤ 1
-unfolding judgedOf answering doing
+unfolding judgedOf answering
 judged-acts st id seq d out guest Closes = omega arith
 judged-acts st id seq d out guest (Fails code) = omega arith
 judged-acts st id seq d out guest (Does c) = omega arith
@@ -86,15 +86,16 @@ written-past out bytes = drop-store (length bytes) out 0 bytes (omega arith)
 
 answering-past : (mode : ReplyMode) (id seq : ℕ) (code : ℤ) (d : List ℕ) (g : Signal) (out guest : List ℕ) (st : State) → Past out (answering mode id seq code d g out guest st)
 unfolding answering
-answering-past mode id seq code d g out guest st = written-past out (answerOf (layoutOf id .reply) mode (st .session .tool .seq) id seq code d)
+answering-past mode id seq code d g out guest st =
+    written-past out (answerOf (layoutOf id .reply) mode (st .session .tool .seq) id seq code (replyData (st .session .settings) guest id d))
 
 judged-past : (st : State) (id seq : ℕ) (d out guest : List ℕ) (v : Verdict) → Past out (judgedOf st id seq d out guest v)
-unfolding judgedOf doing
+unfolding judgedOf
 judged-past st id seq d out guest Closes = refl
-judged-past st id seq d out guest (Fails code) = answering-past (modeOfNumber (st .session .tool .mode)) id seq code [] Quiet out guest st
+judged-past st id seq d out guest (Fails code) = answering-past (modeOfNumber (st .session .tool .mode)) id seq code d Quiet out guest st
 judged-past st id seq d out guest (Does c) =
     let a = change st guest d c in
-    answering-past (modeFor (modeOfNumber (st .session .tool .mode)) c) id seq (a .code) (replyData (st .session .settings) (a .guest) id d) (signalOf c) out (a .guest) (a .state)
+    answering-past (modeFor (modeOfNumber (st .session .tool .mode)) c) id seq (a .code) d (signalOf c) out (a .guest) (a .state)
 
 headed-past : (st : State) (d out guest : List ℕ) (h : Header) → Past out (headedOf st d out guest h)
 unfolding headedOf

@@ -58,16 +58,17 @@ freshOf s vcpus pages =
 -- ---- a message
 unfoldable pub answering : ReplyMode → ℕ → ℕ → ℤ → List ℕ → Signal → List ℕ → List ℕ → State → Told
 answering mode id seq code d g out guest st =
-    toldWritten (answerOf (layoutOf id .reply) mode (st .session .tool .seq) id seq code d) g (withSeqOf st (answerSeq mode (st .session .tool .seq) code)) out guest
-
-unfoldable pub doing : State → ℕ → ℕ → List ℕ → List ℕ → Change → Changed → Told
-doing st id seq d out c a =
-    answering (modeFor (modeOfNumber (st .session .tool .mode)) c) id seq (a .code) (replyData (st .session .settings) (a .guest) id d) (signalOf c) out (a .guest) (a .state)
+    toldWritten (answerOf (layoutOf id .reply) mode (st .session .tool .seq) id seq code (replyData (st .session .settings) guest id d)) g
+    (withSeqOf st (answerSeq mode (st .session .tool .seq) code))
+    out
+    guest
 
 unfoldable pub judgedOf : State → ℕ → ℕ → List ℕ → List ℕ → List ℕ → Verdict → Told
 judgedOf st id seq d out guest Closes = toldClosing st out guest
-judgedOf st id seq d out guest (Fails code) = answering (modeOfNumber (st .session .tool .mode)) id seq code [] Quiet out guest st
-judgedOf st id seq d out guest (Does c) = doing st id seq d out c (change st guest d c)
+judgedOf st id seq d out guest (Fails code) = answering (modeOfNumber (st .session .tool .mode)) id seq code d Quiet out guest st
+judgedOf st id seq d out guest (Does c) =
+    answering (modeFor (modeOfNumber (st .session .tool .mode)) c) id seq (change st guest d c .code) d (signalOf c) out (change st guest d c .guest)
+    (change st guest d c .state)
 
 unfoldable pub headedOf : State → List ℕ → List ℕ → List ℕ → Header → Told
 headedOf st d out guest Broken = toldClosing st out guest
