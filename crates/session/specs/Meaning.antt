@@ -42,18 +42,22 @@ modelOf st =
       closed = not (eqb (st .session .tool .closed) 0);
     }
 
--- a session that stands for a model with valid tables; each of its words is determined by the model
-pub record WellFormed (st : State) : Type 0 where
-  pub settings : So (inRange (st .session .settings))
+-- words that are determined by the model that they stand for
+pub record WordsGood (st : State) : Type 0 where
   pub vcpuWords : length (st .vcpus) ≡ 4352
   pub pageWords : length (st .pages) ≡ 1024
   pub closed : st .session .tool .closed ≤ 1
   pub mode : st .session .tool .mode ≤ 2
   pub ready : st .session .ready < 2 ^ st .session .settings .vcpus
   pub pages : PagesGood (st .pages) (st .session .tool .pages)
-  pub tables : Valid (st .session .settings) (tablesOf st)
   -- singlestep is 0 or 1, no seq stands without an event, and spare fields and the blocks of vCPUs that there are none of are 0
   pub flag : (i : ℕ) → field (st .vcpus) i SINGLESTEP ≤ 1
   pub waits : (i : ℕ) → field (st .vcpus) i AWAITED ≡ 0 → field (st .vcpus) i AWAITED-SEQ ≡ 0
   pub spare : (i k : ℕ) → 6 ≤ k → k < 16 → field (st .vcpus) i k ≡ 0
   pub past : (j : ℕ) → st .session .settings .vcpus * 272 ≤ j → getD (st .vcpus) j 0 ≡ 0
+
+-- a session that stands for a model with valid tables
+pub record WellFormed (st : State) : Type 0 where
+  pub settings : So (inRange (st .session .settings))
+  pub words : WordsGood st
+  pub tables : Valid (st .session .settings) (tablesOf st)
