@@ -1,1 +1,3 @@
 pub mod Pages
+pub mod Msrs
+pub mod Vcpus
