@@ -1,2 +1,4 @@
 pub mod Pages
+pub mod Msrs
+pub mod Vcpus
 pub mod Frames
