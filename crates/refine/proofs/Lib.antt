@@ -1,4 +1,6 @@
 pub mod Pages
 pub mod Msrs
 pub mod Vcpus
+pub mod Awaited
+pub mod Words
 pub mod Frames

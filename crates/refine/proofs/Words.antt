@@ -1,0 +1,170 @@
+-- A well-formed session's words: what they mean for any vCPU number, and what keeps them well formed. Assumes nothing.
+use mathlib.Core.Path.{_≡_, refl, sym, ap, _∙_}
+use mathlib.Core.Logic.{_≢_}
+use Prim.Native.Nat.{ℕ, zero, suc, _+_, _-_, _*_, _/_, _^_, _≤_, _<_}
+use native.Mathlib.Omega.{arith}
+use mathlib.Core.List.{List, [], _∷_}
+use mathlib.Core.Bool.{Bool, true, false, cond, not, So}
+use mathlib.Core.Option.{Option, none, some}
+use lib.ListN.{length, getD, set, List·getD-eq-default}
+use lib.Seq.{getD-set-same, getD-set-other}
+use lib.Dec.{ltb, leb, eqb}
+use borrow.Author.Tests.{ltb-true, ltb-false, leb-true, eqb-true, eqb-false}
+use Rattle.kvmi.specs.declared.Settings.{Settings}
+use Rattle.kvmi.specs.Bits.{isOn}
+use Rattle.kvmi.specs.Settings.{inRange}
+use Rattle.kvmi.specs.Tables.{Vcpu, resting, vcpuAt, isMsr}
+use Rattle.kvmi.specs.Model.{Awaited, awaitedBy}
+use Rattle.kvmi.specs.Verdict.{awaitedEvent, awaitedSeq, factsOf}
+use Rattle.store.specs.Words.{field, setField, msrWord, msrSlot, setMsrBit, SINGLESTEP, CRS, EVENTS, PAUSES, AWAITED, AWAITED-SEQ}
+use Rattle.store.specs.Meaning.{vcpuOfWords, vcpusOf}
+use Rattle.session.specs.State.{State, withVcpuWords, withField, factsIn}
+use Rattle.session.specs.Meaning.{awaitedIn, awaitedOf, tablesOf, modelOf, WordsGood, WellFormed}
+use Rattle.laws.proofs.Bool.{and-l, and-r, test}
+use Rattle.laws.proofs.Same.{on-high}
+use Rattle.refine.proofs.Msrs.{field-set, field-set-other, field-length, bit-length, bit-field, slot-below}
+use Rattle.refine.proofs.Vcpus.{vcpus-length, vcpus-at}
+use Rattle.refine.proofs.Awaited.{awaited-length, awaited-at, awaited-none, event-read, seq-read}
+
+pub few-vcpus : (s : Settings) → So (inRange s) → s .vcpus ≤ 16
+unfolding inRange
+few-vcpus s h = leb-true (s .vcpus) 16 (search (and-l, and-r))
+
+module _ (st : State) (g : WordsGood st) where
+  abbrev n : ℕ
+  n = st .session .settings .vcpus
+
+  abbrev w : List ℕ
+  w = st .vcpus
+
+  -- ---- past the count every field is 0
+  pub field-past : (v k : ℕ) → n ≤ v → field w v k ≡ 0
+  unfolding field
+  field-past v k h = g .past (v * 272 + k) (omega arith)
+
+  pub vcpu-means : (v : ℕ) → vcpuAt (tablesOf st) v ≡ vcpuOfWords (st .session .ready) w v
+  unfolding vcpuOfWords
+  vcpu-means v =
+      test (ltb v n) (λ h. vcpus-at (st .session .ready) w n v (ltb-true v n h))
+      (λ h. let far = ltb-false v n h in
+      List·getD-eq-default (vcpusOf (st .session .ready) w 0 n) resting {n = v} (rw (vcpus-length (st .session .ready) w 0 n) far)
+      ∙ sym
+      (rw (
+        on-high n (st .session .ready) v (g .ready) far,
+        field-past v SINGLESTEP far,
+        field-past v CRS far,
+        field-past v EVENTS far,
+        field-past v PAUSES far,
+      )))
+
+  pub awaited-means : (v : ℕ) → awaitedBy (modelOf st) v ≡ awaitedIn w v
+  awaited-means v =
+      test (ltb v n) (λ h. awaited-at w n v (ltb-true v n h))
+      (λ h. let far = ltb-false v n h in
+      List·getD-eq-default (awaitedOf w 0 n) none {n = v} (rw (awaited-length w 0 n) far) ∙ sym (awaited-none w v (field-past v AWAITED far)))
+
+  -- what the tests ask is what the model says
+  pub facts-mean : (guest v : ℕ) → factsIn st guest v ≡ factsOf (modelOf st) guest v
+  unfolding vcpuOfWords
+  facts-mean guest v =
+      let own = vcpu-means v in
+      let waits = awaited-means v in
+      λ j. record {
+        mode = modelOf st .mode;
+        guest = guest;
+        ready = sym (ap (λ (x : Vcpu). x .ready) own) j;
+        pauses = sym (ap (λ (x : Vcpu). x .pauses) own) j;
+        awaited = sym (ap awaitedEvent waits ∙ event-read w v) j;
+        seq = sym (ap awaitedSeq waits ∙ seq-read w v (g .waits v)) j;
+      }
+
+  -- ---- a plain field of a vCPU set
+  module _ (few : n ≤ 16) (v : ℕ) (inside : v < n) where
+    pub block-inside : n * 272 ≤ length w
+    block-inside = let l = g .vcpuWords in omega arith
+
+    past-set : (p x : ℕ) → p < n * 272 → (j : ℕ) → n * 272 ≤ j → getD (set w p x) j 0 ≡ 0
+    past-set p x h j l = getD-set-other w p j x 0 (λ e. omega arith) ∙ g .past j l
+
+    -- one of singlestep, CRS, EVENTS and PAUSES
+    pub field-kept : (k x : ℕ) → k < 4 → (k ≡ SINGLESTEP → x ≤ 1) → WordsGood (withField st v k x)
+    unfolding setField
+    field-kept k x a small =
+        let far : (i j : ℕ) → j < 272 → (i ≡ v → j ≡ k → ⊥) → field (setField w v k x) i j ≡ field w i j = λ i j b d. field-set-other w v k x i j (omega arith) b d in
+        record {
+          vcpuWords = field-length w v k x ∙ g .vcpuWords;
+          pageWords = g .pageWords;
+          closed = g .closed;
+          mode = g .mode;
+          ready = g .ready;
+          pages = g .pages;
+          flag = λ i. flag i far;
+          waits = λ i e. far i AWAITED-SEQ (omega arith) (λ p q. omega arith) ∙ g .waits i (sym (far i AWAITED (omega arith) (λ p q. omega arith)) ∙ e);
+          spare = λ i j b c. far i j (omega arith) (λ p q. omega arith) ∙ g .spare i j b c;
+          past = past-set (v * 272 + k) x (omega arith);
+        }
+      where
+        flag : (i : ℕ) → ((i j : ℕ) → j < 272 → (i ≡ v → j ≡ k → ⊥) → field (setField w v k x) i j ≡ field w i j) → field (setField w v k x) i SINGLESTEP ≤ 1
+        flag i far =
+            test (eqb i v)
+            (λ e. test (eqb SINGLESTEP k)
+            (λ f. let same = eqb-true i v e in let zero-k = eqb-true SINGLESTEP k f in
+            let l = block-inside in
+            rw (same, zero-k, field-set w v k x (omega arith)) (small (sym zero-k)))
+            (λ f. rw (far i SINGLESTEP (omega arith) (λ p q. eqb-false SINGLESTEP k f q)) (g .flag i)))
+            (λ e. rw (far i SINGLESTEP (omega arith) (λ p q. eqb-false i v e p)) (g .flag i))
+
+    -- an MSR's switch
+    pub msr-kept : (m : ℕ) (on : Bool) → So (isMsr m) → WordsGood (withVcpuWords st (setMsrBit w v m on))
+    unfolding setMsrBit msrWord
+    msr-kept m on h =
+        let same : (i j : ℕ) → j < 16 → field (setMsrBit w v m on) i j ≡ field w i j = λ i j b. bit-field w v m on h i j b in
+        record {
+          vcpuWords = bit-length w v m on ∙ g .vcpuWords;
+          pageWords = g .pageWords;
+          closed = g .closed;
+          mode = g .mode;
+          ready = g .ready;
+          pages = g .pages;
+          flag = λ i. rw (same i SINGLESTEP (omega arith)) (g .flag i);
+          waits = λ i e. same i AWAITED-SEQ (omega arith) ∙ g .waits i (sym (same i AWAITED (omega arith)) ∙ e);
+          spare = λ i j b c. same i j c ∙ g .spare i j b c;
+          past = past-set (v * 272 + 16 + msrSlot m / 64) _ (omega (arith, slot-below m h));
+        }
+
+    -- the awaited event and its seq together
+    pub awaited-kept : (event seq : ℕ) → (event ≡ 0 → seq ≡ 0) → WordsGood (withField (withField st v AWAITED event) v AWAITED-SEQ seq)
+    unfolding setField
+    awaited-kept event seq z =
+        let u = setField w v AWAITED event in
+        let far : (i j : ℕ) → j < 272 → (i ≡ v → j ≡ AWAITED → ⊥) → (i ≡ v → j ≡ AWAITED-SEQ → ⊥) → field (setField u v AWAITED-SEQ seq) i j ≡ field w i j
+        = λ i j b d e. field-set-other u v AWAITED-SEQ seq i j (omega arith) b e ∙ field-set-other w v AWAITED event i j (omega arith) b d in
+        let l = block-inside in
+        record {
+          vcpuWords = field-length u v AWAITED-SEQ seq ∙ field-length w v AWAITED event ∙ g .vcpuWords;
+          pageWords = g .pageWords;
+          closed = g .closed;
+          mode = g .mode;
+          ready = g .ready;
+          pages = g .pages;
+          flag = λ i. rw (far i SINGLESTEP (omega arith) (λ p q. omega arith) (λ p q. omega arith)) (g .flag i);
+          waits = λ i. waits i far;
+          spare = λ i j b c. far i j (omega arith) (λ p q. omega arith) (λ p q. omega arith) ∙ g .spare i j b c;
+          past = λ j h. getD-set-other u (v * 272 + AWAITED-SEQ) j seq 0 (λ e. omega arith) ∙ past-set (v * 272 + AWAITED) event (omega arith) j h;
+        }
+      where
+        waits : (i : ℕ)
+            → ((i j : ℕ) → j < 272 → (i ≡ v → j ≡ AWAITED → ⊥) → (i ≡ v → j ≡ AWAITED-SEQ → ⊥) → field (setField (setField w v AWAITED event) v AWAITED-SEQ seq) i j ≡ field w i j)
+            → field (setField (setField w v AWAITED event) v AWAITED-SEQ seq) i AWAITED ≡ 0
+            → field (setField (setField w v AWAITED event) v AWAITED-SEQ seq) i AWAITED-SEQ ≡ 0
+        waits i far e =
+            let l = block-inside in
+            test (eqb i v)
+            (λ t. let here = eqb-true i v t in
+            let there : v * 272 + AWAITED < length w = omega arith in
+            let now : field (setField (setField w v AWAITED event) v AWAITED-SEQ seq) v AWAITED ≡ event
+            = field-set-other (setField w v AWAITED event) v AWAITED-SEQ seq v AWAITED (omega arith) (omega arith) (λ p q. omega arith) ∙ field-set w v AWAITED event there in
+            let nothing : event ≡ 0 = sym now ∙ rw here at e in
+            rw here (field-set (setField w v AWAITED event) v AWAITED-SEQ seq (rw (field-length w v AWAITED event) (omega arith)) ∙ z nothing))
+            (λ t. let gone = eqb-false i v t in
+            far i AWAITED-SEQ (omega arith) (λ p q. gone p) (λ p q. gone p) ∙ g .waits i (sym (far i AWAITED (omega arith) (λ p q. gone p) (λ p q. gone p)) ∙ e))
