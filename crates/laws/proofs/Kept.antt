@@ -85,11 +85,11 @@ pub vm-event-small : (e : ℕ) → So (isVmEvent e) → e < 16
 unfolding isVmEvent
 vm-event-small e h = small-among 16 e (1 ∷ 12 ∷ []) refl h
 
-vcpu-event-small : (e : ℕ) → So (isVcpuEvent e) → e < 16
+pub vcpu-event-small : (e : ℕ) → So (isVcpuEvent e) → e < 16
 unfolding isVcpuEvent
 vcpu-event-small e h = small-among 16 e (3 ∷ 4 ∷ 5 ∷ 7 ∷ 8 ∷ 9 ∷ 10 ∷ 11 ∷ 14 ∷ []) refl h
 
-cr-bit-small : (cr : ℕ) → crBit cr < 3
+pub cr-bit-small : (cr : ℕ) → crBit cr < 3
 unfolding crBit
 cr-bit-small cr = step (eqb cr 0) (eqb cr 3)
   where

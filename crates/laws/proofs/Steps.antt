@@ -93,7 +93,7 @@ entries-pages s view (e ∷ es) r ok v h a =
     entries-pages s view es (takeEntry pageLimit view e r) ok v (every-tail entryGood e es h) (entry-pages s view e r ok v (every-head entryGood e es h) a)
 
 -- page numbers are those of 64-bit addresses
-entries-small : (n : ℕ) (l : List ℕ) → So (every (λ (e : Entry). ltb (e .page) (2 ^ 52)) (entriesOf n l))
+pub entries-small : (n : ℕ) (l : List ℕ) → So (every (λ (e : Entry). ltb (e .page) (2 ^ 52)) (entriesOf n l))
 unfolding entriesOf entryOf
 entries-small zero l = refl
 entries-small (suc n) l =

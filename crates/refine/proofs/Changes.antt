@@ -1,0 +1,260 @@
+-- Each change on the words is the model's change. Assumes nothing.
+use mathlib.Core.Path.{_≡_, refl, sym, ap, _∙_}
+use Prim.Native.Nat.{ℕ, zero, suc, _+_, _-_, _*_, _/_, _%_, _^_, _≤_, _<_}
+use native.Mathlib.Omega.{arith}
+use mathlib.Core.List.{List, [], _∷_}
+use mathlib.Core.Bool.{Bool, true, false, cond, not, So}
+use mathlib.Core.Option.{Option, none, some}
+use lib.ListN.{length, getD, set, take, drop}
+use lib.Seq.{set-getD, set-out}
+use lib.Dec.{ltb, leb, eqb}
+use borrow.Author.Tests.{ltb-true, ltb-false, leb-true, leb-false, lt-ltb, eqb-true, not-false}
+use Rattle.kvmi.specs.declared.Settings.{Settings}
+use Rattle.kvmi.specs.declared.ReplyMode.{ReplyMode}
+use Rattle.kvmi.specs.declared.ReplyMode.the-variants.{On, Off, ErrorsOnly}
+use Rattle.kvmi.specs.declared.Change.{Change}
+use Rattle.kvmi.specs.declared.Change.the-variants.{Nothing, SetVmEvent, WritePhysical, QueuePause, SetVcpuEvent, SetCr, SetMsr, SetPages, SetSinglestep, SetReplies, EndWait}
+use Rattle.kvmi.specs.Bits.{bit, every, putBit}
+use Rattle.kvmi.specs.Codes.{OK, ENOMEM}
+use Rattle.kvmi.specs.Settings.{inRange}
+use Rattle.kvmi.specs.Tables.{Vcpu, Msr, Tables, vcpuAt, setVcpu, withCrs, withEvents, withPauses, withSinglestep, withVcpus, isMsr, crBit}
+use Rattle.kvmi.specs.Model.{Model, withTables, onVcpu, setAwaited}
+use Rattle.kvmi.specs.Message.{Entry, entriesOf, isVmEvent, isVcpuEvent}
+use Rattle.kvmi.specs.Verdict.{isAccess}
+use Rattle.kvmi.specs.Change.{Run, pageLimit, takeEntries, setMsr, Applied, apply}
+use Rattle.store.specs.Words.{field, setField, setMsrBit, SINGLESTEP, CRS, EVENTS, PAUSES, AWAITED, AWAITED-SEQ}
+use Rattle.store.specs.PageWords.{PageTable, runEntries}
+use Rattle.store.specs.Meaning.{pagesOf, msrsOf, vcpusOf, vcpuOfWords}
+use Rattle.session.specs.State.{State, state, withField, withVcpuWords, numberOfMode, modeOfNumber, putBit64, Changed, change}
+use Rattle.session.specs.Meaning.{awaitedIn, awaitedOf, tablesOf, modelOf, WordsGood}
+use Rattle.laws.proofs.Bool.{test, every-and}
+use Rattle.laws.proofs.Kept.{vm-event-small, vcpu-event-small, cr-bit-small}
+use Rattle.laws.proofs.Steps.{entries-small}
+use Rattle.refine.proofs.Pages.{Means, run-entries}
+use Rattle.refine.proofs.Msrs.{field-set, field-set-other, field-length, set-msr, msrs-field, bit-field}
+use Rattle.refine.proofs.Vcpus.{vcpus-crs, vcpus-events, vcpus-pauses, vcpus-singlestep, vcpus-msr, vcpus-apart}
+use Rattle.refine.proofs.Awaited.{awaited-same, awaited-set, awaited-fields, awaited-none, awaited-some}
+use Rattle.refine.proofs.Words.{field-past, vcpu-means, block-inside, field-kept, msr-kept, awaited-kept}
+
+-- what the words mean after a change is what the model's change gives
+pub record Meant (r : Changed) (a : Applied) : Type 0 where
+  pub model : modelOf (r .state) ≡ a .model
+  pub guest : r .guest ≡ a .guest
+  pub code : r .code ≡ a .code
+  pub words : WordsGood (r .state)
+
+put-bit : (w k : ℕ) (on : Bool) → k < 64 → putBit64 w k on ≡ putBit w k on
+unfolding putBit64
+put-bit w k on h = rw (lt-ltb k 64 h)
+
+mode-back : (m : ReplyMode) → modeOfNumber (numberOfMode m) ≡ m
+unfolding modeOfNumber
+mode-back On = refl
+mode-back Off = refl
+mode-back ErrorsOnly = refl
+
+mode-small : (m : ReplyMode) → numberOfMode m ≤ 2
+mode-small On = omega arith
+mode-small Off = omega arith
+mode-small ErrorsOnly = omega arith
+
+-- the model with given parts
+abbrev withLists : Model → List Vcpu → List Msr → Model
+withLists m vs ms =
+    record {
+      tables = record { events = m .tables .events; vcpus = vs; msrs = ms; pages = m .tables .pages };
+      mode = m .mode;
+      seq = m .seq;
+      awaited = m .awaited;
+      closed = m .closed;
+    }
+
+module _ (st : State) (g : WordsGood st) (few : st .session .settings .vcpus ≤ 16) (guest d : List ℕ) where
+  abbrev count : ℕ
+  count = st .session .settings .vcpus
+
+  abbrev words : List ℕ
+  words = st .vcpus
+
+  abbrev ready : ℕ
+  ready = st .session .ready
+
+  -- a plain field of one vCPU, of which its record alone speaks
+  field-model : (v k x : ℕ) (f : Vcpu → Vcpu) → k < 4 → v < count
+      → vcpusOf ready (setField words v k x) 0 count ≡ set (vcpusOf ready words 0 count) v (f (vcpuOfWords ready words v))
+      → modelOf (withField st v k x) ≡ onVcpu (modelOf st) v f
+  field-model v k x f a h e =
+      let vcpus : vcpusOf ready (setField words v k x) 0 count ≡ set (vcpusOf ready words 0 count) v (f (vcpuAt (tablesOf st) v)) = e ∙ ap (λ (y : Vcpu). set (vcpusOf ready words 0 count) v (f y)) (sym (vcpu-means st g v)) in
+      let msrs : msrsOf (setField words v k x) 0 count ≡ msrsOf words 0 count = msrs-field words v k x count (omega arith) in
+      let awaited : awaitedOf (setField words v k x) 0 count ≡ awaitedOf words 0 count
+      = awaited-same words (setField words v k x) count
+      (λ i. awaited-fields words (setField words v k x) i (field-set-other words v k x i AWAITED (omega arith) (omega arith) (λ p q. omega arith))
+      (field-set-other words v k x i AWAITED-SEQ (omega arith) (omega arith) (λ p q. omega arith))) in
+      λ j. record {
+        tables = record { events = modelOf st .tables .events; vcpus = vcpus j; msrs = msrs j; pages = modelOf st .tables .pages };
+        mode = modelOf st .mode;
+        seq = modelOf st .seq;
+        awaited = awaited j;
+        closed = modelOf st .closed;
+      }
+
+  pause-meant : (v : ℕ) (wait : Bool) → v < count → field words v PAUSES < 8 → Meant (change st guest d (QueuePause v wait)) (apply (modelOf st) guest d (QueuePause v wait))
+  unfolding change apply
+  pause-meant v wait h p =
+      let one : (field words v PAUSES + 1) % 2 ^ 64 ≡ field words v PAUSES + 1 = omega arith in
+      let l = block-inside st g few v h in
+      rw one
+      (record {
+        model = field-model v PAUSES (field words v PAUSES + 1) (λ x. withPauses x (x .pauses + 1)) (omega arith) h (unfold vcpuOfWords in vcpus-pauses ready words v (field words v PAUSES + 1) count l h);
+        guest = refl;
+        code = refl;
+        words = field-kept st g few v h PAUSES (field words v PAUSES + 1) (omega arith) (λ e. absurd (omega arith));
+      })
+
+  event-meant : (v event : ℕ) (on : Bool) → v < count → So (isVcpuEvent event) → Meant (change st guest d (SetVcpuEvent v event on)) (apply (modelOf st) guest d (SetVcpuEvent v event on))
+  unfolding change apply vcpuOfWords
+  event-meant v event on h e =
+      let small = vcpu-event-small event e in
+      let x = putBit (field words v EVENTS) event on in
+      let l = block-inside st g few v h in
+      rw (put-bit (field words v EVENTS) event on (omega arith))
+      (record {
+        model = field-model v EVENTS x (λ y. withEvents y (putBit (y .events) event on)) (omega arith) h (vcpus-events ready words v x count l h);
+        guest = refl;
+        code = refl;
+        words = field-kept st g few v h EVENTS x (omega arith) (λ q. absurd (omega arith));
+      })
+
+  cr-meant : (v cr : ℕ) (on : Bool) → v < count → Meant (change st guest d (SetCr v cr on)) (apply (modelOf st) guest d (SetCr v cr on))
+  unfolding change apply vcpuOfWords
+  cr-meant v cr on h =
+      let small = cr-bit-small cr in
+      let x = putBit (field words v CRS) (crBit cr) on in
+      let l = block-inside st g few v h in
+      rw (put-bit (field words v CRS) (crBit cr) on (omega arith))
+      (record {
+        model = field-model v CRS x (λ y. withCrs y (putBit (y .crs) (crBit cr) on)) (omega arith) h (vcpus-crs ready words v x count l h);
+        guest = refl;
+        code = refl;
+        words = field-kept st g few v h CRS x (omega arith) (λ q. absurd (omega arith));
+      })
+
+  bit-one : (on : Bool) → bit on ≤ 1
+  bit-one true = omega arith
+  bit-one false = omega arith
+
+  single-meant : (v : ℕ) (on : Bool) → v < count → Meant (change st guest d (SetSinglestep v on)) (apply (modelOf st) guest d (SetSinglestep v on))
+  unfolding change apply
+  single-meant v on h =
+      let l = block-inside st g few v h in
+      record {
+        model = field-model v SINGLESTEP (bit on) (λ y. withSinglestep y on) (omega arith) h (vcpus-singlestep ready words v on count l h);
+        guest = refl;
+        code = refl;
+        words = field-kept st g few v h SINGLESTEP (bit on) (omega arith) (λ q. bit-one on);
+      }
+
+  msr-meant : (v msr : ℕ) (on : Bool) → v < count → So (isMsr msr) → Meant (change st guest d (SetMsr v msr on)) (apply (modelOf st) guest d (SetMsr v msr on))
+  unfolding change apply
+  msr-meant v msr on h m =
+      let l = block-inside st g few v h in
+      let u = setMsrBit words v msr on in
+      let vcpus : vcpusOf ready u 0 count ≡ vcpusOf ready words 0 count = vcpus-msr ready words v msr on count m in
+      let msrs : msrsOf u 0 count ≡ setMsr (record { vcpu = v; msr = msr }) on (msrsOf words 0 count) = set-msr words count v msr l h m on in
+      let awaited : awaitedOf u 0 count ≡ awaitedOf words 0 count
+      = awaited-same words u count (λ i. awaited-fields words u i (bit-field words v msr on m i AWAITED (omega arith)) (bit-field words v msr on m i AWAITED-SEQ (omega arith))) in
+      record {
+        model = λ j. record {
+          tables = record { events = modelOf st .tables .events; vcpus = vcpus j; msrs = msrs j; pages = modelOf st .tables .pages };
+          mode = modelOf st .mode;
+          seq = modelOf st .seq;
+          awaited = awaited j;
+          closed = modelOf st .closed;
+        };
+        guest = refl;
+        code = refl;
+        words = msr-kept st g few v h msr on m;
+      }
+
+  vm-event-meant : (event : ℕ) (on : Bool) → So (isVmEvent event) → Meant (change st guest d (SetVmEvent event on)) (apply (modelOf st) guest d (SetVmEvent event on))
+  unfolding change apply
+  vm-event-meant event on e =
+      let small = vm-event-small event e in
+      rw (put-bit (st .session .tool .events) event on (omega arith))
+      (record {
+        model = refl;
+        guest = refl;
+        code = refl;
+        words = record {
+          vcpuWords = g .vcpuWords;
+          pageWords = g .pageWords;
+          closed = g .closed;
+          mode = g .mode;
+          ready = g .ready;
+          pages = g .pages;
+          flag = g .flag;
+          waits = g .waits;
+          spare = g .spare;
+          past = g .past;
+        };
+      })
+
+  replies-meant : (mode : ReplyMode) (now : Bool) → Meant (change st guest d (SetReplies mode now)) (apply (modelOf st) guest d (SetReplies mode now))
+  unfolding change apply
+  replies-meant mode now =
+      record {
+        model = λ j. record {
+          tables = modelOf st .tables;
+          mode = mode-back mode j;
+          seq = modelOf st .seq;
+          awaited = modelOf st .awaited;
+          closed = modelOf st .closed;
+        };
+        guest = refl;
+        code = refl;
+        words = record {
+          vcpuWords = g .vcpuWords;
+          pageWords = g .pageWords;
+          closed = g .closed;
+          mode = mode-small mode;
+          ready = g .ready;
+          pages = g .pages;
+          flag = g .flag;
+          waits = g .waits;
+          spare = g .spare;
+          past = g .past;
+        };
+      }
+
+  pages-meant : (view n : ℕ) → view < 8 → So (every (λ (e : Entry). isAccess (e .access)) (entriesOf n (drop 8 d)))
+      → Meant (change st guest d (SetPages view n)) (apply (modelOf st) guest d (SetPages view n))
+  unfolding change apply
+  pages-meant view n v h =
+      let es = entriesOf n (drop 8 d) in
+      let l = g .pageWords in
+      let m = run-entries pageLimit view es (st .pages) (st .session .tool .pages) (g .pages) v
+      (every-and (λ (e : Entry). isAccess (e .access)) (λ (e : Entry). ltb (e .page) (2 ^ 52)) es h (entries-small n (drop 8 d))) (omega arith) in
+      let t = runEntries pageLimit view es (st .pages) (st .session .tool .pages) in
+      record {
+        model = λ j. record {
+          tables = record { events = modelOf st .tables .events; vcpus = modelOf st .tables .vcpus; msrs = modelOf st .tables .msrs; pages = m .run j .pages };
+          mode = modelOf st .mode;
+          seq = modelOf st .seq;
+          awaited = modelOf st .awaited;
+          closed = modelOf st .closed;
+        };
+        guest = refl;
+        code = λ j. cond (m .run j .skipped) ENOMEM OK;
+        words = record {
+          vcpuWords = g .vcpuWords;
+          pageWords = m .long ∙ l;
+          closed = g .closed;
+          mode = g .mode;
+          ready = g .ready;
+          pages = m .good;
+          flag = g .flag;
+          waits = g .waits;
+          spare = g .spare;
+          past = g .past;
+        };
+      }
