@@ -16,7 +16,7 @@ use Rattle.kvmi.specs.declared.Change.the-variants.{EndWait}
 use Rattle.kvmi.specs.declared.Verdict.{Verdict}
 use Rattle.kvmi.specs.declared.Verdict.the-variants.{Closes, Fails, Does}
 use Rattle.kvmi.specs.Bits.{among, every}
-use Rattle.kvmi.specs.Codes.{EPERM, ENOENT, EAGAIN, EBUSY, EINVAL, EOPNOTSUPP, ENOSYS}
+use Rattle.kvmi.specs.Codes.{isError, EPERM, ENOENT, EAGAIN, EBUSY, EINVAL, EOPNOTSUPP, ENOSYS}
 use Rattle.kvmi.specs.Settings.{allowsCommand, allowsEvent}
 use Rattle.kvmi.specs.Tables.{isCr, isMsr}
 use Rattle.kvmi.specs.Message.{layoutOf, sizeFits, carriesData, namesVcpu, vcpuOf, flagsAt, eventOf, registerOf, gpaOf, sizeOf, countOf, countFits, viewOf, Entry, entriesOf, firstPadding, takesEvent}
@@ -53,24 +53,24 @@ pub record Passed (s : Settings) (f : Facts) (id : ℕ) (d : List ℕ) : Type 0 
   pub present : isAbsent f id d ≡ false
 
 -- a message closes, fails, or does its change
-pub verdict-cases : (P : Verdict → Type 0) (s : Settings) (f : Facts) (id seq : ℕ) (d : List ℕ) → P Closes → ((code : ℤ) → P (Fails code))
+pub verdict-cases : (P : Verdict → Type 0) (s : Settings) (f : Facts) (id seq : ℕ) (d : List ℕ) → P Closes → ((code : ℤ) → isError code ≡ true → P (Fails code))
     → (Passed s f id d → P (Does (changeOf id d))) → P (Does (EndWait (vcpuOf d) (eqb (getD d 8 0) 2))) → P (verdict s f id seq d)
 unfolding verdict commandVerdict eventReplyVerdict
 verdict-cases P s f id seq d closes fails does ends =
-    let refused : (code : ℤ) → P (refuse (f .mode) code) = λ code. pick P (repliesOn (f .mode)) (Fails code) Closes (λ _. fails code) (λ _. closes) in
-    pick P (not (leb 1 id && leb id 16)) _ _ (λ _. refused ENOSYS)
-    (λ _. pick P (not (allowsCommand s id)) _ _ (λ _. refused EPERM)
+    let refused : (code : ℤ) → isError code ≡ true → P (refuse (f .mode) code) = λ code e. pick P (repliesOn (f .mode)) (Fails code) Closes (λ _. fails code e) (λ _. closes) in
+    pick P (not (leb 1 id && leb id 16)) _ _ (λ _. refused ENOSYS refl)
+    (λ _. pick P (not (allowsCommand s id)) _ _ (λ _. refused EPERM refl)
     (λ _. pick P (not (repliesOn (f .mode)) && carriesData (layoutOf id .reply)) _ _ (λ _. closes)
     (λ _. pick P (not (sizeFits (layoutOf id .size) d)) _ _ (λ _. closes)
     (λ size. pick P (eqb id 16) _ _
     (λ _. pick P (eqb (firstPadding 16 d) 0 && isAwaited f seq (getD d 9 0) && among (getD d 8 0) (0 ∷ 2 ∷ [])) _ _ (λ _. ends) (λ _. closes))
     (λ _. pick P (eqb id 9 && not (allowsEvent s 2)) _ _ (λ _. closes)
-    (λ pauses. pick P (isInvalid s id d) _ _ (λ _. fails EINVAL)
-    (λ valid. pick P (isUnready f id) _ _ (λ _. fails EAGAIN)
-    (λ ready. pick P (isDenied s id d) _ _ (λ _. fails EPERM)
-    (λ allowed. pick P (isUnsupported s id d) _ _ (λ _. fails EOPNOTSUPP)
-    (λ supported. pick P (isBusy s f id d) _ _ (λ _. fails EBUSY)
-    (λ free. pick P (isAbsent f id d) _ _ (λ _. fails ENOENT)
+    (λ pauses. pick P (isInvalid s id d) _ _ (λ _. fails EINVAL refl)
+    (λ valid. pick P (isUnready f id) _ _ (λ _. fails EAGAIN refl)
+    (λ ready. pick P (isDenied s id d) _ _ (λ _. fails EPERM refl)
+    (λ allowed. pick P (isUnsupported s id d) _ _ (λ _. fails EOPNOTSUPP refl)
+    (λ supported. pick P (isBusy s f id d) _ _ (λ _. fails EBUSY refl)
+    (λ free. pick P (isAbsent f id d) _ _ (λ _. fails ENOENT refl)
     (λ present. pick P (losesErrors s id d) _ _ (λ _. closes)
     (λ _. does
     (record {
