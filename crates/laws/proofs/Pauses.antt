@@ -130,7 +130,7 @@ module _ (s : Settings) (vcpu : ℕ) where
           let d = drop 8 msg in
           verdict-cases (λ v. Balanced vcpu m (message msg out guest) (judged s m id seq d out guest v)) s (factsOf m (length guest) (vcpuOf d)) id seq d
           (λ q. absurd (true≢false q)) (λ code _ _. add-zero _ ∙ sym (zero-add _)) (λ p _. change-even m guest d a id p ∙ sym (zero-add _))
-          (λ _. end-even m guest d (vcpuOf d) (eqb (getD d 8 0) 2) ∙ sym (zero-add _))
+          (λ _ _. end-even m guest d (vcpuOf d) (eqb (getD d 8 0) 2) ∙ sym (zero-add _))
 
   ready-balanced : (m : Model) (v : ℕ) → Balanced vcpu m (ready v) (readyStep s m v)
   unfolding readyStep accepted sent queued

@@ -256,7 +256,7 @@ module _ (s : Settings) (ok : So (inRange s)) where
       by-verdict : (id seq : ℕ) (d : List ℕ) → Kept (judged s m id seq d out guest (verdict s (factsOf m (length guest) (vcpuOf d)) id seq d))
       by-verdict id seq d =
           verdict-cases (λ v. Kept (judged s m id seq d out guest v)) s (factsOf m (length guest) (vcpuOf d)) id seq d (empty-valid s ok) (λ _ _. a)
-          (λ p. change-fine s ok m a guest d id p) a
+          (λ p. change-fine s ok m a guest d id p) (λ _. a)
 
       by-header : (h : Header) → Kept (headed s m (drop 8 msg) out guest h)
       by-header Broken = empty-valid s ok

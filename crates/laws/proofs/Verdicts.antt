@@ -54,7 +54,7 @@ pub record Passed (s : Settings) (f : Facts) (id : ℕ) (d : List ℕ) : Type 0 
 
 -- a message closes, fails, or does its change
 pub verdict-cases : (P : Verdict → Type 0) (s : Settings) (f : Facts) (id seq : ℕ) (d : List ℕ) → P Closes → ((code : ℤ) → isError code ≡ true → P (Fails code))
-    → (Passed s f id d → P (Does (changeOf id d))) → P (Does (EndWait (vcpuOf d) (eqb (getD d 8 0) 2))) → P (verdict s f id seq d)
+    → (Passed s f id d → P (Does (changeOf id d))) → (id ≡ 16 → P (Does (EndWait (vcpuOf d) (eqb (getD d 8 0) 2)))) → P (verdict s f id seq d)
 unfolding verdict commandVerdict eventReplyVerdict
 verdict-cases P s f id seq d closes fails does ends =
     let refused : (code : ℤ) → isError code ≡ true → P (refuse (f .mode) code) = λ code e. pick P (repliesOn (f .mode)) (Fails code) Closes (λ _. fails code e) (λ _. closes) in
@@ -63,7 +63,7 @@ verdict-cases P s f id seq d closes fails does ends =
     (λ _. pick P (not (repliesOn (f .mode)) && carriesData (layoutOf id .reply)) _ _ (λ _. closes)
     (λ _. pick P (not (sizeFits (layoutOf id .size) d)) _ _ (λ _. closes)
     (λ size. pick P (eqb id 16) _ _
-    (λ _. pick P (eqb (firstPadding 16 d) 0 && isAwaited f seq (getD d 9 0) && among (getD d 8 0) (0 ∷ 2 ∷ [])) _ _ (λ _. ends) (λ _. closes))
+    (λ e. pick P (eqb (firstPadding 16 d) 0 && isAwaited f seq (getD d 9 0) && among (getD d 8 0) (0 ∷ 2 ∷ [])) _ _ (λ _. ends (eqb-true id 16 e)) (λ _. closes))
     (λ _. pick P (eqb id 9 && not (allowsEvent s 2)) _ _ (λ _. closes)
     (λ pauses. pick P (isInvalid s id d) _ _ (λ _. fails EINVAL refl)
     (λ valid. pick P (isUnready f id) _ _ (λ _. fails EAGAIN refl)

@@ -8,7 +8,7 @@ use mathlib.Core.Option.{Option, none, some}
 use lib.ListN.{length, getD, set, take, drop}
 use lib.Seq.{set-getD, set-out}
 use lib.Dec.{ltb, leb, eqb}
-use borrow.Author.Tests.{ltb-true, ltb-false, leb-true, leb-false, lt-ltb, eqb-true, not-false}
+use borrow.Author.Tests.{ltb-true, ltb-false, leb-true, leb-false, lt-ltb, eqb-true, ne-eqb, not-false}
 use Rattle.kvmi.specs.declared.Settings.{Settings}
 use Rattle.kvmi.specs.declared.ReplyMode.{ReplyMode}
 use Rattle.kvmi.specs.declared.ReplyMode.the-variants.{On, Off, ErrorsOnly}
@@ -18,14 +18,14 @@ use Rattle.kvmi.specs.Bits.{bit, every, putBit}
 use Rattle.kvmi.specs.Codes.{OK, ENOMEM}
 use Rattle.kvmi.specs.Settings.{inRange}
 use Rattle.kvmi.specs.Tables.{Vcpu, Msr, Tables, vcpuAt, setVcpu, withCrs, withEvents, withPauses, withSinglestep, withVcpus, isMsr, crBit}
-use Rattle.kvmi.specs.Model.{Model, withTables, onVcpu, setAwaited}
+use Rattle.kvmi.specs.Model.{Awaited, Model, withTables, onVcpu, setAwaited}
 use Rattle.kvmi.specs.Message.{Entry, entriesOf, isVmEvent, isVcpuEvent}
 use Rattle.kvmi.specs.Verdict.{isAccess}
-use Rattle.kvmi.specs.Change.{Run, pageLimit, takeEntries, setMsr, Applied, apply}
+use Rattle.kvmi.specs.Change.{Run, pageLimit, takeEntries, setMsr, Applied, applied, apply}
 use Rattle.store.specs.Words.{field, setField, setMsrBit, SINGLESTEP, CRS, EVENTS, PAUSES, AWAITED, AWAITED-SEQ}
 use Rattle.store.specs.PageWords.{PageTable, runEntries}
 use Rattle.store.specs.Meaning.{pagesOf, msrsOf, vcpusOf, vcpuOfWords}
-use Rattle.session.specs.State.{State, state, withField, withVcpuWords, numberOfMode, modeOfNumber, putBit64, Changed, change}
+use Rattle.session.specs.State.{State, state, withField, withVcpuWords, numberOfMode, modeOfNumber, putBit64, Changed, changed, change}
 use Rattle.session.specs.Meaning.{awaitedIn, awaitedOf, tablesOf, modelOf, WordsGood}
 use Rattle.laws.proofs.Bool.{test, every-and}
 use Rattle.laws.proofs.Kept.{vm-event-small, vcpu-event-small, cr-bit-small}
@@ -33,7 +33,7 @@ use Rattle.laws.proofs.Steps.{entries-small}
 use Rattle.refine.proofs.Pages.{Means, run-entries}
 use Rattle.refine.proofs.Msrs.{field-set, field-set-other, field-length, set-msr, msrs-field, bit-field}
 use Rattle.refine.proofs.Vcpus.{vcpus-crs, vcpus-events, vcpus-pauses, vcpus-singlestep, vcpus-msr, vcpus-apart}
-use Rattle.refine.proofs.Awaited.{awaited-same, awaited-set, awaited-fields, awaited-none, awaited-some}
+use Rattle.refine.proofs.Awaited.{awaited-length, awaited-same, awaited-set, awaited-fields, awaited-none, awaited-some}
 use Rattle.refine.proofs.Words.{field-past, vcpu-means, block-inside, field-kept, msr-kept, awaited-kept}
 
 -- what the words mean after a change is what the model's change gives
@@ -80,7 +80,7 @@ module _ (st : State) (g : WordsGood st) (few : st .session .settings .vcpus ≤
   ready = st .session .ready
 
   -- a plain field of one vCPU, of which its record alone speaks
-  field-model : (v k x : ℕ) (f : Vcpu → Vcpu) → k < 4 → v < count
+  pub field-model : (v k x : ℕ) (f : Vcpu → Vcpu) → k < 4 → v < count
       → vcpusOf ready (setField words v k x) 0 count ≡ set (vcpusOf ready words 0 count) v (f (vcpuOfWords ready words v))
       → modelOf (withField st v k x) ≡ onVcpu (modelOf st) v f
   field-model v k x f a h e =
@@ -98,7 +98,7 @@ module _ (st : State) (g : WordsGood st) (few : st .session .settings .vcpus ≤
         closed = modelOf st .closed;
       }
 
-  pause-meant : (v : ℕ) (wait : Bool) → v < count → field words v PAUSES < 8 → Meant (change st guest d (QueuePause v wait)) (apply (modelOf st) guest d (QueuePause v wait))
+  pub pause-meant : (v : ℕ) (wait : Bool) → v < count → field words v PAUSES < 8 → Meant (change st guest d (QueuePause v wait)) (apply (modelOf st) guest d (QueuePause v wait))
   unfolding change apply
   pause-meant v wait h p =
       let one : (field words v PAUSES + 1) % 2 ^ 64 ≡ field words v PAUSES + 1 = omega arith in
@@ -111,7 +111,7 @@ module _ (st : State) (g : WordsGood st) (few : st .session .settings .vcpus ≤
         words = field-kept st g few v h PAUSES (field words v PAUSES + 1) (omega arith) (λ e. absurd (omega arith));
       })
 
-  event-meant : (v event : ℕ) (on : Bool) → v < count → So (isVcpuEvent event) → Meant (change st guest d (SetVcpuEvent v event on)) (apply (modelOf st) guest d (SetVcpuEvent v event on))
+  pub event-meant : (v event : ℕ) (on : Bool) → v < count → So (isVcpuEvent event) → Meant (change st guest d (SetVcpuEvent v event on)) (apply (modelOf st) guest d (SetVcpuEvent v event on))
   unfolding change apply vcpuOfWords
   event-meant v event on h e =
       let small = vcpu-event-small event e in
@@ -125,7 +125,7 @@ module _ (st : State) (g : WordsGood st) (few : st .session .settings .vcpus ≤
         words = field-kept st g few v h EVENTS x (omega arith) (λ q. absurd (omega arith));
       })
 
-  cr-meant : (v cr : ℕ) (on : Bool) → v < count → Meant (change st guest d (SetCr v cr on)) (apply (modelOf st) guest d (SetCr v cr on))
+  pub cr-meant : (v cr : ℕ) (on : Bool) → v < count → Meant (change st guest d (SetCr v cr on)) (apply (modelOf st) guest d (SetCr v cr on))
   unfolding change apply vcpuOfWords
   cr-meant v cr on h =
       let small = cr-bit-small cr in
@@ -143,7 +143,7 @@ module _ (st : State) (g : WordsGood st) (few : st .session .settings .vcpus ≤
   bit-one true = omega arith
   bit-one false = omega arith
 
-  single-meant : (v : ℕ) (on : Bool) → v < count → Meant (change st guest d (SetSinglestep v on)) (apply (modelOf st) guest d (SetSinglestep v on))
+  pub single-meant : (v : ℕ) (on : Bool) → v < count → Meant (change st guest d (SetSinglestep v on)) (apply (modelOf st) guest d (SetSinglestep v on))
   unfolding change apply
   single-meant v on h =
       let l = block-inside st g few v h in
@@ -154,7 +154,7 @@ module _ (st : State) (g : WordsGood st) (few : st .session .settings .vcpus ≤
         words = field-kept st g few v h SINGLESTEP (bit on) (omega arith) (λ q. bit-one on);
       }
 
-  msr-meant : (v msr : ℕ) (on : Bool) → v < count → So (isMsr msr) → Meant (change st guest d (SetMsr v msr on)) (apply (modelOf st) guest d (SetMsr v msr on))
+  pub msr-meant : (v msr : ℕ) (on : Bool) → v < count → So (isMsr msr) → Meant (change st guest d (SetMsr v msr on)) (apply (modelOf st) guest d (SetMsr v msr on))
   unfolding change apply
   msr-meant v msr on h m =
       let l = block-inside st g few v h in
@@ -176,7 +176,7 @@ module _ (st : State) (g : WordsGood st) (few : st .session .settings .vcpus ≤
         words = msr-kept st g few v h msr on m;
       }
 
-  vm-event-meant : (event : ℕ) (on : Bool) → So (isVmEvent event) → Meant (change st guest d (SetVmEvent event on)) (apply (modelOf st) guest d (SetVmEvent event on))
+  pub vm-event-meant : (event : ℕ) (on : Bool) → So (isVmEvent event) → Meant (change st guest d (SetVmEvent event on)) (apply (modelOf st) guest d (SetVmEvent event on))
   unfolding change apply
   vm-event-meant event on e =
       let small = vm-event-small event e in
@@ -199,7 +199,7 @@ module _ (st : State) (g : WordsGood st) (few : st .session .settings .vcpus ≤
         };
       })
 
-  replies-meant : (mode : ReplyMode) (now : Bool) → Meant (change st guest d (SetReplies mode now)) (apply (modelOf st) guest d (SetReplies mode now))
+  pub replies-meant : (mode : ReplyMode) (now : Bool) → Meant (change st guest d (SetReplies mode now)) (apply (modelOf st) guest d (SetReplies mode now))
   unfolding change apply
   replies-meant mode now =
       record {
@@ -226,7 +226,7 @@ module _ (st : State) (g : WordsGood st) (few : st .session .settings .vcpus ≤
         };
       }
 
-  pages-meant : (view n : ℕ) → view < 8 → So (every (λ (e : Entry). isAccess (e .access)) (entriesOf n (drop 8 d)))
+  pub pages-meant : (view n : ℕ) → view < 8 → So (every (λ (e : Entry). isAccess (e .access)) (entriesOf n (drop 8 d)))
       → Meant (change st guest d (SetPages view n)) (apply (modelOf st) guest d (SetPages view n))
   unfolding change apply
   pages-meant view n v h =
@@ -258,3 +258,63 @@ module _ (st : State) (g : WordsGood st) (few : st .session .settings .vcpus ≤
           past = g .past;
         };
       }
+
+  -- the awaited event of a vCPU, and its seq
+  await-words : (v event seq : ℕ) → v < count → (awaitedIn (setField (setField words v AWAITED event) v AWAITED-SEQ seq) v ≡ cond (eqb event 0) none (some (record { event = event; seq = seq })))
+  unfolding awaitedIn
+  await-words v event seq h =
+      let l = block-inside st g few v h in
+      let u = setField words v AWAITED event in
+      let now : field (setField u v AWAITED-SEQ seq) v AWAITED ≡ event
+      = field-set-other u v AWAITED-SEQ seq v AWAITED (omega arith) (omega arith) (λ p q. omega arith) ∙ field-set words v AWAITED event (omega arith) in
+      let then : field (setField u v AWAITED-SEQ seq) v AWAITED-SEQ ≡ seq = field-set u v AWAITED-SEQ seq (rw (field-length words v AWAITED event) (omega arith)) in
+      rw (now, then)
+
+  awaits-set : (v event seq : ℕ) (a : Option Awaited) → v < count → cond (eqb event 0) none (some (record { event = event; seq = seq })) ≡ a
+      → modelOf (withField (withField st v AWAITED event) v AWAITED-SEQ seq) ≡ setAwaited (modelOf st) v a
+  awaits-set v event seq a h e =
+      let u = setField words v AWAITED event in
+      let ended = setField u v AWAITED-SEQ seq in
+      let vcpus : vcpusOf ready ended 0 count ≡ vcpusOf ready words 0 count
+      = vcpus-apart ready u v seq count AWAITED-SEQ (omega arith) (omega arith) ∙ vcpus-apart ready words v event count AWAITED (omega arith) (omega arith) in
+      let msrs : msrsOf ended 0 count ≡ msrsOf words 0 count = msrs-field u v AWAITED-SEQ seq count (omega arith) ∙ msrs-field words v AWAITED event count (omega arith) in
+      let other : (i j : ℕ) → j < 272 → (i ≡ v → ⊥) → field ended i j ≡ field words i j
+      = λ i j b q. field-set-other u v AWAITED-SEQ seq i j (omega arith) b (λ p r. q p) ∙ field-set-other words v AWAITED event i j (omega arith) b (λ p r. q p) in
+      let awaited : awaitedOf ended 0 count ≡ set (awaitedOf words 0 count) v a
+      = awaited-set words ended count v a (await-words v event seq h ∙ e)
+      (λ i q. awaited-fields words ended i (other i AWAITED (omega arith) q) (other i AWAITED-SEQ (omega arith) q)) in
+      λ j. record {
+        tables = record { events = modelOf st .tables .events; vcpus = vcpus j; msrs = msrs j; pages = modelOf st .tables .pages };
+        mode = modelOf st .mode;
+        seq = modelOf st .seq;
+        awaited = awaited j;
+        closed = modelOf st .closed;
+      }
+
+  pub await-model : (v event seq : ℕ) → v < count → (event ≡ 0 → ⊥)
+      → modelOf (withField (withField st v AWAITED event) v AWAITED-SEQ seq) ≡ setAwaited (modelOf st) v (some (record { event = event; seq = seq }))
+  await-model v event seq h d = awaits-set v event seq (some (record { event = event; seq = seq })) h (rw (ne-eqb event 0 d))
+
+  -- a word that is 0 already
+  zero-again : (v k : ℕ) → count ≤ v → setField words v k 0 ≡ words
+  unfolding setField field
+  zero-again v k h =
+      ap (λ (x : ℕ). set words (v * 272 + k) x) (sym (field-past st g v k h)) ∙ set-getD words (v * 272 + k) 0
+
+  pub end-meant : (v : ℕ) (crash : Bool) → Meant (change st guest d (EndWait v crash)) (apply (modelOf st) guest d (EndWait v crash))
+  unfolding change apply
+  end-meant v crash =
+      test (ltb v count)
+      (λ t. let h = ltb-true v count t in
+      record { model = awaits-set v 0 0 none h refl; guest = refl; code = refl; words = awaited-kept st g few v h 0 0 (λ e. refl) })
+      (λ t. let h = ltb-false v count t in
+      let same : setField (setField words v AWAITED 0) v AWAITED-SEQ 0 ≡ words
+      = ap (λ (x : List ℕ). setField x v AWAITED-SEQ 0) (zero-again v AWAITED h) ∙ zero-again v AWAITED-SEQ h in
+      let none-there : set (awaitedOf words 0 count) v none ≡ awaitedOf words 0 count = set-out (awaitedOf words 0 count) v none (rw (awaited-length words 0 count) h) in
+      rw same
+      (record {
+        model = λ j. record { tables = modelOf st .tables; mode = modelOf st .mode; seq = modelOf st .seq; awaited = sym none-there j; closed = modelOf st .closed };
+        guest = refl;
+        code = refl;
+        words = g;
+      }))

@@ -1,0 +1,438 @@
+-- On a well-formed session each call gives the model's answer, output and guest memory, moves as the model moves, and stays well formed. Assumes nothing.
+use mathlib.Core.Path.{_≡_, refl, sym, ap, _∙_, subst}
+use mathlib.Core.Logic.{_⊎_, inl, inr}
+use Prim.Native.Nat.{ℕ, zero, suc, _+_, _-_, _*_, _/_, _%_, _^_, _≤_, _<_, zero-le}
+use native.Mathlib.Omega.{arith}
+use mathlib.Core.List.{List, [], _∷_, _++_}
+use mathlib.Core.Bool.{Bool, true, false, cond, not, _&&_, So}
+use mathlib.Core.Option.{Option, none, some}
+use lib.IntN.{ℤ}
+use lib.ListN.{length, getD, set, take, drop, replicate, length-replicate, getD-replicate, List·getD-eq-default}
+use lib.Seq.{take-nil}
+use lib.Pow.{pow-pos}
+use lib.Dec.{ltb, leb, eqb}
+use borrow.Author.Tests.{ltb-true, ltb-false, leb-true, leb-false, lt-ltb, eqb-true, eqb-false, eq-eqb, ne-eqb, not-false}
+use Rattle.wire.specs.Bytes.{store}
+use Rattle.wire.specs.Header.{headerOf}
+use Rattle.wire.specs.declared.Header.{Header}
+use Rattle.wire.specs.declared.Header.the-variants.{Whole, Broken}
+use Rattle.wire.proofs.Laws.{store-start}
+use Rattle.kvmi.specs.declared.Settings.{Settings}
+use Rattle.kvmi.specs.declared.Signal.{Signal}
+use Rattle.kvmi.specs.declared.Signal.the-variants.{Quiet}
+use Rattle.kvmi.specs.declared.ReplyMode.{ReplyMode}
+use Rattle.kvmi.specs.declared.ReplyMode.the-variants.{On, Off, ErrorsOnly}
+use Rattle.kvmi.specs.declared.ReplyKind.{ReplyKind}
+use Rattle.kvmi.specs.declared.ReplyKind.the-variants.{CodeOnly, WithData, Silent}
+use Rattle.kvmi.specs.declared.Change.{Change}
+use Rattle.kvmi.specs.declared.Change.the-variants.{Nothing, SetVmEvent, WritePhysical, QueuePause, SetVcpuEvent, SetCr, SetMsr, SetPages, SetSinglestep, SetReplies, EndWait}
+use Rattle.kvmi.specs.declared.Verdict.{Verdict}
+use Rattle.kvmi.specs.declared.Verdict.the-variants.{Closes, Fails, Does}
+use Rattle.kvmi.specs.Answer.{Paper}
+use Rattle.kvmi.specs.Bits.{every, among, putBit}
+use Rattle.kvmi.specs.Codes.{isError}
+use Rattle.kvmi.specs.Settings.{inRange}
+use Rattle.kvmi.specs.Tables.{Vcpu, vcpuAt, resting, emptyTables, withReady, withPauses}
+use Rattle.kvmi.specs.Model.{Awaited, Model, fresh, closedModel, withSeq, nextSeq, onVcpu, setAwaited, awaitedBy, isSome}
+use Rattle.kvmi.specs.Message.{layoutOf, namesVcpu, vcpuOf, enables, eventOf, registerOf, gpaOf, sizeOf, countOf, countFits, viewOf, Entry, entriesOf, isVmEvent, isVcpuEvent, takesEvent}
+use Rattle.kvmi.specs.Verdict.{factsOf, isAccess, inOnePage, isInvalid, isBusy, modeOf, changeOf, verdict}
+use Rattle.kvmi.specs.Change.{Applied, applied, apply, signalOf, modeFor}
+use Rattle.kvmi.specs.Reply.{replyBytes, replyData, commandErrorEvent, pauseEvent, answerBytes, answerOf, answerSeq}
+use Rattle.kvmi.specs.Valid.{Valid}
+use Rattle.kvmi.specs.Call as model
+use Rattle.store.specs.Words.{field, setField, cleared, SINGLESTEP, PAUSES, AWAITED, AWAITED-SEQ}
+use Rattle.store.specs.Meaning.{pagesOf, msrsOf, vcpusOf, vcpuOfWords, PagesGood}
+use Rattle.session.specs.declared.Session.{Session}
+use Rattle.session.specs.State.{State, state, freshSession, closedSession, clearedState, withReadyBits, withSeqOf, withField, modeOfNumber, putBit64, factsIn, Changed, changed, change}
+use Rattle.session.specs.Calls.{Told, toldSame, toldWritten, toldClosing, freshOf, answering, judgedOf, headedOf, messageOf, readyOf, pausingOf, enterOf}
+use Rattle.session.specs.Meaning.{awaitedIn, awaitedOf, tablesOf, modelOf, WordsGood, WellFormed}
+use Rattle.laws.proofs.Bool.{and-l, and-r, test}
+use Rattle.laws.proofs.Bits.{put-below}
+use Rattle.laws.proofs.Verdicts.{pick, and-false, or-false-l, Passed, verdict-cases, sound-of}
+use Rattle.laws.proofs.Steps.{step-kept}
+use Rattle.refine.proofs.Lengths.{length-reply, length-pause-whole, length-command-error, length-answer}
+use Rattle.refine.proofs.Pages.{none-good}
+use Rattle.refine.proofs.Msrs.{zeros-field, zeros-msrs}
+use Rattle.refine.proofs.Vcpus.{zeros-vcpus, vcpus-ready, vcpus-pauses}
+use Rattle.refine.proofs.Awaited.{zeros-awaited}
+use Rattle.refine.proofs.Words.{few-vcpus, vcpu-means, awaited-means, facts-mean, block-inside, field-kept, awaited-kept}
+use Rattle.refine.proofs.Changes.{field-model, await-model, Meant, pause-meant, event-meant, cr-meant, single-meant, msr-meant, vm-event-meant, replies-meant, pages-meant, end-meant}
+
+-- ---- a message that passes: its change
+module _ (st : State) (g : WordsGood st) (ok : So (inRange (st .session .settings))) (guest d : List ℕ) where
+  abbrev s : Settings
+  s = st .session .settings
+
+  few : s .vcpus ≤ 16
+  few = few-vcpus s ok
+
+  views : s .views ≤ 8
+  unfolding inRange
+  views = let h = ok in leb-true (s .views) 8 (search (and-l, and-r))
+
+  abbrev M : Change → Type 0
+  M c = Meant (change st guest d c) (apply (modelOf st) guest d c)
+
+  -- changes of guest memory and of nothing
+  still : (to : List ℕ) → Meant (changed st to) (applied (modelOf st) to)
+  still to = record { model = refl; guest = refl; code = refl; words = g }
+
+  abbrev P : ℕ → Type 0
+  P id = Passed s (factsOf (modelOf st) (length guest) (vcpuOf d)) id d
+
+  inside : (id : ℕ) → namesVcpu id ≡ true → P id → vcpuOf d < s .vcpus
+  inside id n p = leb-false (s .vcpus) (vcpuOf d) (and-false (namesVcpu id) _ (sound-of s id d (p .valid) .vcpu) n)
+
+  taken : (id : ℕ) → among id (3 ∷ 5 ∷ 10 ∷ []) ≡ true → P id → So (takesEvent id (eventOf id d))
+  taken id n p = not-false _ (and-false (among id (3 ∷ 5 ∷ 10 ∷ [])) _ (sound-of s id d (p .valid) .event) n)
+
+  meant-5 : P 5 → M (SetVmEvent (eventOf 5 d) (enables 5 d))
+  unfolding takesEvent
+  meant-5 p = vm-event-meant st g few guest d (eventOf 5 d) (enables 5 d) (taken 5 refl p)
+
+  meant-9 : P 9 → M (QueuePause (vcpuOf d) (enables 9 d))
+  unfolding namesVcpu isBusy vcpuOfWords
+  meant-9 p =
+      let own = ap (λ (x : Vcpu). x .pauses) (vcpu-means st g (vcpuOf d)) in
+      let room = leb-false 8 (vcpuAt (tablesOf st) (vcpuOf d) .pauses) (p .free) in
+      pause-meant st g few guest d (vcpuOf d) (enables 9 d) (inside 9 refl p) (omega arith)
+
+  meant-10 : P 10 → M (SetVcpuEvent (vcpuOf d) (eventOf 10 d) (enables 10 d))
+  unfolding namesVcpu takesEvent
+  meant-10 p = event-meant st g few guest d (vcpuOf d) (eventOf 10 d) (enables 10 d) (inside 10 refl p) (taken 10 refl p)
+
+  meant-11 : P 11 → M (SetCr (vcpuOf d) (registerOf d) (enables 11 d))
+  unfolding namesVcpu
+  meant-11 p = cr-meant st g few guest d (vcpuOf d) (registerOf d) (enables 11 d) (inside 11 refl p)
+
+  meant-12 : P 12 → M (SetMsr (vcpuOf d) (registerOf d) (enables 12 d))
+  unfolding namesVcpu
+  meant-12 p = msr-meant st g few guest d (vcpuOf d) (registerOf d) (enables 12 d) (inside 12 refl p) (not-false _ (sound-of s 12 d (p .valid) .msr))
+
+  meant-13 : P 13 → M (SetPages (viewOf d) (countOf d))
+  meant-13 p =
+      let c = sound-of s 13 d (p .valid) in
+      let below = leb-false (s .views) (viewOf d) (c .view) in
+      let most = views in
+      pages-meant st g few guest d (viewOf d) (countOf d) (omega arith) (and-r (countFits d) _ (not-false _ (c .entries)))
+
+  meant-14 : P 14 → M (SetSinglestep (vcpuOf d) (enables 14 d))
+  unfolding namesVcpu
+  meant-14 p = single-meant st g few guest d (vcpuOf d) (enables 14 d) (inside 14 refl p)
+
+  change-meant : (id : ℕ) → P id → M (changeOf id d)
+  unfolding changeOf change apply
+  change-meant id p =
+      pick M (eqb id 5) _ _ (λ e. rw (eqb-true id 5 e) (meant-5 (rw (eqb-true id 5 e) at p)))
+      (λ _. pick M (eqb id 7) _ _ (λ _. still (store guest (gpaOf d) (drop 16 d)))
+      (λ _. pick M (eqb id 9) _ _ (λ e. meant-9 (rw (eqb-true id 9 e) at p))
+      (λ _. pick M (eqb id 10) _ _ (λ e. rw (eqb-true id 10 e) (meant-10 (rw (eqb-true id 10 e) at p)))
+      (λ _. pick M (eqb id 11) _ _ (λ e. rw (eqb-true id 11 e) (meant-11 (rw (eqb-true id 11 e) at p)))
+      (λ _. pick M (eqb id 12) _ _ (λ e. rw (eqb-true id 12 e) (meant-12 (rw (eqb-true id 12 e) at p)))
+      (λ _. pick M (eqb id 13) _ _ (λ e. meant-13 (rw (eqb-true id 13 e) at p))
+      (λ _. pick M (eqb id 14) _ _ (λ e. rw (eqb-true id 14 e) (meant-14 (rw (eqb-true id 14 e) at p)))
+      (λ _. pick M (eqb id 15) _ _ (λ _. replies-meant st g few guest d (modeOf (enables id d) (eqb (getD d 2 0) 1)) (eqb (getD d 1 0) 1)) (λ _. still guest)))))))))
+
+-- by cases on one test of both
+both : {A B : Type 0} (R : A → B → Type 0) (b : Bool) (x y : A) (u v : B) → (b ≡ true → R x u) → (b ≡ false → R y v) → R (cond b x y) (cond b u v)
+both R true x y u v f g = f refl
+both R false x y u v f g = g refl
+
+-- ---- what a call gives, on the words and on the model
+pub record Simulates (st : State) (r : Told) (q : model.Step) : Type 0 where
+  pub answer : r .answer ≡ q .answer
+  pub out : r .out ≡ q .out
+  pub guest : r .guest ≡ q .guest
+  pub model : modelOf (r .state) ≡ q .model
+  pub settings : r .state .session .settings ≡ st .session .settings
+  pub words : WordsGood (r .state)
+
+same-simulates : (k : ℕ) (st : State) (out guest : List ℕ) → WordsGood st → Simulates st (toldSame k st out guest) (model.unchanged k (modelOf st) out guest)
+same-simulates k st out guest g = record { answer = refl; out = refl; guest = refl; model = refl; settings = refl; words = g }
+
+-- all words 0
+zero-words : (s : Settings) (x : Session) (vcpus pages : List ℕ) → length vcpus ≡ 4352 → length pages ≡ 1024 → x .tool .closed ≤ 1 → x .tool .mode ≤ 2 → x .ready ≡ 0 → x .tool .pages ≡ 0
+    → WordsGood (clearedState x vcpus pages)
+unfolding cleared field
+zero-words s x vcpus pages v p c m r k =
+    record {
+      vcpuWords = length-replicate (length vcpus) 0 ∙ v;
+      pageWords = length-replicate (length pages) 0 ∙ p;
+      closed = c;
+      mode = m;
+      ready = rw r (pow-pos (x .settings .vcpus));
+      pages = rw k (none-good (length pages));
+      flag = λ i. rw (zeros-field (length vcpus) i SINGLESTEP) zero-le;
+      waits = λ i _. zeros-field (length vcpus) i AWAITED-SEQ;
+      spare = λ i j _ _. zeros-field (length vcpus) i j;
+      past = λ j _. zero-at (length vcpus) j;
+    }
+  where
+    zero-at : (n j : ℕ) → getD (replicate {A = ℕ} n 0) j 0 ≡ 0
+    zero-at zero j = refl
+    zero-at (suc n) zero = refl
+    zero-at (suc n) (suc j) = zero-at n j
+
+no-pages : (ws : List ℕ) → pagesOf ws 0 ≡ []
+unfolding pagesOf
+no-pages [] = refl
+no-pages (w ∷ ws) = refl
+
+closing-simulates : (st : State) (out guest : List ℕ) → WordsGood st → Simulates st (toldClosing st out guest) (model.closing (st .session .settings) out guest)
+unfolding cleared modeOfNumber
+closing-simulates st out guest g =
+    let n = st .session .settings .vcpus in
+    let k = length (st .vcpus) in
+    record {
+      answer = refl;
+      out = refl;
+      guest = refl;
+      model = λ j. record {
+        tables = record { events = 0; vcpus = zeros-vcpus k n j; msrs = zeros-msrs k n j; pages = no-pages (replicate (length (st .pages)) 0) j };
+        mode = On;
+        seq = 0;
+        awaited = zeros-awaited k n j;
+        closed = true;
+      };
+      settings = refl;
+      words = zero-words (st .session .settings) (closedSession (st .session .settings)) (st .vcpus) (st .pages) (g .vcpuWords) (g .pageWords) (omega arith) (omega arith) refl refl;
+    }
+
+-- bytes that fit are written at the front
+written-simulates : (st st′ : State) (bytes : List ℕ) (sig : Signal) (out guest : List ℕ) → length bytes ≤ length out → st′ .session .settings ≡ st .session .settings → WordsGood st′
+    → Simulates st (toldWritten bytes sig st′ out guest) (model.writing bytes sig out guest (modelOf st′))
+written-simulates st st′ bytes sig out guest h e g = record { answer = refl; out = store-start out bytes h; guest = refl; model = refl; settings = e; words = g }
+
+-- the next event's seq is no part of the words
+seq-kept : (st : State) (x : ℕ) → WordsGood st → WordsGood (withSeqOf st x)
+seq-kept st x g =
+    record {
+      vcpuWords = g .vcpuWords;
+      pageWords = g .pageWords;
+      closed = g .closed;
+      mode = g .mode;
+      ready = g .ready;
+      pages = g .pages;
+      flag = g .flag;
+      waits = g .waits;
+      spare = g .spare;
+      past = g .past;
+    }
+
+answering-simulates : (st st′ : State) (mode : ReplyMode) (id seq : ℕ) (code : ℤ) (d : List ℕ) (sig : Signal) (out guest : List ℕ)
+    → length (answerOf (layoutOf id .reply) mode (st′ .session .tool .seq) id seq code (replyData (st′ .session .settings) guest id d)) ≤ length out
+    → st′ .session .settings ≡ st .session .settings → WordsGood st′
+    → Simulates st (answering mode id seq code d sig out guest st′) (model.answering (st .session .settings) mode id seq code d sig out guest (modelOf st′))
+unfolding answering model.answering
+answering-simulates st st′ mode id seq code d sig out guest h e g =
+    let bytes : Settings → List ℕ = λ x. answerOf (layoutOf id .reply) mode (st′ .session .tool .seq) id seq code (replyData x guest id d) in
+    record {
+      answer = λ j. record { number = 0; count = length (bytes (e j)); signal = sig; offset = 0 };
+      out = store-start out (bytes (st′ .session .settings)) h ∙ (λ j. bytes (e j) ++ drop (length (bytes (e j))) out);
+      guest = refl;
+      model = refl;
+      settings = e;
+      words = seq-kept st′ _ g;
+    }
+
+-- a change keeps the settings
+settings-kept : (st : State) (guest d : List ℕ) (c : Change) → change st guest d c .state .session .settings ≡ st .session .settings
+unfolding change
+settings-kept st guest d Nothing = refl
+settings-kept st guest d (SetVmEvent event on) = refl
+settings-kept st guest d (WritePhysical gpa) = refl
+settings-kept st guest d (QueuePause vcpu wait) = refl
+settings-kept st guest d (SetVcpuEvent vcpu event on) = refl
+settings-kept st guest d (SetCr vcpu cr on) = refl
+settings-kept st guest d (SetMsr vcpu msr on) = refl
+settings-kept st guest d (SetPages view count) = refl
+settings-kept st guest d (SetSinglestep vcpu on) = refl
+settings-kept st guest d (SetReplies mode now) = refl
+settings-kept st guest d (EndWait vcpu crash) = refl
+
+-- an error has no data
+error-bytes : (mode : ReplyMode) (seq id commandSeq : ℕ) (code : ℤ) (d : List ℕ) → isError code ≡ true → length (answerBytes mode seq id commandSeq code d) ≤ 4112
+unfolding answerBytes
+error-bytes On seq id commandSeq code d e = let l = length-reply id commandSeq code d in let z : cond (isError code) 0 (length d) ≡ 0 = rw e in omega arith
+error-bytes Off seq id commandSeq code d e = omega arith
+error-bytes ErrorsOnly seq id commandSeq code d e = rw (e, length-command-error seq code commandSeq id) (omega arith)
+
+error-length : (kind : ReplyKind) (mode : ReplyMode) (seq id commandSeq : ℕ) (code : ℤ) (d : List ℕ) → isError code ≡ true → length (answerOf kind mode seq id commandSeq code d) ≤ 4112
+unfolding answerOf
+error-length CodeOnly mode seq id commandSeq code d e = error-bytes mode seq id commandSeq code d e
+error-length WithData mode seq id commandSeq code d e = error-bytes mode seq id commandSeq code d e
+error-length Silent mode seq id commandSeq code d e = omega arith
+
+-- ---- a message
+module _ (st : State) (f : WellFormed st) (out guest : List ℕ) where
+  abbrev S : Told → model.Step → Type 0
+  S = Simulates st
+
+  abbrev cfg : Settings
+  cfg = st .session .settings
+
+  -- the data of a message that passes fit a page
+  data-fits : (id : ℕ) (d : List ℕ) → Passed cfg (factsOf (modelOf st) (length guest) (vcpuOf d)) id d → (inOnePage (gpaOf d) (sizeOf d) ≡ true) ⊎ (id ≡ 6 → ⊥)
+  data-fits id d p =
+      test (eqb id 6)
+      (λ e. let q = rw (eqb-true id 6 e) at p in inl (not-false _ (sound-of cfg 6 d (q .valid) .range)))
+      (λ e. inr (eqb-false id 6 e))
+
+  does-simulates : (id seq : ℕ) (d : List ℕ) → 4112 ≤ length out → (c : Change) → (inOnePage (gpaOf d) (sizeOf d) ≡ true) ⊎ (id ≡ 6 → ⊥)
+      → Meant (change st guest d c) (apply (modelOf st) guest d c) → S (judgedOf st id seq d out guest (Does c)) (model.judged cfg (modelOf st) id seq d out guest (Does c))
+  unfolding judgedOf model.judged
+  does-simulates id seq d long c fits m =
+      let r = change st guest d c in
+      let mode = modeFor (modeOfNumber (st .session .tool .mode)) c in
+      let l = length-answer (layoutOf id .reply) mode (r .state .session .tool .seq) id seq (r .code) (r .state .session .settings) (r .guest) d fits in
+      let here = answering-simulates st (r .state) mode id seq (r .code) d (signalOf c) out (r .guest) (omega arith) (settings-kept st guest d c) (m .words) in
+      subst (λ (x : Model). S (answering mode id seq (r .code) d (signalOf c) out (r .guest) (r .state)) (model.answering cfg mode id seq (apply (modelOf st) guest d c .code) d (signalOf c) out (apply (modelOf st) guest d c .guest) x)) (m .model)
+      (subst (λ (x : List ℕ). S (answering mode id seq (r .code) d (signalOf c) out (r .guest) (r .state)) (model.answering cfg mode id seq (apply (modelOf st) guest d c .code) d (signalOf c) out x (modelOf (r .state)))) (m .guest)
+      (subst (λ (x : ℤ). S (answering mode id seq (r .code) d (signalOf c) out (r .guest) (r .state)) (model.answering cfg mode id seq x d (signalOf c) out (r .guest) (modelOf (r .state)))) (m .code) here))
+
+  fails-simulates : (id seq : ℕ) (d : List ℕ) → 4112 ≤ length out → (code : ℤ) → isError code ≡ true
+      → S (judgedOf st id seq d out guest (Fails code)) (model.judged cfg (modelOf st) id seq d out guest (Fails code))
+  unfolding judgedOf model.judged
+  fails-simulates id seq d long code e =
+      let mode = modeOfNumber (st .session .tool .mode) in
+      let l = error-length (layoutOf id .reply) mode (st .session .tool .seq) id seq code (replyData cfg guest id d) e in
+      answering-simulates st st mode id seq code d Quiet out guest (omega arith) refl (f .words)
+
+  closes-simulates : (id seq : ℕ) (d : List ℕ) → S (judgedOf st id seq d out guest Closes) (model.judged cfg (modelOf st) id seq d out guest Closes)
+  unfolding judgedOf model.judged
+  closes-simulates id seq d = closing-simulates st out guest (f .words)
+
+  judged-simulates : (id seq : ℕ) (d : List ℕ) → 4112 ≤ length out
+      → let v = verdict cfg (factsOf (modelOf st) (length guest) (vcpuOf d)) id seq d in S (judgedOf st id seq d out guest v) (model.judged cfg (modelOf st) id seq d out guest v)
+  judged-simulates id seq d long =
+      verdict-cases (λ v. S (judgedOf st id seq d out guest v) (model.judged cfg (modelOf st) id seq d out guest v)) cfg (factsOf (modelOf st) (length guest) (vcpuOf d)) id seq d
+      (closes-simulates id seq d) (λ code e. fails-simulates id seq d long code e)
+      (λ p. does-simulates id seq d long (changeOf id d) (data-fits id d p) (change-meant st (f .words) (f .settings) guest d id p))
+      (λ e. does-simulates id seq d long (EndWait (vcpuOf d) (eqb (getD d 8 0) 2)) (inr (λ q. omega arith))
+      (end-meant st (f .words) (few-vcpus cfg (f .settings)) guest d (vcpuOf d) (eqb (getD d 8 0) 2)))
+
+  headed-simulates : (d : List ℕ) → 4112 ≤ length out → (h : Header) → S (headedOf st d out guest h) (model.headed cfg (modelOf st) d out guest h)
+  unfolding headedOf model.headed
+  headed-simulates d long Broken = closing-simulates st out guest (f .words)
+  headed-simulates d long (Whole id size seq) = rw (facts-mean st (f .words) (length guest) (vcpuOf d)) (judged-simulates id seq d long)
+
+  pub message-simulates : (msg : List ℕ) → S (messageOf st msg out guest) (model.messageStep cfg (modelOf st) msg out guest)
+  unfolding messageOf model.messageStep
+  message-simulates msg =
+      both S (not (eqb (st .session .tool .closed) 0)) _ _ _ _ (λ _. same-simulates 2 st out guest (f .words))
+      (λ _. both S (ltb (length out) 4112) _ _ _ _ (λ _. same-simulates 3 st out guest (f .words))
+      (λ h. headed-simulates (drop 8 msg) (ltb-false (length out) 4112 h) (headerOf msg)))
+
+-- ---- a ready mark
+module _ (st : State) (f : WellFormed st) where
+  ready-set : (v : ℕ) → v < st .session .settings .vcpus
+      → let r = state (withReadyBits (st .session) (putBit (st .session .ready) v true)) (st .vcpus) (st .pages) in
+      (modelOf r ≡ onVcpu (modelOf st) v (λ x. withReady x true)) × WordsGood r
+  ready-set v h =
+      let g = f .words in
+      let n = st .session .settings .vcpus in
+      let vcpus = vcpus-ready (st .session .ready) (st .vcpus) v true n ∙ ap (λ (y : Vcpu). set (vcpusOf (st .session .ready) (st .vcpus) 0 n) v (withReady y true)) (sym (vcpu-means st g v)) in (
+        λ j. record {
+          tables = record { events = modelOf st .tables .events; vcpus = vcpus j; msrs = modelOf st .tables .msrs; pages = modelOf st .tables .pages };
+          mode = modelOf st .mode;
+          seq = modelOf st .seq;
+          awaited = modelOf st .awaited;
+          closed = modelOf st .closed;
+        },
+        record {
+          vcpuWords = g .vcpuWords;
+          pageWords = g .pageWords;
+          closed = g .closed;
+          mode = g .mode;
+          ready = put-below n (st .session .ready) v true (g .ready) h;
+          pages = g .pages;
+          flag = g .flag;
+          waits = g .waits;
+          spare = g .spare;
+          past = g .past;
+        },
+      )
+
+  pub ready-simulates : (v : ℕ) → Simulates st (readyOf st v) (model.readyStep (st .session .settings) (modelOf st) v)
+  unfolding readyOf model.readyStep putBit64
+  ready-simulates v =
+      both (Simulates st) (not (eqb (st .session .tool .closed) 0)) _ _ _ _ (λ _. same-simulates 2 st [] [] (f .words))
+      (λ _. both (Simulates st) (leb (st .session .settings .vcpus) v) _ _ _ _ (λ _. same-simulates 4 st [] [] (f .words))
+      (λ h. let inside = leb-false (st .session .settings .vcpus) v h in
+      let few = few-vcpus (st .session .settings) (f .settings) in
+      let r = ready-set v inside in
+      rw (lt-ltb v 64 (omega arith))
+      (record { answer = refl; out = store-start [] [] zero-le; guest = refl; model = r .0; settings = refl; words = r .1 })))
+
+-- ---- entry of a vCPU
+module _ (st : State) (f : WellFormed st) (v : ℕ) (inside : v < st .session .settings .vcpus) where
+  abbrev seq : ℕ
+  seq = st .session .tool .seq
+
+  abbrev less : ℕ
+  less = field (st .vcpus) v PAUSES - 1
+
+  few-here : st .session .settings .vcpus ≤ 16
+  few-here = few-vcpus (st .session .settings) (f .settings)
+
+  -- one pause less
+  abbrev st₁ : State
+  st₁ = withField st v PAUSES less
+
+  words₁ : WordsGood st₁
+  words₁ = field-kept st (f .words) few-here v inside PAUSES less (omega arith) (λ e. absurd (omega arith))
+
+  model₁ : modelOf st₁ ≡ onVcpu (modelOf st) v (λ x. withPauses x (x .pauses - 1))
+  unfolding vcpuOfWords
+  model₁ =
+      field-model st (f .words) few-here [] [] v PAUSES less (λ x. withPauses x (x .pauses - 1)) (omega arith) inside
+      (vcpus-pauses (st .session .ready) (st .vcpus) v less (st .session .settings .vcpus) (block-inside st (f .words) few-here v inside) inside)
+
+  -- and its reply awaited
+  abbrev st₂ : State
+  st₂ = withField (withField st₁ v AWAITED 2) v AWAITED-SEQ seq
+
+  words₂ : WordsGood st₂
+  words₂ = awaited-kept st₁ words₁ few-here v inside 2 seq (λ e. absurd (omega arith))
+
+  model₂ : modelOf st₂ ≡ setAwaited (modelOf st₁) v (some (record { event = 2; seq = seq }))
+  model₂ = await-model st₁ words₁ few-here [] [] v 2 seq inside (λ e. omega arith)
+
+  pausing-simulates : (block out : List ℕ) → length block ≡ 536 → 552 ≤ length out → Simulates st (pausingOf st v block out) (model.pausing (modelOf st) v block out)
+  unfolding pausingOf model.pausing
+  pausing-simulates block out whole long =
+      let l = length-pause-whole seq v block whole in
+      let both-models : modelOf (withSeqOf st₂ (nextSeq seq)) ≡ withSeq (setAwaited (onVcpu (modelOf st) v (λ x. withPauses x (x .pauses - 1))) v (some (record { event = 2; seq = seq }))) (nextSeq seq)
+      = ap (λ (m : Model). withSeq m (nextSeq seq)) (model₂ ∙ ap (λ (m : Model). setAwaited m v (some (record { event = 2; seq = seq }))) model₁) in
+      record {
+        answer = refl;
+        out = store-start out (pauseEvent seq v block) (omega arith);
+        guest = refl;
+        model = both-models;
+        settings = refl;
+        words = seq-kept st₂ (nextSeq seq) words₂;
+      }
+
+-- an event is awaited where its word is not 0
+awaits-same : (st : State) → WordsGood st → (v : ℕ) → isSome (awaitedBy (modelOf st) v) ≡ not (eqb (field (st .vcpus) v AWAITED) 0)
+unfolding awaitedIn
+awaits-same st g v = ap isSome (awaited-means st g v) ∙ by (eqb (field (st .vcpus) v AWAITED) 0)
+  where
+    by : (b : Bool) → isSome {A = Awaited} (cond b none (some (record { event = field (st .vcpus) v AWAITED; seq = field (st .vcpus) v AWAITED-SEQ }))) ≡ not b
+    by true = refl
+    by false = refl
+
+pub enter-simulates : (st : State) → WellFormed st → (v : ℕ) (block out : List ℕ) → Simulates st (enterOf st v block out) (model.enterStep (st .session .settings) (modelOf st) v block out)
+unfolding enterOf model.enterStep vcpuOfWords
+enter-simulates st f v block out =
+    let own : vcpuAt (tablesOf st) v .pauses ≡ field (st .vcpus) v PAUSES = ap (λ (x : Vcpu). x .pauses) (vcpu-means st (f .words) v) in
+    both (Simulates st) (not (eqb (st .session .tool .closed) 0)) _ _ _ _ (λ _. same-simulates 2 st out [] (f .words))
+    (λ _. both (Simulates st) (leb (st .session .settings .vcpus) v) _ _ _ _ (λ _. same-simulates 4 st out [] (f .words))
+    (λ h. both (Simulates st) (not (eqb (length block) 536)) _ _ _ _ (λ _. same-simulates 5 st out [] (f .words))
+    (λ w. both (Simulates st) (ltb (length out) 552) _ _ _ _ (λ _. same-simulates 3 st out [] (f .words))
+    (λ l. rw (awaits-same st (f .words) v)
+    (both (Simulates st) (not (eqb (field (st .vcpus) v AWAITED) 0)) _ _ _ _ (λ _. same-simulates 6 st out [] (f .words))
+    (λ _. rw own
+    (both (Simulates st) (leb 1 (field (st .vcpus) v PAUSES)) _ _ _ _
+    (λ _. pausing-simulates st f v (leb-false (st .session .settings .vcpus) v h) block out (eqb-true (length block) 536 (not-false _ w)) (ltb-false (length out) 552 l))
+    (λ _. written-simulates st st [] Quiet out [] zero-le refl (f .words)))))))))
