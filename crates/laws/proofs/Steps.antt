@@ -246,7 +246,7 @@ module _ (s : Settings) (ok : So (inRange s)) where
   abbrev Kept : Step → Type 0
   Kept r = Valid s (r .model .tables)
 
-  message-kept : (m : Model) (msg out guest : List ℕ) → Valid s (m .tables) → Kept (messageStep s m msg out guest)
+  pub message-kept : (m : Model) (msg out guest : List ℕ) → Valid s (m .tables) → Kept (messageStep s m msg out guest)
   unfolding messageStep headed judged answering apply
   message-kept m msg out guest a =
       pick Kept (m .closed) _ _ (λ _. a)
@@ -262,14 +262,14 @@ module _ (s : Settings) (ok : So (inRange s)) where
       by-header Broken = empty-valid s ok
       by-header (Whole id size seq) = by-verdict id seq (drop 8 msg)
 
-  ready-kept : (m : Model) (vcpu : ℕ) → Valid s (m .tables) → Kept (readyStep s m vcpu)
+  pub ready-kept : (m : Model) (vcpu : ℕ) → Valid s (m .tables) → Kept (readyStep s m vcpu)
   unfolding readyStep
   ready-kept m vcpu a =
       pick Kept (m .closed) _ _ (λ _. a)
       (λ _. pick Kept (leb (s .vcpus) vcpu) _ _ (λ _. a)
       (λ _. vcpu-valid s (m .tables) vcpu _ (ready-good s (vcpuAt (m .tables) vcpu) (vcpu-good s (m .tables) vcpu a)) (λ _. refl) a))
 
-  enter-kept : (m : Model) (vcpu : ℕ) (state out : List ℕ) → Valid s (m .tables) → Kept (enterStep s m vcpu state out)
+  pub enter-kept : (m : Model) (vcpu : ℕ) (state out : List ℕ) → Valid s (m .tables) → Kept (enterStep s m vcpu state out)
   unfolding enterStep pausing
   enter-kept m vcpu state out a =
       pick Kept (m .closed) _ _ (λ _. a)
@@ -282,7 +282,7 @@ module _ (s : Settings) (ok : So (inRange s)) where
       vcpu-valid s (m .tables) vcpu _ (u .0) (λ _. u .1) a)
       (λ _. a))))))
 
-  image-kept : (m : Model) (out : List ℕ) → Valid s (m .tables) → Kept (imageStep m out)
+  pub image-kept : (m : Model) (out : List ℕ) → Valid s (m .tables) → Kept (imageStep m out)
   unfolding imageStep
   image-kept m out a = pick Kept (m .closed) _ _ (λ _. a)
       (λ _. pick Kept (awaitsAny (m .awaited)) _ _ (λ _. a) (λ _. pick Kept (ltb (length out) (length (image (m .tables)))) _ _ (λ _. a) (λ _. a)))

@@ -6,4 +6,5 @@ pub mod Words
 pub mod Changes
 pub mod Lengths
 pub mod Simulate
+pub mod Theorems
 pub mod Frames

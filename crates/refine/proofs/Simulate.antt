@@ -151,7 +151,7 @@ same-simulates : (k : ℕ) (st : State) (out guest : List ℕ) → WordsGood st 
 same-simulates k st out guest g = record { answer = refl; out = refl; guest = refl; model = refl; settings = refl; words = g }
 
 -- all words 0
-zero-words : (s : Settings) (x : Session) (vcpus pages : List ℕ) → length vcpus ≡ 4352 → length pages ≡ 1024 → x .tool .closed ≤ 1 → x .tool .mode ≤ 2 → x .ready ≡ 0 → x .tool .pages ≡ 0
+pub zero-words : (s : Settings) (x : Session) (vcpus pages : List ℕ) → length vcpus ≡ 4352 → length pages ≡ 1024 → x .tool .closed ≤ 1 → x .tool .mode ≤ 2 → x .ready ≡ 0 → x .tool .pages ≡ 0
     → WordsGood (clearedState x vcpus pages)
 unfolding cleared field
 zero-words s x vcpus pages v p c m r k =
@@ -173,7 +173,7 @@ zero-words s x vcpus pages v p c m r k =
     zero-at (suc n) zero = refl
     zero-at (suc n) (suc j) = zero-at n j
 
-no-pages : (ws : List ℕ) → pagesOf ws 0 ≡ []
+pub no-pages : (ws : List ℕ) → pagesOf ws 0 ≡ []
 unfolding pagesOf
 no-pages [] = refl
 no-pages (w ∷ ws) = refl

@@ -1,0 +1,179 @@
+-- The theorems on sessions. A well-formed session is one that fresh makes, on whatever words were lent, or that a call leaves of one. Assumes nothing.
+use mathlib.Core.Path.{_≡_, refl, sym, ap, _∙_, subst}
+use mathlib.Core.Logic.{_≢_}
+use Prim.Native.Nat.{ℕ, zero, suc, _+_, _*_, _≤_, _<_}
+use native.Mathlib.Omega.{arith}
+use mathlib.Core.List.{List, [], _∷_}
+use mathlib.Core.Bool.{Bool, true, false, cond, not, _&&_, So, false≢true}
+use mathlib.Core.Option.{Option, none, some}
+use lib.IntN.{ℤ}
+use lib.ListN.{length, getD, take, drop, replicate, length-replicate}
+use lib.Dec.{ltb, leb, eqb}
+use borrow.Author.Tests.{eqb-true, not-false}
+use Rattle.wire.specs.Header.{headerOf}
+use Rattle.wire.specs.declared.Header.{Header}
+use Rattle.wire.specs.declared.Header.the-variants.{Whole, Broken}
+use Rattle.kvmi.specs.declared.Settings.{Settings}
+use Rattle.kvmi.specs.declared.ReplyMode.the-variants.{On}
+use Rattle.kvmi.specs.declared.Facts.{Facts}
+use Rattle.kvmi.specs.declared.Signal.the-variants.{Quiet}
+use Rattle.kvmi.specs.declared.Change.{Change}
+use Rattle.kvmi.specs.declared.Change.the-variants.{Nothing, SetVmEvent, WritePhysical, QueuePause, SetVcpuEvent, SetCr, SetMsr, SetPages, SetSinglestep, SetReplies, EndWait}
+use Rattle.kvmi.specs.declared.Verdict.{Verdict}
+use Rattle.kvmi.specs.declared.Verdict.the-variants.{Closes, Fails, Does}
+use Rattle.kvmi.specs.Answer.{handled}
+use Rattle.kvmi.specs.Codes.{isError}
+use Rattle.kvmi.specs.Settings.{inRange}
+use Rattle.kvmi.specs.Tables.{Tables, resting, isMsr}
+use Rattle.kvmi.specs.Model.{Model, fresh}
+use Rattle.kvmi.specs.Message.{namesVcpu, vcpuOf, enables, registerOf}
+use Rattle.kvmi.specs.Verdict.{changeOf, modeOf, verdict}
+use Rattle.kvmi.specs.Reply.{answerSeq}
+use Rattle.kvmi.specs.Valid.{Valid}
+use Rattle.kvmi.specs.Call as model
+use Rattle.store.specs.Words.{field, setField, setMsrBit, cleared, SINGLESTEP, CRS, EVENTS, PAUSES, AWAITED, AWAITED-SEQ}
+use Rattle.session.specs.State.{State, state, freshSession, clearedState, withField, withSeqOf, modeOfNumber, factsIn, change}
+use Rattle.session.specs.Calls.{Told, freshOf, answering, judgedOf, headedOf, messageOf, readyOf, enterOf}
+use Rattle.session.specs.Meaning.{tablesOf, modelOf, WordsGood, WellFormed}
+use Rattle.laws.proofs.Verdicts.{pick, Passed, verdict-cases, sound-of}
+use Rattle.laws.proofs.Kept.{empty-valid}
+use Rattle.laws.proofs.Steps.{message-kept, ready-kept, enter-kept}
+use Rattle.refine.proofs.Msrs.{field-block, bit-block, zeros-msrs}
+use Rattle.refine.proofs.Vcpus.{zeros-vcpus}
+use Rattle.refine.proofs.Awaited.{zeros-awaited}
+use Rattle.refine.proofs.Simulate.{Simulates, zero-words, no-pages, message-simulates, ready-simulates, enter-simulates}
+
+-- ---- fresh makes a well-formed session, whatever words were lent; it stands for the fresh model
+pub fresh-model : (s : Settings) (vcpus pages : List ℕ) → modelOf (clearedState (freshSession s) vcpus pages) ≡ fresh s
+unfolding cleared modeOfNumber
+fresh-model s vcpus pages =
+    let n = s .vcpus in
+    let k = length vcpus in
+    let waits = zeros-awaited k n ∙ ap (λ (i : ℕ). replicate i none) (sym (length-replicate n resting)) in
+    λ j. record {
+      tables = record { events = 0; vcpus = zeros-vcpus k n j; msrs = zeros-msrs k n j; pages = no-pages (cleared pages) j };
+      mode = On;
+      seq = 0;
+      awaited = waits j;
+      closed = false;
+    }
+
+pub fresh-formed : (s : Settings) (vcpus pages : List ℕ) → length vcpus ≡ 4352 → length pages ≡ 1024 → So (inRange s) → WellFormed (clearedState (freshSession s) vcpus pages)
+fresh-formed s vcpus pages v p ok =
+    record {
+      settings = ok;
+      words = zero-words s (freshSession s) vcpus pages v p (omega arith) (omega arith) refl refl;
+      tables = subst (λ (m : Model). Valid s (m .tables)) (sym (fresh-model s vcpus pages)) (empty-valid s ok);
+    }
+
+-- what `begin` leaves where it is not refused
+pub begin-fresh : (s : Settings) (vcpus pages : List ℕ) → So (inRange s) → (freshOf s vcpus pages .answer ≡ handled 0 Quiet) × (freshOf s vcpus pages .state ≡ clearedState (freshSession s) vcpus pages)
+unfolding freshOf
+begin-fresh s vcpus pages ok = (rw ok, rw ok)
+
+-- ---- every call keeps it
+formed : (st : State) (r : Told) (q : model.Step) → WellFormed st → Simulates st r q → Valid (st .session .settings) (q .model .tables) → WellFormed (r .state)
+formed st r q f m a =
+    let same : tablesOf (r .state) ≡ q .model .tables = ap (λ (x : Model). x .tables) (m .model) in
+    record {
+      settings = subst (λ (x : Settings). So (inRange x)) (sym (m .settings)) (f .settings);
+      words = m .words;
+      tables = subst (λ (x : Settings). Valid x (tablesOf (r .state))) (sym (m .settings)) (subst (λ (t : Tables). Valid (st .session .settings) t) (sym same) a);
+    }
+
+pub message-formed : (st : State) (msg out guest : List ℕ) → WellFormed st → WellFormed (messageOf st msg out guest .state)
+message-formed st msg out guest f =
+    formed st _ _ f (message-simulates st f out guest msg) (message-kept (st .session .settings) (f .settings) (modelOf st) msg out guest (f .tables))
+
+pub ready-formed : (st : State) (vcpu : ℕ) → WellFormed st → WellFormed (readyOf st vcpu .state)
+ready-formed st vcpu f = formed st _ _ f (ready-simulates st f vcpu) (ready-kept (st .session .settings) (f .settings) (modelOf st) vcpu (f .tables))
+
+pub enter-formed : (st : State) (vcpu : ℕ) (block out : List ℕ) → WellFormed st → WellFormed (enterOf st vcpu block out .state)
+enter-formed st vcpu block out f =
+    formed st _ _ f (enter-simulates st f vcpu block out) (enter-kept (st .session .settings) (f .settings) (modelOf st) vcpu block out (f .tables))
+
+-- ---- demand 2: a command changes no other vCPU's block, unless it closes the session. Any bits in the session.
+abbrev pub block : List ℕ → ℕ → List ℕ
+block w i = take 272 (drop (i * 272) w)
+
+module _ (st : State) (guest d : List ℕ) (i : ℕ) (other : i ≢ vcpuOf d) where
+  abbrev Apart : Change → Type 0
+  Apart c = block (change st guest d c .state .vcpus) i ≡ block (st .vcpus) i
+
+  one-field : (k x : ℕ) → k < 272 → block (setField (st .vcpus) (vcpuOf d) k x) i ≡ block (st .vcpus) i
+  one-field k x h = field-block (st .vcpus) (vcpuOf d) k x i h other
+
+  change-apart : (id : ℕ) (f : Facts) → Passed (st .session .settings) f id d → Apart (changeOf id d)
+  unfolding changeOf change
+  change-apart id f p =
+      pick Apart (eqb id 5) _ _ (λ _. refl)
+      (λ _. pick Apart (eqb id 7) _ _ (λ _. refl)
+      (λ _. pick Apart (eqb id 9) _ _ (λ _. one-field PAUSES _ (omega arith))
+      (λ _. pick Apart (eqb id 10) _ _ (λ _. one-field EVENTS _ (omega arith))
+      (λ _. pick Apart (eqb id 11) _ _ (λ _. one-field CRS _ (omega arith))
+      (λ _. pick Apart (eqb id 12) _ _
+      (λ e. let q = rw (eqb-true id 12 e) at p in
+      bit-block (st .vcpus) (vcpuOf d) (registerOf d) (enables id d) (not-false _ (sound-of (st .session .settings) 12 d (q .valid) .msr)) i other)
+      (λ _. pick Apart (eqb id 13) _ _ (λ _. refl)
+      (λ _. pick Apart (eqb id 14) _ _ (λ _. one-field SINGLESTEP _ (omega arith))
+      (λ _. pick Apart (eqb id 15) _ _ (λ _. refl) (λ _. refl)))))))))
+
+  end-apart : (crash : Bool) → Apart (EndWait (vcpuOf d) crash)
+  unfolding change
+  end-apart crash = field-block (setField (st .vcpus) (vcpuOf d) AWAITED 0) (vcpuOf d) AWAITED-SEQ 0 i (omega arith) other ∙ one-field AWAITED 0 (omega arith)
+
+  abbrev Spares : Told → Type 0
+  Spares r = (r .answer .number ≡ 1 → ⊥) → (block (r .state .vcpus) i ≡ block (st .vcpus) i) × (r .state .session .ready ≡ st .session .ready)
+
+  ready-kept-by : (c : Change) → change st guest d c .state .session .ready ≡ st .session .ready
+  unfolding change
+  ready-kept-by Nothing = refl
+  ready-kept-by (SetVmEvent event on) = refl
+  ready-kept-by (WritePhysical gpa) = refl
+  ready-kept-by (QueuePause vcpu wait) = refl
+  ready-kept-by (SetVcpuEvent vcpu event on) = refl
+  ready-kept-by (SetCr vcpu cr on) = refl
+  ready-kept-by (SetMsr vcpu msr on) = refl
+  ready-kept-by (SetPages view count) = refl
+  ready-kept-by (SetSinglestep vcpu on) = refl
+  ready-kept-by (SetReplies mode now) = refl
+  ready-kept-by (EndWait vcpu crash) = refl
+
+  judged-apart : (id seq : ℕ) (out : List ℕ) (f : Facts) → Spares (judgedOf st id seq d out guest (verdict (st .session .settings) f id seq d))
+  unfolding judgedOf answering
+  judged-apart id seq out f =
+      verdict-cases (λ v. Spares (judgedOf st id seq d out guest v)) (st .session .settings) f id seq d (λ h. absurd (h refl)) (λ code _ _. (refl, refl))
+      (λ p _. (change-apart id f p, ready-kept-by (changeOf id d))) (λ _ _. (end-apart (eqb (getD d 8 0) 2), ready-kept-by (EndWait (vcpuOf d) (eqb (getD d 8 0) 2))))
+
+pub message-apart : (st : State) (msg out guest : List ℕ) (i : ℕ) → i ≢ vcpuOf (drop 8 msg) → (messageOf st msg out guest .answer .number ≡ 1 → ⊥)
+    → (block (messageOf st msg out guest .state .vcpus) i ≡ block (st .vcpus) i) × (messageOf st msg out guest .state .session .ready ≡ st .session .ready)
+unfolding messageOf headedOf
+message-apart st msg out guest i other =
+    pick (Spares st guest (drop 8 msg) i other) (not (eqb (st .session .tool .closed) 0)) _ _ (λ _ _. (refl, refl))
+    (λ _. pick (Spares st guest (drop 8 msg) i other) (ltb (length out) 4112) _ _ (λ _ _. (refl, refl)) (λ _. by-header (headerOf msg)))
+  where
+    by-header : (h : Header) → Spares st guest (drop 8 msg) i other (headedOf st (drop 8 msg) out guest h)
+    by-header Broken = λ h. absurd (h refl)
+    by-header (Whole id size seq) = judged-apart st guest (drop 8 msg) i other id seq out (factsIn st (length guest) (vcpuOf (drop 8 msg)))
+
+-- ---- an error changes no tables and no guest memory, message 13 with -12 excepted: a message that fails leaves all but the next event's seq
+pub failed-keeps : (st : State) (id seq : ℕ) (d out guest : List ℕ) (code : ℤ)
+    → let r = judgedOf st id seq d out guest (Fails code) in
+    (r .state ≡ withSeqOf st (answerSeq (modeOfNumber (st .session .tool .mode)) (st .session .tool .seq) code)) × (r .guest ≡ guest)
+unfolding judgedOf answering
+failed-keeps st id seq d out guest code = (refl, refl)
+
+-- and of the changes message 13's alone gives an error
+pub change-fails : (st : State) (guest d : List ℕ) (c : Change) → isError (change st guest d c .code) ≡ true → (view : ℕ) × (n : ℕ) × (c ≡ SetPages view n)
+unfolding change
+change-fails st guest d Nothing e = absurd (false≢true e)
+change-fails st guest d (SetVmEvent event on) e = absurd (false≢true e)
+change-fails st guest d (WritePhysical gpa) e = absurd (false≢true e)
+change-fails st guest d (QueuePause vcpu wait) e = absurd (false≢true e)
+change-fails st guest d (SetVcpuEvent vcpu event on) e = absurd (false≢true e)
+change-fails st guest d (SetCr vcpu cr on) e = absurd (false≢true e)
+change-fails st guest d (SetMsr vcpu msr on) e = absurd (false≢true e)
+change-fails st guest d (SetPages view n) e = (view, n, refl)
+change-fails st guest d (SetSinglestep vcpu on) e = absurd (false≢true e)
+change-fails st guest d (SetReplies mode now) e = absurd (false≢true e)
+change-fails st guest d (EndWait vcpu crash) e = absurd (false≢true e)
