@@ -8,13 +8,13 @@ use kvmi::Settings;
 pub struct Tool {
     // VM event switches, bit e for event e.
     pub events: u64,
+    // How many page words are in use.
+    pub pages: u64,
     pub closed: u32,
     // 0: replies on; 1: off; any other: off, and errors told by CMD_ERROR events.
     pub mode: u32,
     // The next event's seq.
     pub seq: u32,
-    // How many page words are in use.
-    pub pages: u32,
 }
 
 #[repr(C)]
