@@ -1,0 +1,27 @@
+use mathlib.Core.Path.{_≡_, sym, ap, _∙_}
+use native.Mathlib.Omega.{arith}
+use lib.ListN.{List·getD-eq-default}
+use borrow.Author.Needs.{needs}
+use Rattle.store.proofs.words.word.Statement.{statement}
+use Rattle.store.proofs.words.word.Tie as tie
+use Rattle.store.proofs.words.word.Reads as reads
+use Rattle.store.proofs.words.word.Lts as lts
+
+-- src/words.rt:26:27
+mul-result : tie.Need-mul-result
+mul-result c = search needs
+
+-- src/words.rt:26:27
+shared-slice-read-result : tie.Need-shared-slice-read-result
+shared-slice-read-result c = search needs
+
+-- src/words.rt:23:1
+returns : tie.Need-returns
+returns c = search needs
+
+-- src/words.rt:23:1
+returns-2 : tie.Need-returns-2
+returns-2 c = sym (List·getD-eq-default _ 0 (c .if1 .left))
+
+pub word-spec : {M : Type 1} → statement M
+word-spec = tie.close (tie.spec mul-result shared-slice-read-result returns returns-2)
