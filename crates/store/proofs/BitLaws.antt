@@ -6,11 +6,17 @@ use native.Mathlib.Nat.{add-mul, le-trans, mod-le, mod-lt, mul-le-mul-right, div
 use native.Mathlib.Omega.{arith}
 use lib.Arith.{digits-lt}
 use lib.Pow.{pow-add, shl-exact, shr-lt, split}
+use mir.Val.{boolByte}
 use Rattle.kvmi.specs.Bits.{bit, bitOf, isOn, putBit}
 
 pub bit-small : (on : Bool) → bit on < 2
 bit-small true = omega arith
 bit-small false = omega arith
+
+-- a bool as a number
+pub bool-bit : (on : Bool) → boolByte on ≡ bit on
+bool-bit true = refl
+bool-bit false = refl
 
 -- a bit's share of a word
 pub bit-le : (w k : ℕ) → w / 2 ^ k % 2 * 2 ^ k ≤ w

@@ -3,7 +3,7 @@ use mathlib.Core.Path.{_≡_, refl, sym, ap, _∙_}
 use mathlib.Core.Bool.{Bool, true, false, cond, _&&_}
 use mathlib.Core.Logic.{⊎-elim}
 use mathlib.Core.List.{List, [], _∷_, _++_, append-assoc, append-nil}
-use Prim.Native.Nat.{ℕ, zero, suc, _+_, _-_, _*_, _/_, _≤_, _<_, min}
+use Prim.Native.Nat.{ℕ, zero, suc, _+_, _-_, _*_, _/_, _^_, _≤_, _<_, min}
 use native.Mathlib.Nat.{add-zero}
 use native.Mathlib.Numerals.{add-one}
 use native.Mathlib.Omega.{arith}
@@ -71,7 +71,7 @@ bisect-le (suc n) ws key base len = go (eqb len 0) refl (bisect-le n ws key (bas
         let some : len ≡ 0 → ⊥ = eqb-false len 0 e in
         let high : bisect n ws key (base + len / 2 + 1) (len - len / 2 - 1) ≤ base + len = omega arith in
         let low : bisect n ws key base (len / 2) ≤ base + len = omega arith in
-        cond-le _ _ _ _ high low
+        cond-le (ltb (wordKey (getD ws (base + len / 2) 0)) key) _ _ _ high low
 
 pub place-le : (ws : List ℕ) (count key : ℕ) → placeOf ws count key ≤ count
 unfolding placeOf
@@ -168,6 +168,10 @@ part-clamped d a = ⊎-elim inner outer (le-or-lt a (length d))
     outer h =
         let e : min a (length d) ≡ length d = omega arith in
         rw (e, drop-of-length-le d {i = a} (omega arith), drop-length d, take-nil (min (length d + 16) (length d) - length d))
+
+pub page-bound : (e : List ℕ) → entryOf e .page < 2 ^ 52
+unfolding entryOf
+page-bound e = omega arith
 
 pub run-step : (n i limit view : ℕ) (d : List ℕ) (t : PageTable) → i < n
     → putEntries limit view (entriesOf (n - i) (drop (i * 16) d)) t

@@ -71,7 +71,14 @@ fn remove(words: &mut [u64], count: usize, at: usize)
 }
 
 // An entry for a page whose word stands at a place: at rwx the word goes.
-fn change_word(words: &mut [u64], count: usize, at: usize, key: u64, access: u8, skipped: bool) -> Taken
+fn change_word(
+    words: &mut [u64],
+    count: usize,
+    at: usize,
+    key: u64,
+    access: u8,
+    skipped: bool,
+) -> Taken
     requires { ⌜ (at < count) × (count ≤ length (now words)) × (key < 2 ^ 55) ⌝ }
     ensures { λ r. ⌜ pageTable (now (words .exit)) (r .count) (r .skipped) ≡ changeWord (pageTable (now (words .entry)) count skipped) at key access ⌝ }
     ensures { λ r. ⌜ r .count ≤ length (now (words .entry)) ⌝ }
@@ -89,7 +96,15 @@ fn change_word(words: &mut [u64], count: usize, at: usize, key: u64, access: u8,
 }
 
 // An entry for a page without a word, which belongs at a place: skipped where there is no room for it.
-fn add_word(words: &mut [u64], count: usize, limit: usize, at: usize, key: u64, access: u8, skipped: bool) -> Taken
+fn add_word(
+    words: &mut [u64],
+    count: usize,
+    limit: usize,
+    at: usize,
+    key: u64,
+    access: u8,
+    skipped: bool,
+) -> Taken
     requires { ⌜ (at ≤ count) × (count ≤ length (now words)) × (key < 2 ^ 55) ⌝ }
     ensures { λ r. ⌜ pageTable (now (words .exit)) (r .count) (r .skipped) ≡ addWord limit (pageTable (now (words .entry)) count skipped) at key access ⌝ }
     ensures { λ r. ⌜ r .count ≤ length (now (words .entry)) ⌝ }
@@ -120,7 +135,14 @@ fn stands_at(words: &[u64], count: usize, key: u64, at: usize) -> bool
 }
 
 // One entry.
-fn put_entry(words: &mut [u64], count: usize, limit: usize, key: u64, access: u8, skipped: bool) -> Taken
+fn put_entry(
+    words: &mut [u64],
+    count: usize,
+    limit: usize,
+    key: u64,
+    access: u8,
+    skipped: bool,
+) -> Taken
     requires { ⌜ (count ≤ length (now words)) × (key < 2 ^ 55) ⌝ }
     ensures { λ r. ⌜ pageTable (now (words .exit)) (r .count) (r .skipped) ≡ putEntry limit key access (pageTable (now (words .entry)) count skipped) ⌝ }
     ensures { λ r. ⌜ r .count ≤ length (now (words .entry)) ⌝ }
@@ -144,7 +166,14 @@ pub fn read_entry(e: &[u8]) -> PageEntry
 }
 
 // The n entries of `d`, in order. One that is skipped does not stop those behind it.
-pub fn put_entries(words: &mut [u64], count: usize, limit: usize, view: u16, n: u16, d: &[u8]) -> Taken
+pub fn put_entries(
+    words: &mut [u64],
+    count: usize,
+    limit: usize,
+    view: u16,
+    n: u16,
+    d: &[u8],
+) -> Taken
     ensures { λ r. ⌜ pageTable (now (words .exit)) (r .count) (r .skipped) ≡ runEntries limit view (entriesOf n (now (d .entry))) (now (words .entry)) count ⌝ }
 {
     let first = ((view % 8) as u64) * 4503599627370496;

@@ -10,10 +10,15 @@ pub const BLOCK_WORDS: usize = 272;
 
 // The plain fields: the switches and queues of a vCPU, and the event whose reply is awaited with its seq.
 pub const SINGLESTEP: usize = 0;
+
 pub const CRS: usize = 1;
+
 pub const EVENTS: usize = 2;
+
 pub const PAUSES: usize = 3;
+
 pub const AWAITED: usize = 4;
+
 pub const AWAITED_SEQ: usize = 5;
 
 // The first word of MSR switches.

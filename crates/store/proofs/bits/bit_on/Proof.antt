@@ -1,4 +1,4 @@
-use mathlib.Core.Path.{_≡_, sym, ap, _∙_}
+use mathlib.Core.Path.{refl, sym}
 use Rattle.kvmi.specs.Bits.{isOn, bitOf}
 use Rattle.store.proofs.BitLaws.{off-past}
 use borrow.Author.Needs.{needs}

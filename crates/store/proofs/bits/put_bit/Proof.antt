@@ -2,7 +2,8 @@ use mathlib.Core.Path.{_≡_, sym, ap, _∙_}
 use native.Mathlib.Omega.{arith}
 use borrow.Author.Tests.{lt-ltb, le-ltb, lt-leb, le-leb, eq-eqb, ne-eqb}
 use Rattle.kvmi.specs.Bits.{putBit, bitOf, bit}
-use Rattle.store.proofs.BitLaws.{bit-le, bit-small, shifted, put-fits}
+use Rattle.store.proofs.BitLaws.{bit-le, bit-small, bool-bit, shifted, put-fits}
+use Prim.Native.Nat.{_/_, _%_, _^_}
 use borrow.Author.Needs.{needs}
 use Rattle.store.proofs.bits.put_bit.Statement.{statement}
 use Rattle.store.proofs.bits.put_bit.Tie as tie
@@ -19,7 +20,7 @@ shl-result c = search needs
 
 -- src/bits.rt:20:9
 sub-result : tie.Need-sub-result
-sub-result c = search needs
+sub-result c = rw (shifted (c .before .args .w / 2 ^ c .before .args .k % 2) (c .before .args .k) (omega arith) (c .if1 .taken)) (bit-le (c .before .args .w) (c .before .args .k))
 
 -- src/bits.rt:20:28
 cast-result : tie.Need-cast-result
@@ -31,12 +32,26 @@ shl-result-2 c = search needs
 
 -- src/bits.rt:20:9
 add-result : tie.Need-add-result
-add-result c = search needs
+add-result c =
+    let w = c .before .args .w in
+    let k = c .before .args .k in
+    let on = c .before .args .on in
+    rw (shifted (w / 2 ^ k % 2) k (omega arith) (c .if1 .taken), bool-bit on, shifted (bit on) k (bit-small on) (c .if1 .taken))
+    (record { fits = put-fits w k (bit on) (bit-small on) (c .before .fits .w .fits) (c .if1 .taken) })
 
 -- src/bits.rt:15:1
 returns : tie.Need-returns
 unfolding putBit bitOf
-returns c = search needs
+returns c =
+    let w = c .before .args .w in
+    let k = c .before .args .k in
+    let on = c .before .args .on in
+    rw (
+      lt-ltb k 64 (c .if1 .taken),
+      shifted (w / 2 ^ k % 2) k (omega arith) (c .if1 .taken),
+      bool-bit on,
+      shifted (bit on) k (bit-small on) (c .if1 .taken),
+    )
 
 -- src/bits.rt:15:1
 returns-2 : tie.Need-returns-2

@@ -24,7 +24,7 @@ smaller-requires c κs = search needs
 -- src/pages.rt:33:5
 loop-holds : tie.Need-loop-holds Inv-loop μ-loop
 unfolding placeOf
-loop-holds c = search needs
+loop-holds c = (omega arith, rw (c .smaller .ensures))
 
 -- src/pages.rt:35:19
 add-mid : tie.Need-add-mid Inv-loop μ-loop
@@ -57,7 +57,7 @@ loop-less c = search needs
 -- src/pages.rt:33:5
 loop-again : tie.Need-loop-again Inv-loop μ-loop
 unfolding wordKey
-loop-again c = search needs
+loop-again c = (omega arith, c .before .before .before .loop .inv .1 ∙ bisect-above _ _ _ _ (omega arith) (c .if1 .taken))
 
 -- src/pages.rt:33:5
 loop-less-2 : tie.Need-loop-less-2 Inv-loop μ-loop
@@ -66,12 +66,12 @@ loop-less-2 c = search needs
 -- src/pages.rt:33:5
 loop-again-2 : tie.Need-loop-again-2 Inv-loop μ-loop
 unfolding wordKey
-loop-again-2 c = search needs
+loop-again-2 c = (omega arith, c .before .before .before .loop .inv .1 ∙ bisect-below _ _ _ _ (omega arith) (c .if1 .left))
 
 -- src/pages.rt:28:1
 returns : tie.Need-returns Inv-loop μ-loop
 unfolding bisect
-returns c = search needs
+returns c = let e : c .before .loop .len ≡ 0 = omega arith in sym (c .before .loop .inv .1 ∙ rw e)
 
 pub place-spec : {M : Type 1} → statement M
 place-spec =

@@ -70,7 +70,11 @@ same-length c = search needs
 
 -- src/pages.rt:60:1
 returns : tie.Need-returns Inv-loop μ-loop
-returns c = let l = c .before .loop in let e : c .before .before .args .count ≡ l .i + 1 = omega arith in ?
+returns c =
+    let l = c .before .loop in
+    let e : c .before .before .args .count ≡ l .i + 1 = omega arith in
+    let f : c .before .before .args .count - 1 ≡ l .i = omega arith in
+    sym (l .inv .2 ∙ rw (f, e) (remove-last (l .words) (l .i) (omega arith)))
 
 pub remove-spec : {M : Type 1} → statement M
 remove-spec =

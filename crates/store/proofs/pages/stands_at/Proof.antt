@@ -19,12 +19,12 @@ shared-slice-read-result c = search needs
 -- src/pages.rt:115:1
 returns : tie.Need-returns
 unfolding standsAt wordKey
-returns c = search needs
+returns c = rw (lt-ltb _ _ (c .before .if1 .taken))
 
 -- src/pages.rt:115:1
 returns-2 : tie.Need-returns-2
 unfolding standsAt
-returns-2 c = search needs
+returns-2 c = rw (le-ltb _ _ (c .if1 .left))
 
 pub stands-at-spec : {M : Type 1} → statement M
 stands-at-spec = tie.close (tie.spec mul-result shared-slice-read-result returns returns-2)

@@ -1,10 +1,11 @@
 use borrow.Author.Needs.{needs}
 use Rattle.store.specs.Words.{field, setField, msrSlot, msrWord, msrBitOn, setMsrBit, cleared}
-use mathlib.Core.Path.{_≡_, sym, ap, _∙_}
+use mathlib.Core.Path.{_≡_, refl, sym, ap, _∙_}
 use native.Mathlib.Omega.{arith}
 use Prim.Native.Nat.{_≤_, _-_}
 use mathlib.Core.List.{_++_, append-nil}
 use lib.ListN.{length, replicate, drop, length-set, drop-of-length-le}
+use lib.Seq.{drop-length}
 use borrow.Author.Fill.{fill-more}
 use Rattle.store.proofs.words.clear.Statement.{statement}
 use Rattle.store.proofs.words.clear.Tie as tie
@@ -48,7 +49,7 @@ same-length c = c .before .loop .inv .1
 -- src/words.rt:91:1
 returns : tie.Need-returns Inv-loop μ-loop
 unfolding cleared
-returns c = search needs
+returns c = let l = c .before .loop in let e : l .i ≡ length (c .before .before .args .words .now) = omega arith in l .inv .2 ∙ rw (e, drop-length, append-nil)
 
 pub clear-spec : {M : Type 1} → statement M
 clear-spec =

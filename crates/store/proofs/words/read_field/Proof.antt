@@ -1,6 +1,7 @@
 use mathlib.Core.Path.{_≡_, sym, ap, _∙_}
 use native.Mathlib.Omega.{arith}
 use Rattle.store.specs.Words.{field, setField, msrSlot, msrWord, msrBitOn, setMsrBit, cleared}
+use Prim.Native.Nat.{_+_, _*_}
 use lib.ListN.{List·getD-eq-default}
 use borrow.Author.Needs.{needs}
 use Rattle.store.proofs.words.read_field.Statement.{statement}
@@ -29,7 +30,7 @@ returns c = c .word .ensures
 -- src/words.rt:39:1
 returns-2 : tie.Need-returns-2
 unfolding field
-returns-2 c = sym (List·getD-eq-default _ 0 (omega arith))
+returns-2 c = sym (List·getD-eq-default (c .before .before .args .words .now) 0 {n = c .before .before .args .vcpu * 272 + c .before .before .args .k} (omega arith))
 
 pub read-field-spec : {M : Type 1} → statement M
 read-field-spec = tie.close (tie.spec mul-word add-word word-requires returns returns-2)

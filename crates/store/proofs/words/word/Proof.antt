@@ -21,7 +21,7 @@ returns c = search needs
 
 -- src/words.rt:23:1
 returns-2 : tie.Need-returns-2
-returns-2 c = sym (List·getD-eq-default _ 0 (c .if1 .left))
+returns-2 c = sym (List·getD-eq-default (c .before .args .words .now) 0 {n = c .before .args .at} (c .if1 .left))
 
 pub word-spec : {M : Type 1} → statement M
 word-spec = tie.close (tie.spec mul-result shared-slice-read-result returns returns-2)

@@ -1,5 +1,6 @@
 use Rattle.store.specs.Words.{field, setField, msrSlot, msrWord, msrBitOn, setMsrBit, cleared}
 use mathlib.Core.Path.{_≡_, sym, ap, _∙_}
+use Prim.Native.Nat.{_%_}
 use native.Mathlib.Omega.{arith}
 use borrow.Author.Tests.{lt-ltb, le-ltb, lt-leb, le-leb, eq-eqb, ne-eqb}
 use borrow.Author.Needs.{needs}
@@ -40,7 +41,9 @@ same-length c = search needs
 -- src/words.rt:82:1
 returns : tie.Need-returns
 unfolding setMsrBit
-returns c = search needs
+returns c =
+    c .before .before .set-word .ensures
+    ∙ rw (c .before .before .before .before .put-bit .ensures, lt-ltb (c .before .before .before .before .before .msr-slot .result % 64) 64 (omega arith), c .before .before .before .before .before .before .word .ensures, c .before .before .before .before .before .msr-slot .ensures, c .before .before .before .before .before .before .before .before .msr-word .ensures)
 
 pub write-msr-spec : {M : Type 1} → statement M
 write-msr-spec =
