@@ -5,6 +5,9 @@ ghost use lib.ListN.{length};
 ghost use Rattle.kvmi.specs.Message.{entryOf, entriesOf};
 ghost use Rattle.store.specs.PageWords.{placeOf, insertWord, removeWord, standsAt, pageTable, changeWord, addWord, putEntry, runEntries};
 
+// The access of a page that no word stands for: read, write and execute.
+const RWX: u8 = 7;
+
 // How many words are in use after entries were taken, and whether one was skipped for want of room.
 pub struct Taken {
     pub count: usize,
@@ -83,7 +86,7 @@ fn change_word(
     ensures { λ r. ⌜ pageTable (now (words .exit)) (r .count) (r .skipped) ≡ changeWord (pageTable (now (words .entry)) count skipped) at key access ⌝ }
     ensures { λ r. ⌜ r .count ≤ length (now (words .entry)) ⌝ }
 {
-    if access == 7 {
+    if access == RWX {
         remove(words, count, at);
         Taken {
             count: count - 1,
@@ -109,7 +112,7 @@ fn add_word(
     ensures { λ r. ⌜ pageTable (now (words .exit)) (r .count) (r .skipped) ≡ addWord limit (pageTable (now (words .entry)) count skipped) at key access ⌝ }
     ensures { λ r. ⌜ r .count ≤ length (now (words .entry)) ⌝ }
 {
-    if access == 7 {
+    if access == RWX {
         return Taken { count, skipped };
     }
     if count < smaller(limit, words.len()) {

@@ -1,22 +1,18 @@
+-- A word has no bit from 64 on. Assumes nothing.
 use mathlib.Core.Path.{refl, sym}
+use borrow.Author.Needs.{needs}
 use Rattle.kvmi.specs.Bits.{isOn, bitOf}
 use Rattle.store.proofs.BitLaws.{off-past}
-use borrow.Author.Needs.{needs}
 use Rattle.store.proofs.bits.bit_on.Statement.{statement}
 use Rattle.store.proofs.bits.bit_on.Tie as tie
-use Rattle.store.proofs.bits.bit_on.Reads as reads
-use Rattle.store.proofs.bits.bit_on.Lts as lts
 
--- src/bits.rt:11:18
 shr-result : tie.Need-shr-result
 shr-result c = search needs
 
--- src/bits.rt:8:1
 returns : tie.Need-returns
 unfolding isOn bitOf
 returns c = refl
 
--- src/bits.rt:8:1
 returns-2 : tie.Need-returns-2
 returns-2 c = sym (off-past _ _ (c .before .fits .w .fits) (c .if1 .left))
 

@@ -1,36 +1,28 @@
-use mathlib.Core.Path.{_≡_, sym, ap, _∙_}
+-- The bit that goes is part of the word, and the word with another there is below 2 ^ 64. Assumes nothing.
+use Prim.Native.Nat.{_/_, _%_, _^_}
 use native.Mathlib.Omega.{arith}
-use borrow.Author.Tests.{lt-ltb, le-ltb, lt-leb, le-leb, eq-eqb, ne-eqb}
+use borrow.Author.Tests.{lt-ltb, le-ltb}
+use borrow.Author.Needs.{needs}
 use Rattle.kvmi.specs.Bits.{putBit, bitOf, bit}
 use Rattle.store.proofs.BitLaws.{bit-le, bit-small, bool-bit, shifted, put-fits}
-use Prim.Native.Nat.{_/_, _%_, _^_}
-use borrow.Author.Needs.{needs}
 use Rattle.store.proofs.bits.put_bit.Statement.{statement}
 use Rattle.store.proofs.bits.put_bit.Tie as tie
-use Rattle.store.proofs.bits.put_bit.Reads as reads
-use Rattle.store.proofs.bits.put_bit.Lts as lts
 
--- src/bits.rt:19:20
 shr-was : tie.Need-shr-was
 shr-was c = search needs
 
--- src/bits.rt:20:14
 shl-result : tie.Need-shl-result
 shl-result c = search needs
 
--- src/bits.rt:20:9
 sub-result : tie.Need-sub-result
 sub-result c = rw (shifted (c .before .args .w / 2 ^ c .before .args .k % 2) (c .before .args .k) (omega arith) (c .if1 .taken)) (bit-le (c .before .args .w) (c .before .args .k))
 
--- src/bits.rt:20:28
 cast-result : tie.Need-cast-result
 cast-result c = search needs
 
--- src/bits.rt:20:27
 shl-result-2 : tie.Need-shl-result-2
 shl-result-2 c = search needs
 
--- src/bits.rt:20:9
 add-result : tie.Need-add-result
 add-result c =
     let w = c .before .args .w in
@@ -39,7 +31,6 @@ add-result c =
     rw (shifted (w / 2 ^ k % 2) k (omega arith) (c .if1 .taken), bool-bit on, shifted (bit on) k (bit-small on) (c .if1 .taken))
     (record { fits = put-fits w k (bit on) (bit-small on) (c .before .fits .w .fits) (c .if1 .taken) })
 
--- src/bits.rt:15:1
 returns : tie.Need-returns
 unfolding putBit bitOf
 returns c =
@@ -53,7 +44,6 @@ returns c =
       shifted (bit on) k (bit-small on) (c .if1 .taken),
     )
 
--- src/bits.rt:15:1
 returns-2 : tie.Need-returns-2
 returns-2 c = rw (le-ltb _ _ (c .if1 .left))
 

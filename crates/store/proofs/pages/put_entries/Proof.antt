@@ -1,20 +1,15 @@
-use borrow.Author.Needs.{needs}
+-- The loop's invariant: the entries that are left, on the words as they are, give the same as all of them at the start. The measure is how
+-- many are left. Assumes nothing.
 use mathlib.Core.Path.{_≡_, sym, ap, _∙_}
+use Prim.Native.Nat.{_≤_, _+_, _-_, _*_}
 use native.Mathlib.Omega.{arith}
-use Rattle.store.specs.PageWords.{keyOf, placeOf, standsAt, pageTable, changeWord, addWord, putEntry, putEntries, runEntries}
-use Prim.Native.Nat.{_≤_, _<_, _+_, _-_, _*_, min}
 use lib.ListN.{length, take, drop}
+use borrow.Author.Needs.{needs}
 use Rattle.kvmi.specs.Message.{entryOf, entriesOf}
-use mathlib.Core.List.{List}
-use Prim.Native.Nat.{ℕ}
+use Rattle.store.specs.PageWords.{keyOf, pageTable, putEntries, runEntries}
 use Rattle.store.proofs.PageLaws.{part-clamped, page-bound, run-step, run-end}
 use Rattle.store.proofs.pages.put_entries.Statement.{statement}
 use Rattle.store.proofs.pages.put_entries.Tie as tie
-use Rattle.store.proofs.pages.put_entries.Reads as reads
-use Rattle.store.proofs.pages.put_entries.Lts as lts
-use Rattle.store.proofs.pages.put_entry.Reads as put-entry-reads
-use Rattle.store.proofs.pages.read_entry.Reads as read-entry-reads
-use Rattle.store.proofs.pages.smaller.Reads as smaller-reads
 
 abbrev Inv-loop : tie.InvT-loop
 Inv-loop words₀ count limit view n d first t₀ i₀ words t i = (i ≤ n) × (length words ≡ length words₀) × (t .count ≤ length words₀) × (runEntries limit view (entriesOf n d) words₀ count ≡ putEntries limit view (entriesOf (n - i) (drop (i * 16) d)) (pageTable words (t .count) (t .skipped)))
@@ -22,19 +17,15 @@ Inv-loop words₀ count limit view n d first t₀ i₀ words t i = (i ≤ n) × 
 abbrev μ-loop : tie.MeasureT-loop
 μ-loop words₀ count limit view n d first t₀ i₀ words t i = n - i
 
--- src/pages.rt:150:18
 cast-first : tie.Need-cast-first Inv-loop μ-loop
 cast-first c = search needs
 
--- src/pages.rt:150:17
 mul-first : tie.Need-mul-first Inv-loop μ-loop
 mul-first c = search needs
 
--- src/pages.rt:152:16
 smaller-requires : tie.Need-smaller-requires Inv-loop μ-loop
 smaller-requires c κs = search needs
 
--- src/pages.rt:156:5
 loop-holds : tie.Need-loop-holds Inv-loop μ-loop
 unfolding runEntries
 loop-holds c =
@@ -42,59 +33,45 @@ loop-holds c =
     let e : a .n - 0 ≡ a .n = omega arith in
     (omega arith, omega arith, omega arith, rw (c .smaller .ensures, e))
 
--- src/pages.rt:157:26
 cast-smaller : tie.Need-cast-smaller Inv-loop μ-loop
 cast-smaller c = search needs
 
--- src/pages.rt:157:25
 mul-smaller : tie.Need-mul-smaller Inv-loop μ-loop
 mul-smaller c = search needs
 
--- src/pages.rt:157:13
 smaller-requires-2 : tie.Need-smaller-requires-2 Inv-loop μ-loop
 smaller-requires-2 c κs = search needs
 
--- src/pages.rt:158:25
 add-smaller : tie.Need-add-smaller Inv-loop μ-loop
 add-smaller c = search needs
 
--- src/pages.rt:158:13
 smaller-requires-3 : tie.Need-smaller-requires-3 Inv-loop μ-loop
 smaller-requires-3 c κs = search needs
 
--- src/pages.rt:159:28
 sub-read-entry : tie.Need-sub-read-entry Inv-loop μ-loop
 sub-read-entry c = search needs
 
--- src/pages.rt:159:28
 part-read-entry-start : tie.Need-part-read-entry-start Inv-loop μ-loop
 part-read-entry-start c = search needs
 
--- src/pages.rt:159:28
 part-read-entry-end : tie.Need-part-read-entry-end Inv-loop μ-loop
 part-read-entry-end c = search needs
 
--- src/pages.rt:159:13
 read-entry-requires : tie.Need-read-entry-requires Inv-loop μ-loop
 read-entry-requires c κs = search needs
 
--- src/pages.rt:160:46
 add-put-entry : tie.Need-add-put-entry Inv-loop μ-loop
 add-put-entry c = omega (arith, page-bound (take (c .before .before .before .before .smaller3 .result - c .before .before .before .before .before .smaller2 .result) (drop (c .before .before .before .before .before .smaller2 .result) (c .before .before .before .before .before .before .before .before .before .before .before .args .d .now))))
 
--- src/pages.rt:160:9
 put-entry-requires : tie.Need-put-entry-requires Inv-loop μ-loop
 put-entry-requires c κs = omega (arith, page-bound (take (c .before .before .before .before .smaller3 .result - c .before .before .before .before .before .smaller2 .result) (drop (c .before .before .before .before .before .smaller2 .result) (c .before .before .before .before .before .before .before .before .before .before .before .args .d .now))))
 
--- src/pages.rt:161:9
 add-i : tie.Need-add-i Inv-loop μ-loop
 add-i c = search needs
 
--- src/pages.rt:156:5
 loop-less : tie.Need-loop-less Inv-loop μ-loop
 loop-less c = search needs
 
--- src/pages.rt:156:5
 loop-again : tie.Need-loop-again Inv-loop μ-loop
 unfolding keyOf
 loop-again c =
@@ -113,11 +90,9 @@ loop-again c =
           ∙ ap (putEntries (a .limit) (a .view) (entriesOf (a .n - (l .i + 1)) (drop ((l .i + 1) * 16) (a .d .now)))) (sym (rw (page, access) at (c .before .before .put-entry .ensures .0))),
     )
 
--- src/pages.rt:147:1
 same-length : tie.Need-same-length Inv-loop μ-loop
 same-length c = search needs
 
--- src/pages.rt:147:1
 returns : tie.Need-returns Inv-loop μ-loop
 returns c =
     let a = c .before .before .before .before .before .args in

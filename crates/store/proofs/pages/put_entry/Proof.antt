@@ -1,41 +1,29 @@
-use mathlib.Core.Path.{_≡_, sym, ap, _∙_}
+-- A word that stands is in use, and a place is at most the count. Assumes nothing.
+use mathlib.Core.Path.{_≡_, sym, _∙_}
+use Prim.Native.Nat.{min}
 use native.Mathlib.Omega.{arith}
-use borrow.Author.Tests.{lt-ltb, le-ltb, lt-leb, le-leb, eq-eqb, ne-eqb}
-use Rattle.store.specs.PageWords.{keyOf, placeOf, standsAt, pageTable, changeWord, addWord, putEntry, putEntries, runEntries}
-use Prim.Native.Nat.{_≤_, _<_, _+_, _-_, _*_, min}
-use lib.ListN.{length, take, drop}
-use Rattle.store.proofs.PageLaws.{place-le, stands-lt}
+use lib.ListN.{length}
 use borrow.Author.Needs.{needs}
+use Rattle.store.specs.PageWords.{placeOf, putEntry}
+use Rattle.store.proofs.PageLaws.{place-le, stands-lt}
 use Rattle.store.proofs.pages.put_entry.Statement.{statement}
 use Rattle.store.proofs.pages.put_entry.Tie as tie
-use Rattle.store.proofs.pages.put_entry.Reads as reads
-use Rattle.store.proofs.pages.put_entry.Lts as lts
-use Rattle.store.proofs.pages.add_word.Reads as add-word-reads
-use Rattle.store.proofs.pages.change_word.Reads as change-word-reads
-use Rattle.store.proofs.pages.place.Reads as place-reads
-use Rattle.store.proofs.pages.stands_at.Reads as stands-at-reads
 
--- src/pages.rt:128:9
 place-requires : tie.Need-place-requires
 place-requires c κs = search needs
 
--- src/pages.rt:129:8
 stands-at-requires : tie.Need-stands-at-requires
 stands-at-requires c κs = search needs
 
--- src/pages.rt:130:9
 change-word-requires : tie.Need-change-word-requires
 change-word-requires c κs = omega (arith, stands-lt (c .before .before .before .before .before .before .before .args .words .now) (c .before .before .before .before .before .before .before .args .count) (c .before .before .before .before .before .before .before .args .key) (c .before .before .before .before .place .result) (sym (c .before .before .stands-at .ensures) ∙ c .before .if1 .taken))
 
--- src/pages.rt:132:9
 add-word-requires : tie.Need-add-word-requires
 add-word-requires c κs = omega (arith, place-le (c .before .before .before .before .before .before .before .args .words .now) (min (c .before .before .before .before .before .before .before .args .count) (length (c .before .before .before .before .before .before .before .args .words .now))) (c .before .before .before .before .before .before .before .args .key))
 
--- src/pages.rt:123:1
 same-length : tie.Need-same-length
 same-length c = search needs
 
--- src/pages.rt:123:1
 returns : tie.Need-returns
 unfolding putEntry
 returns c =
@@ -44,11 +32,9 @@ returns c =
     let p : c .before .before .before .before .before .before .before .place .result ≡ placeOf (a .words .now) (a .count) (a .key) = c .before .before .before .before .before .before .before .place .ensures ∙ rw m in
     (simp (← p, ← c .before .before .before .before .before .stands-at .ensures, c .before .before .before .before .if1 .taken, ← c .before .before .change-word .ensures .0), c .before .before .change-word .ensures .1)
 
--- src/pages.rt:123:1
 same-length-2 : tie.Need-same-length-2
 same-length-2 c = search needs
 
--- src/pages.rt:123:1
 returns-2 : tie.Need-returns-2
 unfolding putEntry
 returns-2 c =

@@ -1,14 +1,13 @@
-use borrow.Author.Needs.{needs}
-use Prim.Native.Nat.{_≤_, _<_, _+_, _-_, min}
-use Rattle.store.specs.PageWords.{wordKey, keyOf, bisect, placeOf, standsAt, insertWord, removeWord, pageTable, changeWord, addWord, putEntry, putEntries, runEntries}
-use mathlib.Core.Path.{_≡_, sym, ap, _∙_}
+-- The loop's invariant: to remove place i of the words as they are gives the same. The measure is what is left of them. Assumes nothing.
+use mathlib.Core.Path.{_≡_, sym, _∙_}
+use Prim.Native.Nat.{_<_, _+_, _-_}
 use native.Mathlib.Omega.{arith}
-use lib.ListN.{length, getD, set, take, drop, length-set}
+use lib.ListN.{length, length-set}
+use borrow.Author.Needs.{needs}
+use Rattle.store.specs.PageWords.{removeWord}
 use Rattle.store.proofs.PageLaws.{remove-step, remove-last}
 use Rattle.store.proofs.pages.remove.Statement.{statement}
 use Rattle.store.proofs.pages.remove.Tie as tie
-use Rattle.store.proofs.pages.remove.Reads as reads
-use Rattle.store.proofs.pages.remove.Lts as lts
 
 abbrev Inv-loop : tie.InvT-loop
 Inv-loop words₀ count at last i₀ words i = (i < count) × (length words ≡ length words₀) × (removeWord words₀ count at ≡ removeWord words count i)
@@ -16,59 +15,45 @@ Inv-loop words₀ count at last i₀ words i = (i < count) × (length words ≡ 
 abbrev μ-loop : tie.MeasureT-loop
 μ-loop words₀ count at last i₀ words i = count - i
 
--- src/pages.rt:64:16
 sub-last : tie.Need-sub-last Inv-loop μ-loop
 sub-last c = search needs
 
--- src/pages.rt:66:5
 loop-holds : tie.Need-loop-holds Inv-loop μ-loop
 loop-holds c = search needs
 
--- src/pages.rt:67:26
 add-words : tie.Need-add-words Inv-loop μ-loop
 add-words c = search needs
 
--- src/pages.rt:67:20
 mul-words : tie.Need-mul-words Inv-loop μ-loop
 mul-words c = search needs
 
--- src/pages.rt:67:20
 slice-read-words : tie.Need-slice-read-words Inv-loop μ-loop
 slice-read-words c = search needs
 
--- src/pages.rt:67:9
 mul-words-2 : tie.Need-mul-words-2 Inv-loop μ-loop
 mul-words-2 c = search needs
 
--- src/pages.rt:67:9
 slice-write-words : tie.Need-slice-write-words Inv-loop μ-loop
 slice-write-words c = search needs
 
--- src/pages.rt:68:9
 add-i : tie.Need-add-i Inv-loop μ-loop
 add-i c = search needs
 
--- src/pages.rt:66:5
 loop-less : tie.Need-loop-less Inv-loop μ-loop
 loop-less c = search needs
 
--- src/pages.rt:66:5
 loop-again : tie.Need-loop-again Inv-loop μ-loop
 loop-again c = let l = c .before .before .loop in (omega arith, simp length-set (omega arith), l .inv .2 ∙ remove-step (l .words) _ (l .i) (omega arith) (omega arith))
 
--- src/pages.rt:70:5
 mul-words-3 : tie.Need-mul-words-3 Inv-loop μ-loop
 mul-words-3 c = search needs
 
--- src/pages.rt:70:5
 slice-write-words-2 : tie.Need-slice-write-words-2 Inv-loop μ-loop
 slice-write-words-2 c = search needs
 
--- src/pages.rt:60:1
 same-length : tie.Need-same-length Inv-loop μ-loop
 same-length c = search needs
 
--- src/pages.rt:60:1
 returns : tie.Need-returns Inv-loop μ-loop
 returns c =
     let l = c .before .loop in

@@ -1,25 +1,19 @@
-use mathlib.Core.Path.{_≡_, sym, ap, _∙_}
-use native.Mathlib.Omega.{arith}
+-- Past the end a list reads as its default. Assumes nothing.
+use mathlib.Core.Path.{sym}
 use lib.ListN.{List·getD-eq-default}
 use borrow.Author.Needs.{needs}
 use Rattle.store.proofs.words.word.Statement.{statement}
 use Rattle.store.proofs.words.word.Tie as tie
-use Rattle.store.proofs.words.word.Reads as reads
-use Rattle.store.proofs.words.word.Lts as lts
 
--- src/words.rt:26:27
 mul-result : tie.Need-mul-result
 mul-result c = search needs
 
--- src/words.rt:26:27
 shared-slice-read-result : tie.Need-shared-slice-read-result
 shared-slice-read-result c = search needs
 
--- src/words.rt:23:1
 returns : tie.Need-returns
 returns c = search needs
 
--- src/words.rt:23:1
 returns-2 : tie.Need-returns-2
 returns-2 c = sym (List·getD-eq-default (c .before .args .words .now) 0 {n = c .before .args .at} (c .if1 .left))
 

@@ -1,44 +1,31 @@
-use Rattle.store.specs.Words.{field, setField, msrSlot, msrWord, msrBitOn, setMsrBit, cleared}
-use mathlib.Core.Path.{_≡_, sym, ap, _∙_}
+-- A slot's place in its word is below 64, so that the bit is there to be put. Assumes nothing.
+use mathlib.Core.Path.{_∙_}
 use Prim.Native.Nat.{_%_}
 use native.Mathlib.Omega.{arith}
-use borrow.Author.Tests.{lt-ltb, le-ltb, lt-leb, le-leb, eq-eqb, ne-eqb}
+use borrow.Author.Tests.{lt-ltb}
 use borrow.Author.Needs.{needs}
+use Rattle.store.specs.Words.{setMsrBit}
 use Rattle.store.proofs.words.write_msr.Statement.{statement}
 use Rattle.store.proofs.words.write_msr.Tie as tie
-use Rattle.store.proofs.words.write_msr.Reads as reads
-use Rattle.store.proofs.words.write_msr.Lts as lts
-use Rattle.store.proofs.bits.put_bit.Reads as put-bit-reads
-use Rattle.store.proofs.words.msr_slot.Reads as msr-slot-reads
-use Rattle.store.proofs.words.msr_word.Reads as msr-word-reads
-use Rattle.store.proofs.words.set_word.Reads as set-word-reads
-use Rattle.store.proofs.words.word.Reads as word-reads
 
--- src/words.rt:85:9
 msr-word-requires : tie.Need-msr-word-requires
 msr-word-requires c κs = search needs
 
--- src/words.rt:86:21
 word-requires : tie.Need-word-requires
 word-requires c κs = search needs
 
--- src/words.rt:86:38
 msr-slot-requires : tie.Need-msr-slot-requires
 msr-slot-requires c κs = search needs
 
--- src/words.rt:86:9
 put-bit-requires : tie.Need-put-bit-requires
 put-bit-requires c κs = search needs
 
--- src/words.rt:87:5
 set-word-requires : tie.Need-set-word-requires
 set-word-requires c κs = search needs
 
--- src/words.rt:82:1
 same-length : tie.Need-same-length
 same-length c = search needs
 
--- src/words.rt:82:1
 returns : tie.Need-returns
 unfolding setMsrBit
 returns c =
