@@ -77,6 +77,9 @@ pub place-le : (ws : List ℕ) (count key : ℕ) → placeOf ws count key ≤ co
 unfolding placeOf
 place-le ws count key = omega (arith, bisect-le count ws key 0 count)
 
+pub place-whole : (ws : List ℕ) (count key : ℕ) → count ≤ length ws → placeOf ws (min count (length ws)) key ≡ placeOf ws count key
+place-whole ws count key h = let e : min count (length ws) ≡ count = omega arith in rw e
+
 pub stands-lt : (ws : List ℕ) (count key at : ℕ) → standsAt ws count key at ≡ true → at < count
 unfolding standsAt
 stands-lt ws count key at h = go (ltb at count) refl h
@@ -156,24 +159,27 @@ take-min n l = ⊎-elim
     (λ h. let e : min n (length l) ≡ length l = omega arith in rw (e, take-length l, take-all n l (omega arith)))
     (le-or-lt n (length l))
 
--- 16 bytes from a place, or as many of them as there are
-pub part-clamped : (d : List ℕ) (a : ℕ)
-    → take (min (min a (length d) + 16) (length d) - min a (length d)) (drop (min a (length d)) d) ≡ take 16 (drop a d)
-part-clamped d a = ⊎-elim inner outer (le-or-lt a (length d))
+-- 16 bytes from a place, or as many of them as there are, as code lends them
+pub part-clamped : (d : List ℕ) (at a b : ℕ) → a ≡ min at (length d) → b ≡ min (a + 16) (length d) → take (b - a) (drop a d) ≡ take 16 (drop at d)
+part-clamped d at a b e f = ⊎-elim inner outer (le-or-lt at (length d))
   where
-    inner : a ≤ length d → take (min (min a (length d) + 16) (length d) - min a (length d)) (drop (min a (length d)) d) ≡ take 16 (drop a d)
-    inner h = let e : min a (length d) ≡ a = omega arith in let m : min (a + 16) (length d) - a ≡ min 16 (length (drop a d)) = rw length-drop (omega arith) in rw (e, m, take-min)
+    inner : at ≤ length d → take (b - a) (drop a d) ≡ take 16 (drop at d)
+    inner h =
+        let s : a ≡ at = omega arith in
+        let n : b - at ≡ min 16 (length (drop at d)) = rw length-drop (omega arith) in
+        rw (s, n, take-min)
 
-    outer : length d < a → take (min (min a (length d) + 16) (length d) - min a (length d)) (drop (min a (length d)) d) ≡ take 16 (drop a d)
+    outer : length d < at → take (b - a) (drop a d) ≡ take 16 (drop at d)
     outer h =
-        let e : min a (length d) ≡ length d = omega arith in
-        rw (e, drop-of-length-le d {i = a} (omega arith), drop-length d, take-nil (min (length d + 16) (length d) - length d))
+        let s : a ≡ length d = omega arith in
+        rw (s, drop-of-length-le d {i = at} (omega arith), drop-length d, take-nil (b - length d))
 
-pub page-bound : (e : List ℕ) → entryOf e .page < 2 ^ 52
+pub page-bound : {page : ℕ} (e : List ℕ) → page ≡ entryOf e .page → page < 2 ^ 52
 unfolding entryOf
-page-bound e = omega arith
+page-bound e h = omega arith
 
-pub run-step : (n i limit view : ℕ) (d : List ℕ) (t : PageTable) → i < n
+-- what entry i of n does, and then those behind it
+run-step : (n i limit view : ℕ) (d : List ℕ) (t : PageTable) → i < n
     → putEntries limit view (entriesOf (n - i) (drop (i * 16) d)) t
     ≡ putEntries limit view (entriesOf (n - (i + 1)) (drop ((i + 1) * 16) d))
     (putEntry limit (keyOf view (entryOf (take 16 (drop (i * 16) d)) .page)) (entryOf (take 16 (drop (i * 16) d)) .access) t)
@@ -182,6 +188,15 @@ run-step n i limit view d t h =
     let e : n - i ≡ suc (n - (i + 1)) = omega arith in
     let m : (i + 1) * 16 ≡ i * 16 + 16 = omega arith in
     rw (e, m, ← drop-drop 16 (i * 16) d)
+
+pub run-entry : (n i limit view : ℕ) (d p : List ℕ) (page access : ℕ) (t t′ : PageTable)
+    → i < n
+    → p ≡ take 16 (drop (i * 16) d)
+    → page ≡ entryOf p .page
+    → access ≡ entryOf p .access
+    → t′ ≡ putEntry limit (keyOf view page) access t
+    → putEntries limit view (entriesOf (n - i) (drop (i * 16) d)) t ≡ putEntries limit view (entriesOf (n - (i + 1)) (drop ((i + 1) * 16) d)) t′
+run-entry n i limit view d p page access t t′ h e f g k = rw (k, f, g, e) (run-step n i limit view d t h)
 
 pub run-end : (n i limit view : ℕ) (d : List ℕ) (t : PageTable) → n ≤ i → putEntries limit view (entriesOf (n - i) d) t ≡ t
 unfolding putEntries entriesOf

@@ -1,18 +1,23 @@
 -- The loop's invariant: the entries that are left, on the words as they are, give the same as all of them at the start. The measure is how
 -- many are left. Assumes nothing.
-use mathlib.Core.Path.{_≡_, sym, ap, _∙_}
-use Prim.Native.Nat.{_≤_, _+_, _-_, _*_}
+use mathlib.Core.Path.{_≡_, sym, _∙_}
+use Prim.Native.Nat.{_≤_, _-_, _*_}
 use native.Mathlib.Omega.{arith}
-use lib.ListN.{length, take, drop}
+use lib.ListN.{length, drop}
 use borrow.Author.Needs.{needs}
-use Rattle.kvmi.specs.Message.{entryOf, entriesOf}
+use Rattle.kvmi.specs.Message.{entriesOf}
 use Rattle.store.specs.PageWords.{keyOf, pageTable, putEntries, runEntries}
-use Rattle.store.proofs.PageLaws.{part-clamped, page-bound, run-step, run-end}
+use Rattle.store.proofs.PageLaws.{part-clamped, page-bound, run-entry, run-end}
 use Rattle.store.proofs.pages.put_entries.Statement.{statement}
 use Rattle.store.proofs.pages.put_entries.Tie as tie
 
 abbrev Inv-loop : tie.InvT-loop
-Inv-loop words₀ count limit view n d first t₀ i₀ words t i = (i ≤ n) × (length words ≡ length words₀) × (t .count ≤ length words₀) × (runEntries limit view (entriesOf n d) words₀ count ≡ putEntries limit view (entriesOf (n - i) (drop (i * 16) d)) (pageTable words (t .count) (t .skipped)))
+Inv-loop words₀ count limit view n d first t₀ i₀ words t i =
+    (i ≤ n)
+    × (length words ≡ length words₀)
+    × (t .count ≤ length words₀)
+    × (runEntries limit view (entriesOf n d) words₀ count
+    ≡ putEntries limit view (entriesOf (n - i) (drop (i * 16) d)) (pageTable words (t .count) (t .skipped)))
 
 abbrev μ-loop : tie.MeasureT-loop
 μ-loop words₀ count limit view n d first t₀ i₀ words t i = n - i
@@ -61,10 +66,10 @@ read-entry-requires : tie.Need-read-entry-requires Inv-loop μ-loop
 read-entry-requires c κs = search needs
 
 add-put-entry : tie.Need-add-put-entry Inv-loop μ-loop
-add-put-entry c = omega (arith, page-bound (take (c .before .before .before .before .smaller3 .result - c .before .before .before .before .before .smaller2 .result) (drop (c .before .before .before .before .before .smaller2 .result) (c .before .before .before .before .before .before .before .before .before .before .before .args .d .now))))
+add-put-entry c = omega (arith, page-bound _ (c .before .before .read-entry .ensures .0))
 
 put-entry-requires : tie.Need-put-entry-requires Inv-loop μ-loop
-put-entry-requires c κs = omega (arith, page-bound (take (c .before .before .before .before .smaller3 .result - c .before .before .before .before .before .smaller2 .result) (drop (c .before .before .before .before .before .smaller2 .result) (c .before .before .before .before .before .before .before .before .before .before .before .args .d .now))))
+put-entry-requires c κs = omega (arith, page-bound _ (c .before .before .read-entry .ensures .0))
 
 add-i : tie.Need-add-i Inv-loop μ-loop
 add-i c = search needs
@@ -75,29 +80,19 @@ loop-less c = search needs
 loop-again : tie.Need-loop-again Inv-loop μ-loop
 unfolding keyOf
 loop-again c =
-    let a = c .before .before .before .before .before .before .before .before .before .before .before .before .before .before .args in
     let l = c .before .before .before .before .before .before .before .before .before .before .loop in
-    let e = c .before .before .before .before .before .read-entry in
-    let part : take (c .before .before .before .before .before .before .before .smaller3 .result - c .before .before .before .before .before .before .before .before .smaller2 .result) (drop (c .before .before .before .before .before .before .before .before .smaller2 .result) (a .d .now)) ≡ take 16 (drop (l .i * 16) (a .d .now)) =
-    rw (c .before .before .before .before .before .before .before .smaller3 .ensures, c .before .before .before .before .before .before .before .before .smaller2 .ensures) (part-clamped (a .d .now) (l .i * 16)) in
-    let page : e .result .page ≡ entryOf (take 16 (drop (l .i * 16) (a .d .now))) .page = rw part at (e .ensures .0) in
-    let access : e .result .access ≡ entryOf (take 16 (drop (l .i * 16) (a .d .now))) .access = rw part at (e .ensures .1) in (
-      omega arith,
-      omega arith,
-      omega arith,
-      l .inv .3
-          ∙ run-step (a .n) (l .i) (a .limit) (a .view) (a .d .now) (pageTable (l .words) (l .t .count) (l .t .skipped)) (omega arith)
-          ∙ ap (putEntries (a .limit) (a .view) (entriesOf (a .n - (l .i + 1)) (drop ((l .i + 1) * 16) (a .d .now)))) (sym (rw (page, access) at (c .before .before .put-entry .ensures .0))),
-    )
+    let p = part-clamped _ _ _ _ (c .before .before .before .before .before .before .before .before .smaller2 .ensures) (c .before .before .before .before .before .before .before .smaller3 .ensures) in
+    let e = c .before .before .before .before .before .read-entry .ensures in
+    let next = run-entry (c .before .before .before .before .before .before .before .before .before .before .before .before .before .before .args .n) (l .i) _ _ _ _ _ _ _ _ (omega arith) p (e .0) (e .1) (c .before .before .put-entry .ensures .0) in
+    (omega arith, omega arith, omega arith, l .inv .3 ∙ next)
 
 same-length : tie.Need-same-length Inv-loop μ-loop
 same-length c = search needs
 
 returns : tie.Need-returns Inv-loop μ-loop
 returns c =
-    let a = c .before .before .before .before .before .args in
     let l = c .before .loop in
-    sym (l .inv .3 ∙ run-end (a .n) (l .i) (a .limit) (a .view) (drop (l .i * 16) (a .d .now)) (pageTable (l .words) (l .t .count) (l .t .skipped)) (omega arith))
+    sym (l .inv .3 ∙ run-end (c .before .before .before .before .before .args .n) (l .i) _ _ _ _ (omega arith))
 
 pub put-entries-spec : {M : Type 1} → statement M
 put-entries-spec =

@@ -5,7 +5,7 @@ use native.Mathlib.Omega.{arith}
 use lib.ListN.{length}
 use borrow.Author.Needs.{needs}
 use Rattle.store.specs.PageWords.{placeOf, putEntry}
-use Rattle.store.proofs.PageLaws.{place-le, stands-lt}
+use Rattle.store.proofs.PageLaws.{place-le, place-whole, stands-lt}
 use Rattle.store.proofs.pages.put_entry.Statement.{statement}
 use Rattle.store.proofs.pages.put_entry.Tie as tie
 
@@ -16,7 +16,7 @@ stands-at-requires : tie.Need-stands-at-requires
 stands-at-requires c κs = search needs
 
 change-word-requires : tie.Need-change-word-requires
-change-word-requires c κs = omega (arith, stands-lt (c .before .before .before .before .before .before .before .args .words .now) (c .before .before .before .before .before .before .before .args .count) (c .before .before .before .before .before .before .before .args .key) (c .before .before .before .before .place .result) (sym (c .before .before .stands-at .ensures) ∙ c .before .if1 .taken))
+change-word-requires c κs = omega (arith, stands-lt _ _ _ _ (sym (c .before .before .stands-at .ensures) ∙ c .before .if1 .taken))
 
 add-word-requires : tie.Need-add-word-requires
 add-word-requires c κs = omega (arith, place-le (c .before .before .before .before .before .before .before .args .words .now) (min (c .before .before .before .before .before .before .before .args .count) (length (c .before .before .before .before .before .before .before .args .words .now))) (c .before .before .before .before .before .before .before .args .key))
@@ -27,9 +27,7 @@ same-length c = search needs
 returns : tie.Need-returns
 unfolding putEntry
 returns c =
-    let a = c .before .before .before .before .before .before .before .before .before .before .args in
-    let m : min (a .count) (length (a .words .now)) ≡ a .count = omega arith in
-    let p : c .before .before .before .before .before .before .before .place .result ≡ placeOf (a .words .now) (a .count) (a .key) = c .before .before .before .before .before .before .before .place .ensures ∙ rw m in
+    let p = c .before .before .before .before .before .before .before .place .ensures ∙ place-whole _ _ _ (c .before .before .before .before .before .before .before .before .before .before .pre .0) in
     (simp (← p, ← c .before .before .before .before .before .stands-at .ensures, c .before .before .before .before .if1 .taken, ← c .before .before .change-word .ensures .0), c .before .before .change-word .ensures .1)
 
 same-length-2 : tie.Need-same-length-2
@@ -38,9 +36,7 @@ same-length-2 c = search needs
 returns-2 : tie.Need-returns-2
 unfolding putEntry
 returns-2 c =
-    let a = c .before .before .before .before .before .before .before .before .before .before .args in
-    let m : min (a .count) (length (a .words .now)) ≡ a .count = omega arith in
-    let p : c .before .before .before .before .before .before .before .place .result ≡ placeOf (a .words .now) (a .count) (a .key) = c .before .before .before .before .before .before .before .place .ensures ∙ rw m in
+    let p = c .before .before .before .before .before .before .before .place .ensures ∙ place-whole _ _ _ (c .before .before .before .before .before .before .before .before .before .before .pre .0) in
     (simp (← p, ← c .before .before .before .before .before .stands-at .ensures, c .before .before .before .before .if1 .left, ← c .before .before .add-word .ensures .0), c .before .before .add-word .ensures .1)
 
 pub put-entry-spec : {M : Type 1} → statement M
