@@ -3,15 +3,16 @@ use mathlib.Core.Path.{_≡_, refl, sym, ap, _∙_}
 use mathlib.Core.Bool.{Bool, true, false, cond, _&&_}
 use mathlib.Core.Logic.{⊎-elim}
 use mathlib.Core.List.{List, [], _∷_, _++_, append-assoc, append-nil}
-use Prim.Native.Nat.{ℕ, zero, suc, _+_, _-_, _*_, _/_, _^_, _≤_, _<_, min}
+use Prim.Native.Nat.{ℕ, zero, suc, _+_, _-_, _*_, _/_, _%_, _^_, _≤_, _<_, min}
 use native.Mathlib.Nat.{add-zero}
 use native.Mathlib.Numerals.{add-one}
 use native.Mathlib.Omega.{arith}
 use lib.Dec.{ltb, eqb}
 use lib.ListN.{length, getD, set, take, drop, length-drop, drop-of-length-le}
 use lib.Seq.{take-all, take-suc, take-nil, take-length, drop-length, drop-cons, append-snoc, set-split, take-set-le, drop-set-lt, drop-set-add, take-suc-set, getD-drop, drop-drop, drop-at, length-take-le}
-use borrow.Author.Tests.{lt-ltb, le-ltb, ltb-true, eq-eqb, ne-eqb, eqb-true, eqb-false}
+use borrow.Author.Tests.{lt-ltb, le-ltb, ltb-true, ltb-false, eq-eqb, ne-eqb, eqb-true, eqb-false}
 use Rattle.wire.proofs.Laws.{le-or-lt}
+use Rattle.kvmi.specs.Bits.{bit}
 use Rattle.kvmi.specs.Message.{Entry, entryOf, entriesOf}
 use Rattle.store.specs.PageWords.{wordKey, keyOf, bisect, placeOf, standsAt, insertWord, removeWord, PageTable, putEntry, putEntries}
 
@@ -39,19 +40,59 @@ module _ (ws : List ℕ) (key base len : ℕ) (some : 0 < len) where
   unfolding bisect
   turn-below t = rw (ne-eqb len 0 (λ e. omega arith), le-ltb _ _ t)
 
-  pub bisect-above : wordKey (getD ws (base + len / 2) 0) < key
+  bisect-above : wordKey (getD ws (base + len / 2) 0) < key
       → bisect len ws key base len ≡ bisect (len - len / 2 - 1) ws key (base + len / 2 + 1) (len - len / 2 - 1)
   bisect-above t =
       bisect-steps len (suc len) ws key base len (omega arith) (omega arith)
       ∙ turn-above t
       ∙ bisect-steps len (len - len / 2 - 1) ws key (base + len / 2 + 1) (len - len / 2 - 1) (omega arith) (omega arith)
 
-  pub bisect-below : key ≤ wordKey (getD ws (base + len / 2) 0)
+  bisect-below : key ≤ wordKey (getD ws (base + len / 2) 0)
       → bisect len ws key base len ≡ bisect (len / 2) ws key base (len / 2)
   bisect-below t =
       bisect-steps len (suc len) ws key base len (omega arith) (omega arith)
       ∙ turn-below t
       ∙ bisect-steps len (len / 2) ws key base (len / 2) (omega arith) (omega arith)
+
+  -- a turn, its choice as a number
+  pub bisect-turn : (u : ℕ) → u ≡ bit (ltb (wordKey (getD ws (base + len / 2) 0)) key)
+      → bisect len ws key base len
+      ≡ bisect (len / 2 - u * (1 - len % 2)) ws key (base + u * (len / 2 + 1)) (len / 2 - u * (1 - len % 2))
+  bisect-turn u = go (ltb (wordKey (getD ws (base + len / 2) 0)) key) refl
+    where
+      go : (t : Bool) → ltb (wordKey (getD ws (base + len / 2) 0)) key ≡ t → u ≡ bit t
+          → bisect len ws key base len
+          ≡ bisect (len / 2 - u * (1 - len % 2)) ws key (base + u * (len / 2 + 1)) (len / 2 - u * (1 - len % 2))
+      go true e one =
+          let n : len / 2 - u * (1 - len % 2) ≡ len - len / 2 - 1 = rw one (omega arith) in
+          let m : base + u * (len / 2 + 1) ≡ base + len / 2 + 1 = rw one (omega arith) in
+          rw (n, m) (bisect-above (ltb-true _ _ e))
+      go false e none =
+          let n : len / 2 - u * (1 - len % 2) ≡ len / 2 = rw none (omega arith) in
+          let m : base + u * (len / 2 + 1) ≡ base = rw none (omega arith) in
+          rw (n, m) (bisect-below (ltb-false _ _ e))
+
+  -- what a turn leaves lies in what there was
+  pub turn-inside : (u : ℕ) → u ≡ bit (ltb (wordKey (getD ws (base + len / 2) 0)) key)
+      → (u * (len / 2 + 1) ≤ len / 2 + 1)
+      × (u * (1 - len % 2) ≤ len / 2)
+      × (u * (len / 2 + 1) + (len / 2 - u * (1 - len % 2)) ≤ len)
+  turn-inside u = go (ltb (wordKey (getD ws (base + len / 2) 0)) key)
+    where
+      go : (t : Bool) → u ≡ bit t
+          → (u * (len / 2 + 1) ≤ len / 2 + 1)
+          × (u * (1 - len % 2) ≤ len / 2)
+          × (u * (len / 2 + 1) + (len / 2 - u * (1 - len % 2)) ≤ len)
+      go true e = rw e (omega arith)
+      go false e = rw e (omega arith)
+
+-- a word's key against another, as the top bit of a difference
+pub below-bit : (w key : ℕ) → w < 2 ^ 64 → key < 2 ^ 61 → 1 - (w / 8 + (2 ^ 63 - key)) / 2 ^ 63 ≡ bit (ltb (w / 8) key)
+below-bit w key h g = go (ltb (w / 8) key) refl
+  where
+    go : (t : Bool) → ltb (w / 8) key ≡ t → 1 - (w / 8 + (2 ^ 63 - key)) / 2 ^ 63 ≡ bit t
+    go true e = let l : w / 8 < key = ltb-true (w / 8) key e in omega arith
+    go false e = let l : key ≤ w / 8 = ltb-false (w / 8) key e in omega arith
 
 cond-le : (t : Bool) (a b n : ℕ) → a ≤ n → b ≤ n → cond t a b ≤ n
 cond-le true a b n h g = h

@@ -1,12 +1,19 @@
 // The page words: one for each page below rwx, ascending and dense, with 0 after those in use.
 ghost use mathlib.Core.Path.{_≡_};
 ghost use Prim.Native.Nat.{_≤_, _<_, _^_, min};
+ghost use lib.Dec.{ltb};
 ghost use lib.ListN.{length};
+ghost use Rattle.kvmi.specs.Bits.{bit};
 ghost use Rattle.kvmi.specs.Message.{entryOf, entriesOf};
-ghost use Rattle.store.specs.PageWords.{placeOf, insertWord, removeWord, standsAt, pageTable, changeWord, addWord, putEntry, runEntries};
+ghost use Rattle.store.specs.PageWords.{wordKey, placeOf, insertWord, removeWord, standsAt, pageTable, changeWord, addWord, putEntry, runEntries};
 
 // The access of a page that no word stands for: read, write and execute.
 const RWX: u8 = 7;
+
+// A word's key is below 2^61.
+const KEYS: u64 = 2305843009213693952;
+
+const TOP: u64 = 9223372036854775808;
 
 // How many words are in use after entries were taken, and whether one was skipped for want of room.
 pub struct Taken {
@@ -27,7 +34,19 @@ fn smaller(a: usize, b: usize) -> usize
     if a < b { a } else { b }
 }
 
-// Where a key stands among the first `count` words, or belongs.
+// 1 where a word's key is below another and 0 where not: the top bit of a difference, so that nothing branches on it.
+fn is_below(word: u64, key: u64) -> usize
+    ensures { λ r. ⌜ r ≡ bit (ltb (wordKey word) key) ⌝ }
+{
+    if key < KEYS {
+        1 - ((word / 8 + (TOP - key)) >> 63) as usize
+    } else {
+        1
+    }
+}
+
+// Where a key stands among the first `count` words, or belongs. Which half is left is computed and not branched on: a guess at it
+// would be wrong half of the time.
 pub fn place(words: &[u64], count: usize, key: u64) -> usize
     ensures { λ r. ⌜ r ≡ placeOf (now (words .entry)) (min count (length (now (words .entry)))) key ⌝ }
 {
@@ -35,13 +54,9 @@ pub fn place(words: &[u64], count: usize, key: u64) -> usize
     let mut len = smaller(count, words.len());
     while len > 0 {
         let half = len / 2;
-        let mid = base + half;
-        if words[mid] / 8 < key {
-            base = mid + 1;
-            len = len - half - 1;
-        } else {
-            len = half;
-        }
+        let below = is_below(words[base + half], key);
+        base += below * (half + 1);
+        len = half - below * (1 - len % 2);
     }
     base
 }

@@ -4,8 +4,8 @@ use Prim.Native.Nat.{_≤_, _+_, min}
 use native.Mathlib.Omega.{arith}
 use lib.ListN.{length}
 use borrow.Author.Needs.{needs}
-use Rattle.store.specs.PageWords.{wordKey, bisect, placeOf}
-use Rattle.store.proofs.PageLaws.{bisect-above, bisect-below}
+use Rattle.store.specs.PageWords.{bisect, placeOf}
+use Rattle.store.proofs.PageLaws.{bisect-turn, turn-inside}
 use Rattle.store.proofs.pages.place.Statement.{statement}
 use Rattle.store.proofs.pages.place.Tie as tie
 
@@ -22,37 +22,41 @@ loop-holds : tie.Need-loop-holds Inv-loop μ-loop
 unfolding placeOf
 loop-holds c = (omega arith, rw (c .smaller .ensures))
 
-add-mid : tie.Need-add-mid Inv-loop μ-loop
-add-mid c = search needs
+add-is-below : tie.Need-add-is-below Inv-loop μ-loop
+add-is-below c = search needs
 
-mul-if1 : tie.Need-mul-if1 Inv-loop μ-loop
-mul-if1 c = search needs
+mul-is-below : tie.Need-mul-is-below Inv-loop μ-loop
+mul-is-below c = search needs
 
-shared-slice-read-if1 : tie.Need-shared-slice-read-if1 Inv-loop μ-loop
-shared-slice-read-if1 c = search needs
+shared-slice-read-is-below : tie.Need-shared-slice-read-is-below Inv-loop μ-loop
+shared-slice-read-is-below c = search needs
+
+is-below-requires : tie.Need-is-below-requires Inv-loop μ-loop
+is-below-requires c κs = search needs
 
 add-base : tie.Need-add-base Inv-loop μ-loop
 add-base c = search needs
 
+mul-base : tie.Need-mul-base Inv-loop μ-loop
+mul-base c = omega (arith, turn-inside (c .before .before .before .before .before .before .args .words .now) (c .before .before .before .before .before .before .args .key) (c .before .before .before .loop .base) (c .before .before .before .loop .len) (c .before .before .loop-test .taken) (c .is-below .result) (c .is-below .ensures))
+
+add-base-2 : tie.Need-add-base-2 Inv-loop μ-loop
+add-base-2 c = omega (arith, turn-inside (c .before .before .before .before .before .before .args .words .now) (c .before .before .before .before .before .before .args .key) (c .before .before .before .loop .base) (c .before .before .before .loop .len) (c .before .before .loop-test .taken) (c .is-below .result) (c .is-below .ensures))
+
 sub-len : tie.Need-sub-len Inv-loop μ-loop
 sub-len c = search needs
 
+mul-len : tie.Need-mul-len Inv-loop μ-loop
+mul-len c = omega (arith, turn-inside (c .before .before .before .before .before .before .args .words .now) (c .before .before .before .before .before .before .args .key) (c .before .before .before .loop .base) (c .before .before .before .loop .len) (c .before .before .loop-test .taken) (c .is-below .result) (c .is-below .ensures))
+
 sub-len-2 : tie.Need-sub-len-2 Inv-loop μ-loop
-sub-len-2 c = search needs
+sub-len-2 c = omega (arith, turn-inside (c .before .before .before .before .before .before .args .words .now) (c .before .before .before .before .before .before .args .key) (c .before .before .before .loop .base) (c .before .before .before .loop .len) (c .before .before .loop-test .taken) (c .is-below .result) (c .is-below .ensures))
 
 loop-less : tie.Need-loop-less Inv-loop μ-loop
-loop-less c = search needs
+loop-less c = omega (arith, turn-inside (c .before .before .before .before .before .before .args .words .now) (c .before .before .before .before .before .before .args .key) (c .before .before .before .loop .base) (c .before .before .before .loop .len) (c .before .before .loop-test .taken) (c .is-below .result) (c .is-below .ensures))
 
 loop-again : tie.Need-loop-again Inv-loop μ-loop
-unfolding wordKey
-loop-again c = (omega arith, c .before .before .before .loop .inv .1 ∙ bisect-above _ _ _ _ (omega arith) (c .if1 .taken))
-
-loop-less-2 : tie.Need-loop-less-2 Inv-loop μ-loop
-loop-less-2 c = search needs
-
-loop-again-2 : tie.Need-loop-again-2 Inv-loop μ-loop
-unfolding wordKey
-loop-again-2 c = (omega arith, c .before .before .before .loop .inv .1 ∙ bisect-below _ _ _ _ (omega arith) (c .if1 .left))
+loop-again c = (omega (arith, turn-inside (c .before .before .before .before .before .before .args .words .now) (c .before .before .before .before .before .before .args .key) (c .before .before .before .loop .base) (c .before .before .before .loop .len) (c .before .before .loop-test .taken) (c .is-below .result) (c .is-below .ensures)), c .before .before .before .loop .inv .1 ∙ bisect-turn _ _ _ _ (c .before .before .loop-test .taken) _ (c .is-below .ensures))
 
 returns : tie.Need-returns Inv-loop μ-loop
 unfolding bisect
@@ -66,14 +70,16 @@ place-spec =
     μ-loop
     smaller-requires
     loop-holds
-    add-mid
-    mul-if1
-    shared-slice-read-if1
+    add-is-below
+    mul-is-below
+    shared-slice-read-is-below
+    is-below-requires
     add-base
+    mul-base
+    add-base-2
     sub-len
+    mul-len
     sub-len-2
     loop-less
     loop-again
-    loop-less-2
-    loop-again-2
     returns)
