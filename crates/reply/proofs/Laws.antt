@@ -19,7 +19,7 @@ use lib.Dec.{T, eqb}
 use borrow.Author.Tests.{le-ltb, ne-eqb, eqb-true}
 use Rattle.wire.specs.Bytes.{le, store}
 use Rattle.wire.specs.Code.{codeBytes}
-use Rattle.wire.proofs.Laws.{le-or-lt, length-le, le-join, length-store, store-join, store-past}
+use Rattle.wire.proofs.Laws.{le-or-lt, length-le, le-join, length-store, store-join, store-past, store-none}
 use Rattle.kvmi.specs.declared.Settings.{Settings}
 use Rattle.kvmi.specs.declared.Handler.{Handler}
 use Rattle.kvmi.specs.declared.Handler.the-variants.{GetVersion, VmCheckCommand, VmCheckEvent, VmGetInfo, VmControlEvents, VmReadPhysical, VmWritePhysical, VcpuGetInfo, VcpuPause, VcpuControlEvents, VcpuControlCr, VcpuControlMsr, VmSetPageAccess, VcpuControlSinglestep, VmControlCmdResponse, EventReply, Unknown}
@@ -27,9 +27,11 @@ use Rattle.kvmi.specs.declared.Layout.{Layout}
 use Rattle.kvmi.proofs.Handler.{the-type}
 use Rattle.kvmi.specs.Codes.{isError}
 use Rattle.kvmi.specs.Message.{layoutOf, messages, unknown, gpaOf, sizeOf}
-use Rattle.kvmi.specs.Reply.{replyData}
+use Rattle.kvmi.specs.Reply.{messageBytes, replyBytes, replyData, eventBytes, pauseEvent, commandErrorEvent}
 use Rattle.reply.specs.Written.{Written}
+use Rattle.reply.specs.Event.{eventFront}
 use Rattle.reply.specs.Contents.{contentsBytes, contentsCount, contentsEnd, Chosen, Picked}
+use Rattle.reply.proofs.Lengths.{length-code, length-message}
 use Rattle.reply.specs.declared.Contents.{Contents}
 use Rattle.reply.specs.declared.Contents.the-variants.{Nothing, Version, VmInfo, VcpuInfo, Memory}
 
@@ -186,3 +188,91 @@ length-contents s guest Version h = simp (length-append, length-le)
 length-contents s guest VmInfo h = simp (length-append, length-le)
 length-contents s guest VcpuInfo h = length-le 8 (s .tsc)
 length-contents s guest (Memory from count) h = simp (length-take, length-drop) (omega arith)
+
+pub count-bound : (r : Contents) → contentsCount r ≤ contentsEnd r + 16
+unfolding contentsEnd contentsCount
+count-bound Nothing = omega arith
+count-bound Version = omega arith
+count-bound VmInfo = omega arith
+count-bound VcpuInfo = omega arith
+count-bound (Memory from count) = omega arith
+
+-- ---- what is written, as one list
+
+le-byte : (b : ℕ) → b < 256 → le 1 b ≡ b ∷ []
+unfolding le
+le-byte b h = let e : b % 256 ≡ b = omega arith in rw e
+
+pub version-bytes : (s : Settings) → s .singlestep < 256 → s .vmfunc < 256 → s .eptp < 256 → s .ve < 256 → s .spp < 256
+    → le 8 1 ++ le 1 (s .singlestep) ++ le 1 (s .vmfunc) ++ le 1 (s .eptp) ++ le 1 (s .ve) ++ le 4 (s .spp) ≡ replyData s [] 1 []
+unfolding replyData
+version-bytes s a b c d e =
+    rw (le-byte (s .singlestep) a, le-byte (s .vmfunc) b, le-byte (s .eptp) c, le-byte (s .ve) d, le-pad 1 3 (s .spp) e, le-byte (s .spp) e, le-pad 4 4 1 (omega arith), ← le-zero 4)
+    (simp append-assoc)
+
+pub vm-info-bytes : (s : Settings) → s .vcpus < 256 ^ 4 → le 8 (s .vcpus) ++ le 8 0 ≡ replyData s [] 4 []
+unfolding replyData
+vm-info-bytes s h = rw (le-pad 4 4 (s .vcpus) h, le-zero 8) (simp append-assoc)
+
+pub length-header : (id size seq : ℕ) → length (le 2 id ++ le 2 size ++ le 4 seq) ≡ 8
+length-header id size seq = simp (length-append, length-le)
+
+pub reply-bytes : (id seq : ℕ) (code : ℤ) (d shown : List ℕ) → shown ≡ cond (isError code) [] d
+    → le 2 id ++ le 2 (length shown + 8) ++ le 4 seq ++ codeBytes code ++ le 4 0 ++ shown ≡ replyBytes id seq code d
+unfolding replyBytes messageBytes
+reply-bytes id seq code d shown e =
+    let n : length (codeBytes code ++ le 4 0 ++ shown) ≡ length shown + 8 = simp (length-append, length-code, length-le) (omega arith) in
+    rw (← e, n) (simp append-assoc)
+
+pub reply-count : (id seq : ℕ) (code : ℤ) (d shown : List ℕ) → shown ≡ cond (isError code) [] d
+    → length shown + 16 ≡ length (replyBytes id seq code d)
+unfolding replyBytes
+reply-count id seq code d shown e =
+    rw (← e) (simp (length-message, length-append, length-code, length-le) (omega arith))
+
+pub front-bytes : (size seq vcpu event : ℕ) → event < 256
+    → le 2 17 ++ le 2 size ++ le 4 seq ++ le 2 544 ++ le 2 (vcpu % 65536) ++ le 4 event ≡ eventFront size seq vcpu event
+unfolding eventFront
+front-bytes size seq vcpu event h = rw (le-low vcpu, le-pad 1 3 event h) (simp append-assoc)
+
+pub length-front : (size seq vcpu event : ℕ) → length (eventFront size seq vcpu event) ≡ 16
+unfolding eventFront
+length-front size seq vcpu event = simp (length-append, length-le)
+
+event-bytes : (size seq vcpu event : ℕ) (state own : List ℕ) → size ≡ length state + length own + 8
+    → eventFront size seq vcpu event ++ (state ++ own) ≡ eventBytes seq vcpu event state own
+unfolding eventBytes messageBytes eventFront
+event-bytes size seq vcpu event state own e =
+    let n : length (le 2 544 ++ le 2 vcpu ++ le 1 event ++ replicate 3 0 ++ state ++ own) ≡ size = simp (length-append, length-le) (omega arith) in
+    rw n (simp append-assoc)
+
+pub pause-bytes : (size seq vcpu : ℕ) (state : List ℕ) → size ≡ length state + 8
+    → eventFront size seq vcpu 2 ++ state ≡ pauseEvent seq vcpu state
+unfolding pauseEvent
+pause-bytes size seq vcpu state e =
+    ap (λ (l : List ℕ). eventFront size seq vcpu 2 ++ l) (sym (append-nil state)) ∙ event-bytes size seq vcpu 2 state [] (omega arith)
+
+pub command-error-bytes : (seq : ℕ) (code : ℤ) (commandSeq commandId : ℕ) → commandId < 256 ^ 2
+    → eventFront 560 seq 0 13 ++ replicate 536 0 ++ codeBytes code ++ le 4 commandSeq ++ le 8 commandId ≡ commandErrorEvent seq code commandSeq commandId
+unfolding commandErrorEvent
+command-error-bytes seq code commandSeq commandId h = whole (replicate 536 0) (length-replicate {A = ℕ} 536 0)
+  where
+    whole : (state : List ℕ) → length state ≡ 536
+        → eventFront 560 seq 0 13 ++ state ++ codeBytes code ++ le 4 commandSeq ++ le 8 commandId
+        ≡ eventBytes seq 0 13 state (codeBytes code ++ le 4 commandSeq ++ le 2 commandId ++ replicate 6 0)
+    whole state e =
+        let own = codeBytes code ++ le 4 commandSeq ++ le 2 commandId ++ replicate 6 0 in
+        let n : 560 ≡ length state + length own + 8 = simp (length-append, length-code, length-le) (omega arith) in
+        rw (le-pad 2 6 commandId h) (simp append-assoc (simp append-assoc at (event-bytes 560 seq 0 13 state own n)))
+
+-- ---- what is returned
+
+pub written : {s out b bytes : List ℕ} {n r : ℕ} → Placed s out 0 n b → b ≡ bytes → r ≡ n → Written s out r bytes
+written p e h = record { count = h ∙ sym (p .size) ∙ ap length e; there = p .there ∙ ap (store _ 0) e }
+
+-- what does not fit is not written
+pub unwritten : (s bytes : List ℕ) (r : ℕ) → r ≡ length bytes → length s < r → Written s s r bytes
+unwritten s bytes r e h = record { count = e; there = sym (store-past s 0 bytes (omega arith)) }
+
+pub written-none : (s : List ℕ) → Written s s 0 []
+written-none s = record { count = refl; there = sym (store-none s 0) }

@@ -1,3 +1,7 @@
+use Rattle.reply.proofs.Laws.{written-none}
+use Rattle.kvmi.specs.Reply.{answerOf}
+use mir.Facts.{toZ-ofZ}
+use mathlib.Core.Path.{_≡_, refl, sym, ap, _∙_}
 use borrow.Author.Needs.{needs}
 use Rattle.reply.proofs.answer.Statement.{statement}
 use Rattle.reply.proofs.answer.Tie as tie
@@ -31,7 +35,8 @@ same-length c = search needs
 
 -- src/lib.rt:235:1
 returns : tie.Need-returns
-returns c = ?
+unfolding answerOf
+returns c = rw (c .before .before .before .before .enum-told .given .1) (rw (toZ-ofZ (c .before .before .before .before .before .before .before .before .before .fits .code)) at (c .before .before .put-answer .ensures))
 
 -- src/lib.rt:235:1
 same-length-2 : tie.Need-same-length-2
@@ -39,11 +44,13 @@ same-length-2 c = search needs
 
 -- src/lib.rt:235:1
 returns-2 : tie.Need-returns-2
-returns-2 c = ?
+unfolding answerOf
+returns-2 c = rw (c .before .before .before .before .enum-told2 .given .1) (rw (toZ-ofZ (c .before .before .before .before .before .before .before .before .before .fits .code)) at (c .before .before .put-answer2 .ensures))
 
 -- src/lib.rt:235:1
 returns-3 : tie.Need-returns-3
-returns-3 c = ?
+unfolding answerOf
+returns-3 c = rw (c .enum-told3 .given .1) (written-none _)
 
 pub answer-spec : {M : Type 1} → statement M
 answer-spec =

@@ -1,3 +1,8 @@
+use Rattle.kvmi.specs.Reply.{pauseEvent}
+use Rattle.reply.proofs.Lengths.{length-pause}
+use Rattle.reply.proofs.Laws.{placed, more, length-front, pause-bytes, written, unwritten}
+use native.Mathlib.Omega.{arith}
+use mathlib.Core.Path.{refl, sym, ap, _∙_}
 use borrow.Author.Needs.{needs}
 use Rattle.reply.proofs.pause_event.Statement.{statement}
 use Rattle.reply.proofs.pause_event.Tie as tie
@@ -28,11 +33,17 @@ same-length c = search needs
 
 -- src/lib.rt:183:1
 returns : tie.Need-returns
-returns c = ?
+returns c =
+    let a = c .before .before .before .before .before .before .before .before .before .before .before .args in
+    let p1 = placed _ (length-front _ (a .seq) (a .vcpu) 2) (c .before .before .before .before .before .before .put-event .ensures) in
+    let p2 = more _ p1 refl (c .before .before .copy .ensures) (omega arith) in
+    written p2 (pause-bytes _ (a .seq) (a .vcpu) (a .state .now) refl) (omega arith)
 
 -- src/lib.rt:183:1
 returns-2 : tie.Need-returns-2
-returns-2 c = ?
+returns-2 c =
+    let a = c .before .before .before .args in
+    unwritten (a .out .now) (pauseEvent (a .seq) (a .vcpu) (a .state .now)) _ (omega (arith, length-pause (a .seq) (a .vcpu) (a .state .now))) (omega arith)
 
 pub pause-event-spec : {M : Type 1} → statement M
 pause-event-spec =

@@ -1,3 +1,7 @@
+use Rattle.reply.proofs.Laws.{tested, written-none}
+use Rattle.kvmi.specs.Reply.{answerBytes}
+use mir.Facts.{toZ-ofZ}
+use mathlib.Core.Path.{_≡_, refl, sym, ap, _∙_}
 use borrow.Author.Needs.{needs}
 use Rattle.reply.proofs.put_answer.Statement.{statement}
 use Rattle.reply.proofs.put_answer.Tie as tie
@@ -37,11 +41,13 @@ same-length c = search needs
 
 -- src/lib.rt:208:1
 returns : tie.Need-returns
-returns c = ?
+unfolding answerBytes
+returns c = rw (c .before .before .before .before .enum-told .given .1) (rw (toZ-ofZ (c .before .before .before .before .before .before .before .before .before .fits .code)) at (c .before .before .put-reply .ensures))
 
 -- src/lib.rt:208:1
 returns-2 : tie.Need-returns-2
-returns-2 c = ?
+unfolding answerBytes
+returns-2 c = rw (c .enum-told2 .given .1) (written-none _)
 
 -- src/lib.rt:208:1
 same-length-2 : tie.Need-same-length-2
@@ -49,11 +55,13 @@ same-length-2 c = search needs
 
 -- src/lib.rt:208:1
 returns-3 : tie.Need-returns-3
-returns-3 c = ?
+unfolding answerBytes
+returns-3 c = rw (c .before .before .before .before .before .before .enum-told3 .given .1, tested (c .before .before .before .before .before .before .before .before .before .before .before .fits .code) (c .before .before .before .before .before .is-error .ensures) (c .before .before .before .before .if1 .taken)) (rw (toZ-ofZ (c .before .before .before .before .before .before .before .before .before .before .before .fits .code)) at (c .before .before .put-command-error .ensures))
 
 -- src/lib.rt:208:1
 returns-4 : tie.Need-returns-4
-returns-4 c = ?
+unfolding answerBytes
+returns-4 c = rw (c .before .before .enum-told3 .given .1, tested (c .before .before .before .before .before .before .before .fits .code) (c .before .is-error .ensures) (c .if1 .left)) (written-none _)
 
 pub put-answer-spec : {M : Type 1} → statement M
 put-answer-spec =

@@ -1,3 +1,12 @@
+use Rattle.kvmi.specs.Reply.{commandErrorEvent}
+use mir.Facts.{toZ-ofZ}
+use Prim.Native.Nat.{ℕ}
+use Rattle.reply.proofs.Lengths.{length-code, length-command-error}
+use Rattle.reply.proofs.Laws.{placed, more, length-front, command-error-bytes, written, unwritten}
+use lib.ListN.{length-replicate}
+use Rattle.wire.proofs.Laws.{length-le}
+use native.Mathlib.Omega.{arith}
+use mathlib.Core.Path.{refl, sym, ap, _∙_}
 use borrow.Author.Needs.{needs}
 use Rattle.reply.proofs.put_command_error.Statement.{statement}
 use Rattle.reply.proofs.put_command_error.Tie as tie
@@ -35,11 +44,20 @@ same-length c = search needs
 
 -- src/lib.rt:194:1
 returns : tie.Need-returns
-returns c = ?
+returns c =
+    let a = c .before .before .before .before .before .before .before .before .before .before .before .before .before .before .before .before .before .before .before .before .before .before .args in
+    let p1 = placed _ (length-front 560 (a .next) 0 13) (c .before .before .before .before .before .before .before .before .before .before .before .before .before .before .before .before .before .before .put-event .ensures) in
+    let p2 = more _ p1 (length-replicate {A = ℕ} 536 0) (c .before .before .before .before .before .before .before .before .before .before .before .before .before .before .fill .ensures) (omega arith) in
+    let p3 = more _ p2 (length-code _) (c .before .before .before .before .before .before .before .before .before .before .store-code .ensures) (omega arith) in
+    let p4 = more _ p3 (length-le 4 _) (c .before .before .before .before .before .before .store32 .ensures) (omega arith) in
+    let p5 = more _ p4 (length-le 8 _) (c .before .before .store64 .ensures) (omega arith) in
+    written p5 (rw (toZ-ofZ (c .before .before .before .before .before .before .before .before .before .before .before .before .before .before .before .before .before .before .before .before .before .before .fits .code)) (command-error-bytes (a .next) (a .code) (a .seq) (a .id) (omega arith))) refl
 
 -- src/lib.rt:194:1
 returns-2 : tie.Need-returns-2
-returns-2 c = ?
+returns-2 c =
+    let a = c .before .before .args in
+    unwritten (a .out .now) (commandErrorEvent (a .next) (a .code) (a .seq) (a .id)) 568 (sym (length-command-error (a .next) (a .code) (a .seq) (a .id))) (omega arith)
 
 pub put-command-error-spec : {M : Type 1} → statement M
 put-command-error-spec =

@@ -1,3 +1,8 @@
+use Rattle.reply.proofs.Laws.{placed, more, length-header, front-bytes}
+use lib.ListN.{length}
+use Rattle.wire.proofs.Laws.{length-le}
+use native.Mathlib.Omega.{arith}
+use mathlib.Core.Path.{refl, sym, ap, _∙_}
 use borrow.Author.Needs.{needs}
 use Rattle.reply.proofs.put_event.Statement.{statement}
 use Rattle.reply.proofs.put_event.Tie as tie
@@ -33,7 +38,13 @@ same-length c = search needs
 
 -- src/lib.rt:171:1
 returns : tie.Need-returns
-returns c = ?
+returns c =
+    let a = c .before .before .before .before .before .before .before .before .before .before .before .before .before .before .before .before .before .args in
+    let p1 = placed _ (length-header 17 (a .size) (a .seq)) (c .before .before .before .before .before .before .before .before .before .before .before .before .before .before .put-header .ensures) in
+    let p2 = more _ p1 (length-le 2 _) (c .before .before .before .before .before .before .before .before .before .before .store16 .ensures) (omega arith) in
+    let p3 = more _ p2 (length-le 2 _) (c .before .before .before .before .before .before .store162 .ensures) (omega arith) in
+    let p4 = more _ p3 (length-le 4 _) (c .before .before .store32 .ensures) (omega arith) in
+    p4 .there ∙ rw (front-bytes (a .size) (a .seq) (a .vcpu) (a .event) (omega arith))
 
 pub put-event-spec : {M : Type 1} → statement M
 put-event-spec =

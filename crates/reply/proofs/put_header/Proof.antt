@@ -1,3 +1,7 @@
+use Rattle.reply.proofs.Laws.{placed, more, le-low}
+use Rattle.wire.proofs.Laws.{length-le}
+use native.Mathlib.Omega.{arith}
+use mathlib.Core.Path.{refl, sym, ap, _∙_}
 use borrow.Author.Needs.{needs}
 use Rattle.reply.proofs.put_header.Statement.{statement}
 use Rattle.reply.proofs.put_header.Tie as tie
@@ -28,7 +32,11 @@ same-length c = search needs
 
 -- src/lib.rt:101:1
 returns : tie.Need-returns
-returns c = ?
+returns c =
+    let p1 = placed _ (length-le 2 _) (c .before .before .before .before .before .before .before .before .before .before .store16 .ensures) in
+    let p2 = more _ p1 (length-le 2 _) (c .before .before .before .before .before .before .store162 .ensures) (omega arith) in
+    let p3 = more _ p2 (length-le 4 _) (c .before .before .store32 .ensures) (omega arith) in
+    p3 .there ∙ rw le-low
 
 pub put-header-spec : {M : Type 1} → statement M
 put-header-spec =

@@ -1,3 +1,7 @@
+use Rattle.reply.proofs.Laws.{placed, more, version-bytes}
+use Rattle.wire.proofs.Laws.{length-le}
+use native.Mathlib.Omega.{arith}
+use mathlib.Core.Path.{refl, sym, ap, _∙_}
 use borrow.Author.Needs.{needs}
 use Rattle.reply.proofs.put_version.Statement.{statement}
 use Rattle.reply.proofs.put_version.Tie as tie
@@ -41,7 +45,14 @@ same-length c = search needs
 
 -- src/lib.rt:111:1
 returns : tie.Need-returns
-returns c = ?
+returns c =
+    let p1 = placed _ (length-le 8 _) (c .before .before .before .before .before .before .before .before .before .before .before .before .before .before .before .before .before .before .before .before .before .before .before .store64 .ensures) in
+    let p2 = more _ p1 (length-le 1 _) (c .before .before .before .before .before .before .before .before .before .before .before .before .before .before .before .before .before .before .before .store8 .ensures) (omega arith) in
+    let p3 = more _ p2 (length-le 1 _) (c .before .before .before .before .before .before .before .before .before .before .before .before .before .before .before .store82 .ensures) (omega arith) in
+    let p4 = more _ p3 (length-le 1 _) (c .before .before .before .before .before .before .before .before .before .before .before .store83 .ensures) (omega arith) in
+    let p5 = more _ p4 (length-le 1 _) (c .before .before .before .before .before .before .before .store84 .ensures) (omega arith) in
+    let p6 = more _ p5 (length-le 4 _) (c .before .before .store32 .ensures) (omega arith) in
+    p6 .there ∙ rw (version-bytes (c .before .before .before .before .before .before .before .before .before .before .before .before .before .before .before .before .before .before .before .before .before .before .before .before .before .before .args .settings) (omega arith) (omega arith) (omega arith) (omega arith) (omega arith))
 
 pub put-version-spec : {M : Type 1} → statement M
 put-version-spec =

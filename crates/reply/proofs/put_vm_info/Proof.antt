@@ -1,3 +1,7 @@
+use Rattle.reply.proofs.Laws.{placed, more, vm-info-bytes}
+use Rattle.wire.proofs.Laws.{length-le}
+use native.Mathlib.Omega.{arith}
+use mathlib.Core.Path.{refl, sym, ap, _∙_}
 use borrow.Author.Needs.{needs}
 use Rattle.reply.proofs.put_vm_info.Statement.{statement}
 use Rattle.reply.proofs.put_vm_info.Tie as tie
@@ -23,7 +27,10 @@ same-length c = search needs
 
 -- src/lib.rt:124:1
 returns : tie.Need-returns
-returns c = ?
+returns c =
+    let p1 = placed _ (length-le 8 _) (c .before .before .before .before .before .before .store64 .ensures) in
+    let p2 = more _ p1 (length-le 8 _) (c .before .before .store642 .ensures) (omega arith) in
+    p2 .there ∙ rw (vm-info-bytes (c .before .before .before .before .before .before .before .before .before .before .args .settings) (omega arith))
 
 pub put-vm-info-spec : {M : Type 1} → statement M
 put-vm-info-spec =
