@@ -3,26 +3,25 @@ use mathlib.Core.Path.{_≡_, refl, sym, ap, _∙_}
 use mathlib.Core.Logic.{⊎-elim}
 use mathlib.Core.List.{List, [], _∷_, _++_, append-assoc, append-nil}
 use mathlib.Core.Bool.{Bool, true, false, cond, not, _&&_, and-eq-true-iff}
-use Prim.Native.Nat.{ℕ, zero, suc, _+_, _*_, _/_, _%_, _^_, _-_, _≤_, _<_, min}
+use Prim.Native.Nat.{ℕ, zero, suc, _+_, _/_, _%_, _^_, _-_, _≤_, _<_, min}
 use native.Mathlib.Nat.{zero-add, suc-add, pow-suc, div-lt-iff-lt-mul, zero-lt-suc, not-suc-le-zero}
 use native.Mathlib.Omega.{arith}
 use lib.IntN.{ℤ, pos, negsuc}
 use lib.ListN.{length, take, drop, replicate, length-append, length-take, length-drop, length-replicate, drop-of-length-le, List·getD-eq-default}
 use lib.Seq.{take-all, take-length, drop-length}
 use lib.Signed.{ltZ}
-use denote.Enum.Declared.{tagOf}
+use lib.Dec.{T, eqb}
 use mir.Syntax.{w32}
 use mir.Val.{SFits, toZ, ofZ, hasKey}
 use mir.Facts.{toZ-ofZ}
+use denote.Enum.Declared.{tagOf}
 use types.Run.{OneOf, miss}
-use lib.Dec.{T, eqb}
 use borrow.Author.Tests.{le-ltb, ne-eqb, eqb-true}
 use Rattle.wire.specs.Bytes.{le, store}
 use Rattle.wire.specs.Code.{codeBytes}
-use Rattle.wire.proofs.Laws.{le-or-lt, length-le, le-join, length-store, store-join, store-past, store-none}
+use Rattle.wire.proofs.Laws.{le-or-lt, length-le, le-join, store-join, store-past, store-none}
 use Rattle.kvmi.specs.declared.Settings.{Settings}
 use Rattle.kvmi.specs.declared.Handler.{Handler}
-use Rattle.kvmi.specs.declared.Handler.the-variants.{GetVersion, VmCheckCommand, VmCheckEvent, VmGetInfo, VmControlEvents, VmReadPhysical, VmWritePhysical, VcpuGetInfo, VcpuPause, VcpuControlEvents, VcpuControlCr, VcpuControlMsr, VmSetPageAccess, VcpuControlSinglestep, VmControlCmdResponse, EventReply, Unknown}
 use Rattle.kvmi.specs.declared.Layout.{Layout}
 use Rattle.kvmi.proofs.Handler.{the-type}
 use Rattle.kvmi.specs.Codes.{isError}

@@ -1,14 +1,13 @@
 -- How long what goes out is, and that it is bytes. Assumes nothing.
-use mathlib.Core.Path.{_≡_, refl, sym, ap, _∙_}
-use mathlib.Core.Logic.{_⊎_, inl, inr, ⊎-elim}
+use mathlib.Core.Path.{_≡_, refl, _∙_}
+use mathlib.Core.Logic.{_⊎_, inl, inr}
 use mathlib.Core.List.{List, [], _∷_, _++_}
 use mathlib.Core.Bool.{Bool, true, false, So, cond, _&&_, and-assoc, and-eq-true-iff}
-use Prim.Native.Nat.{ℕ, zero, suc, _+_, _%_, _≤_}
-use native.Mathlib.Nat.{add-assoc}
+use Prim.Native.Nat.{ℕ, _+_, _%_, _≤_}
 use native.Mathlib.Omega.{arith}
 use lib.IntN.{ℤ}
-use lib.Dec.{leb, ltb, eqb}
-use lib.ListN.{length, take, drop, replicate, length-append, length-take, length-drop, length-replicate}
+use lib.Dec.{leb, eqb}
+use lib.ListN.{length, drop, replicate, length-append, length-take}
 use lib.Pow.{areBytes}
 use borrow.Author.Tests.{leb-true, eqb-true}
 use Rattle.wire.specs.Bytes.{le}

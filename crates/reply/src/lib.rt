@@ -249,8 +249,9 @@ pub fn answer(
     ensures { λ r. ⌜ Written (now (out .entry)) (now (out .exit)) r (answerOf kind mode next id seq code (replyData settings (now (guest .entry)) id (now (d .entry)))) ⌝ }
 {
     match kind {
-        ReplyKind::CodeOnly => put_answer(out, settings, guest, mode, next, id, seq, code, d),
-        ReplyKind::WithData => put_answer(out, settings, guest, mode, next, id, seq, code, d),
+        ReplyKind::CodeOnly | ReplyKind::WithData => {
+            put_answer(out, settings, guest, mode, next, id, seq, code, d)
+        }
         ReplyKind::Silent => 0,
     }
 }

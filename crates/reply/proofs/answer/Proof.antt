@@ -1,68 +1,45 @@
-use Rattle.reply.proofs.Laws.{written-none}
-use Rattle.kvmi.specs.Reply.{answerOf}
+-- A kind that is replied to, or none. Assumes nothing.
+use mathlib.Core.Path.{_≡_, refl}
+use mathlib.Core.List.{List, [], _∷_}
+use Prim.Native.Nat.{ℕ}
+use lib.IntN.{ℤ}
 use mir.Facts.{toZ-ofZ}
-use mathlib.Core.Path.{_≡_, refl, sym, ap, _∙_}
+use denote.Enum.Declared.{tagOf}
+use types.Run.{OneOf, miss}
 use borrow.Author.Needs.{needs}
+use Rattle.kvmi.specs.Reply.{answerOf, answerBytes}
+use Rattle.kvmi.proofs.ReplyKind.{the-type}
+use Rattle.kvmi.specs.declared.ReplyKind.{ReplyKind}
+use Rattle.kvmi.specs.declared.ReplyKind.the-variants.{CodeOnly, WithData, Silent}
+use Rattle.kvmi.specs.declared.ReplyMode.{ReplyMode}
+use Rattle.reply.proofs.Laws.{written-none}
 use Rattle.reply.proofs.answer.Statement.{statement}
 use Rattle.reply.proofs.answer.Tie as tie
-use Rattle.reply.proofs.answer.Reads as reads
-use Rattle.reply.proofs.answer.Lts as lts
-use Rattle.reply.proofs.put_answer.Reads as put-answer-reads
 
--- src/lib.rt:250:43
-enum-told : tie.Need-enum-told
-enum-told c = search needs
+-- a kind that is replied to
+replied : (kind : ReplyKind) (mode : ReplyMode) (seq id commandSeq : ℕ) (code : ℤ) (d : List ℕ) → OneOf (0 ∷ 1 ∷ []) (tagOf the-type kind)
+    → answerOf kind mode seq id commandSeq code d ≡ answerBytes mode seq id commandSeq code d
+unfolding answerOf
+replied CodeOnly mode seq id commandSeq code d o = refl
+replied WithData mode seq id commandSeq code d o = refl
+replied Silent mode seq id commandSeq code d o = absurd (miss (0 ∷ 1 ∷ []) 2 tt o)
 
--- src/lib.rt:250:32
 put-answer-requires : tie.Need-put-answer-requires
 put-answer-requires c κs = search needs
 
--- src/lib.rt:251:43
-enum-told-2 : tie.Need-enum-told-2
-enum-told-2 c = search needs
+enum-told : tie.Need-enum-told
+enum-told c = search needs
 
--- src/lib.rt:251:32
-put-answer-requires-2 : tie.Need-put-answer-requires-2
-put-answer-requires-2 c κs = search needs
-
--- src/lib.rt:252:30
-enum-told-3 : tie.Need-enum-told-3
-enum-told-3 c = search needs
-
--- src/lib.rt:235:1
 same-length : tie.Need-same-length
 same-length c = search needs
 
--- src/lib.rt:235:1
 returns : tie.Need-returns
 unfolding answerOf
-returns c = rw (c .before .before .before .before .enum-told .given .1) (rw (toZ-ofZ (c .before .before .before .before .before .before .before .before .before .fits .code)) at (c .before .before .put-answer .ensures))
+returns c = rw (replied (c .before .before .before .before .before .before .before .before .args .kind) _ _ _ _ _ _ (c .before .before .before .before .match .keys1)) (rw (toZ-ofZ (c .before .before .before .before .before .before .before .before .fits .code)) at (c .before .before .put-answer .ensures))
 
--- src/lib.rt:235:1
-same-length-2 : tie.Need-same-length-2
-same-length-2 c = search needs
-
--- src/lib.rt:235:1
 returns-2 : tie.Need-returns-2
 unfolding answerOf
-returns-2 c = rw (c .before .before .before .before .enum-told2 .given .1) (rw (toZ-ofZ (c .before .before .before .before .before .before .before .before .before .fits .code)) at (c .before .before .put-answer2 .ensures))
-
--- src/lib.rt:235:1
-returns-3 : tie.Need-returns-3
-unfolding answerOf
-returns-3 c = rw (c .enum-told3 .given .1) (written-none _)
+returns-2 c = rw (c .enum-told .given .1) (written-none _)
 
 pub answer-spec : {M : Type 1} → statement M
-answer-spec =
-    tie.close
-    (tie.spec
-    enum-told
-    put-answer-requires
-    enum-told-2
-    put-answer-requires-2
-    enum-told-3
-    same-length
-    returns
-    same-length-2
-    returns-2
-    returns-3)
+answer-spec = tie.close (tie.spec put-answer-requires enum-told same-length returns returns-2)

@@ -1,51 +1,40 @@
-use Rattle.reply.specs.Contents.{contentsCount}
+-- Each kind of data by itself. Assumes nothing.
 use borrow.Author.Needs.{needs}
+use Rattle.reply.specs.Contents.{contentsCount}
 use Rattle.reply.proofs.count_of.Statement.{statement}
 use Rattle.reply.proofs.count_of.Tie as tie
-use Rattle.reply.proofs.count_of.Reads as reads
-use Rattle.reply.proofs.count_of.Lts as lts
 
--- src/lib.rt:91:30
 enum-told : tie.Need-enum-told
 enum-told c = search needs
 
--- src/lib.rt:92:30
 enum-told-2 : tie.Need-enum-told-2
 enum-told-2 c = search needs
 
--- src/lib.rt:93:29
 enum-told-3 : tie.Need-enum-told-3
 enum-told-3 c = search needs
 
--- src/lib.rt:94:31
 enum-told-4 : tie.Need-enum-told-4
 enum-told-4 c = search needs
 
--- src/lib.rt:95:37
 enum-known-contents : tie.Need-enum-known-contents
 enum-known-contents c = search needs
 
--- src/lib.rt:87:1
 returns : tie.Need-returns
 unfolding contentsCount
 returns c = rw (c .enum-told .given .1)
 
--- src/lib.rt:87:1
 returns-2 : tie.Need-returns-2
 unfolding contentsCount
 returns-2 c = rw (c .enum-told2 .given .1)
 
--- src/lib.rt:87:1
 returns-3 : tie.Need-returns-3
 unfolding contentsCount
 returns-3 c = rw (c .enum-told3 .given .1)
 
--- src/lib.rt:87:1
 returns-4 : tie.Need-returns-4
 unfolding contentsCount
 returns-4 c = rw (c .enum-told4 .given .1)
 
--- src/lib.rt:87:1
 returns-5 : tie.Need-returns-5
 unfolding contentsCount
 returns-5 c = rw (c .before .contents .given .1)

@@ -1,12 +1,9 @@
-use Rattle.reply.proofs.Laws.{below-zero}
+-- A code is an error where it is below 0; it is read back from its bits. Assumes nothing.
 use mir.Facts.{toZ-ofZ}
-use mathlib.Core.Path.{_∙_}
+use Rattle.reply.proofs.Laws.{below-zero}
 use Rattle.reply.proofs.is_error.Statement.{statement}
 use Rattle.reply.proofs.is_error.Tie as tie
-use Rattle.reply.proofs.is_error.Reads as reads
-use Rattle.reply.proofs.is_error.Lts as lts
 
--- src/lib.rt:35:1
 returns : tie.Need-returns
 returns c = simp (toZ-ofZ (c .fits .code)) (below-zero (c .args .code))
 

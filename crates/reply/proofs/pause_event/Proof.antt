@@ -1,37 +1,28 @@
+-- What stands before the state block, and the block. Assumes nothing.
+use mathlib.Core.Path.{refl}
+use native.Mathlib.Omega.{arith}
+use borrow.Author.Needs.{needs}
 use Rattle.kvmi.specs.Reply.{pauseEvent}
 use Rattle.reply.proofs.Lengths.{length-pause}
 use Rattle.reply.proofs.Laws.{placed, more, length-front, pause-bytes, written, unwritten}
-use native.Mathlib.Omega.{arith}
-use mathlib.Core.Path.{refl, sym, ap, _∙_}
-use borrow.Author.Needs.{needs}
 use Rattle.reply.proofs.pause_event.Statement.{statement}
 use Rattle.reply.proofs.pause_event.Tie as tie
-use Rattle.reply.proofs.pause_event.Reads as reads
-use Rattle.reply.proofs.pause_event.Lts as lts
-use Rattle.reply.proofs.put_event.Reads as put-event-reads
-use Rattle.wire.proofs.copy.Reads as copy-reads
 
--- src/lib.rt:187:17
 add-total : tie.Need-add-total
 add-total c = search needs
 
--- src/lib.rt:189:24
 add-put-event : tie.Need-add-put-event
 add-put-event c = search needs
 
--- src/lib.rt:189:9
 put-event-requires : tie.Need-put-event-requires
 put-event-requires c κs = search needs
 
--- src/lib.rt:190:9
 copy-requires : tie.Need-copy-requires
 copy-requires c κs = search needs
 
--- src/lib.rt:183:1
 same-length : tie.Need-same-length
 same-length c = search needs
 
--- src/lib.rt:183:1
 returns : tie.Need-returns
 returns c =
     let a = c .before .before .before .before .before .before .before .before .before .before .before .args in
@@ -39,7 +30,6 @@ returns c =
     let p2 = more _ p1 refl (c .before .before .copy .ensures) (omega arith) in
     written p2 (pause-bytes _ (a .seq) (a .vcpu) (a .state .now) refl) (omega arith)
 
--- src/lib.rt:183:1
 returns-2 : tie.Need-returns-2
 returns-2 c =
     let a = c .before .before .before .args in

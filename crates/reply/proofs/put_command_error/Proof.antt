@@ -1,48 +1,35 @@
-use Rattle.kvmi.specs.Reply.{commandErrorEvent}
-use mir.Facts.{toZ-ofZ}
+-- The parts of the event stand side by side. Assumes nothing.
+use mathlib.Core.Path.{refl, sym}
 use Prim.Native.Nat.{ℕ}
+use native.Mathlib.Omega.{arith}
+use lib.ListN.{length-replicate}
+use mir.Facts.{toZ-ofZ}
+use borrow.Author.Needs.{needs}
+use Rattle.wire.proofs.Laws.{length-le}
+use Rattle.kvmi.specs.Reply.{commandErrorEvent}
 use Rattle.reply.proofs.Lengths.{length-code, length-command-error}
 use Rattle.reply.proofs.Laws.{placed, more, length-front, command-error-bytes, written, unwritten}
-use lib.ListN.{length-replicate}
-use Rattle.wire.proofs.Laws.{length-le}
-use native.Mathlib.Omega.{arith}
-use mathlib.Core.Path.{refl, sym, ap, _∙_}
-use borrow.Author.Needs.{needs}
 use Rattle.reply.proofs.put_command_error.Statement.{statement}
 use Rattle.reply.proofs.put_command_error.Tie as tie
-use Rattle.reply.proofs.put_command_error.Reads as reads
-use Rattle.reply.proofs.put_command_error.Lts as lts
-use Rattle.reply.proofs.put_event.Reads as put-event-reads
-use Rattle.wire.proofs.fill.Reads as fill-reads
-use Rattle.wire.proofs.store32.Reads as store32-reads
-use Rattle.wire.proofs.store64.Reads as store64-reads
-use Rattle.wire.proofs.store_code.Reads as store-code-reads
 
--- src/lib.rt:198:9
 put-event-requires : tie.Need-put-event-requires
 put-event-requires c κs = search needs
 
--- src/lib.rt:199:9
 fill-requires : tie.Need-fill-requires
 fill-requires c κs = search needs
 
--- src/lib.rt:200:9
 store-code-requires : tie.Need-store-code-requires
 store-code-requires c κs = search needs
 
--- src/lib.rt:201:9
 store32-requires : tie.Need-store32-requires
 store32-requires c κs = search needs
 
--- src/lib.rt:202:9
 store64-requires : tie.Need-store64-requires
 store64-requires c κs = search needs
 
--- src/lib.rt:194:1
 same-length : tie.Need-same-length
 same-length c = search needs
 
--- src/lib.rt:194:1
 returns : tie.Need-returns
 returns c =
     let a = c .before .before .before .before .before .before .before .before .before .before .before .before .before .before .before .before .before .before .before .before .before .before .args in
@@ -53,7 +40,6 @@ returns c =
     let p5 = more _ p4 (length-le 8 _) (c .before .before .store64 .ensures) (omega arith) in
     written p5 (rw (toZ-ofZ (c .before .before .before .before .before .before .before .before .before .before .before .before .before .before .before .before .before .before .before .before .before .before .fits .code)) (command-error-bytes (a .next) (a .code) (a .seq) (a .id) (omega arith))) refl
 
--- src/lib.rt:194:1
 returns-2 : tie.Need-returns-2
 returns-2 c =
     let a = c .before .before .args in

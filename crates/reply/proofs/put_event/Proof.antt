@@ -1,42 +1,30 @@
-use Rattle.reply.proofs.Laws.{placed, more, length-header, front-bytes}
-use lib.ListN.{length}
-use Rattle.wire.proofs.Laws.{length-le}
+-- The stores side by side are one; an event's number and three zeros are four bytes. Assumes nothing.
+use mathlib.Core.Path.{_∙_}
 use native.Mathlib.Omega.{arith}
-use mathlib.Core.Path.{refl, sym, ap, _∙_}
 use borrow.Author.Needs.{needs}
+use Rattle.wire.proofs.Laws.{length-le}
+use Rattle.reply.proofs.Laws.{placed, more, length-header, front-bytes}
 use Rattle.reply.proofs.put_event.Statement.{statement}
 use Rattle.reply.proofs.put_event.Tie as tie
-use Rattle.reply.proofs.put_event.Reads as reads
-use Rattle.reply.proofs.put_event.Lts as lts
-use Rattle.reply.proofs.put_header.Reads as put-header-reads
-use Rattle.wire.proofs.store16.Reads as store16-reads
-use Rattle.wire.proofs.store32.Reads as store32-reads
 
--- src/lib.rt:175:5
 put-header-requires : tie.Need-put-header-requires
 put-header-requires c κs = search needs
 
--- src/lib.rt:176:5
 store16-requires : tie.Need-store16-requires
 store16-requires c κs = search needs
 
--- src/lib.rt:177:28
 cast-store16 : tie.Need-cast-store16
 cast-store16 c = search needs
 
--- src/lib.rt:177:5
 store16-requires-2 : tie.Need-store16-requires-2
 store16-requires-2 c κs = search needs
 
--- src/lib.rt:178:5
 store32-requires : tie.Need-store32-requires
 store32-requires c κs = search needs
 
--- src/lib.rt:171:1
 same-length : tie.Need-same-length
 same-length c = search needs
 
--- src/lib.rt:171:1
 returns : tie.Need-returns
 returns c =
     let a = c .before .before .before .before .before .before .before .before .before .before .before .before .before .before .before .before .before .args in
