@@ -4,7 +4,8 @@ use native.Mathlib.Omega.{arith}
 use borrow.Author.Needs.{needs}
 use Rattle.kvmi.specs.declared.Layout.{Layout}
 use Rattle.kvmi.specs.Reply.{replyData}
-use Rattle.reply.proofs.Laws.{tested, chosen, chosen-none, chosen-error}
+use Rattle.reply.proofs.Laws.{tested}
+use Rattle.reply.proofs.Data.{chosen, chosen-none, chosen-error}
 use Rattle.reply.specs.Contents.{contentsBytes, contentsEnd}
 use Rattle.reply.proofs.choose.Statement.{statement}
 use Rattle.reply.proofs.choose.Tie as tie

@@ -2,7 +2,7 @@
 use mathlib.Core.Path.{_∙_}
 use borrow.Author.Needs.{needs}
 use Rattle.kvmi.specs.Message.{gpaOf, sizeOf}
-use Rattle.reply.proofs.Laws.{picked}
+use Rattle.reply.proofs.Data.{picked}
 use Rattle.reply.proofs.memory.Statement.{statement}
 use Rattle.reply.proofs.memory.Tie as tie
 

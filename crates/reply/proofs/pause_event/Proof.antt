@@ -26,7 +26,7 @@ same-length c = search needs
 returns : tie.Need-returns
 returns c =
     let a = c .before .before .before .before .before .before .before .before .before .before .before .args in
-    let p1 = placed _ (length-front _ (a .seq) (a .vcpu) 2) (c .before .before .before .before .before .before .put-event .ensures) in
+    let p1 = placed _ (length-front _ _ _ _) (c .before .before .before .before .before .before .put-event .ensures) in
     let p2 = more _ p1 refl (c .before .before .copy .ensures) (omega arith) in
     written p2 (pause-bytes _ (a .seq) (a .vcpu) (a .state .now) refl) (omega arith)
 

@@ -33,7 +33,7 @@ same-length c = search needs
 returns : tie.Need-returns
 returns c =
     let a = c .before .before .before .before .before .before .before .before .before .before .before .before .before .before .before .before .before .before .before .before .before .before .args in
-    let p1 = placed _ (length-front 560 (a .next) 0 13) (c .before .before .before .before .before .before .before .before .before .before .before .before .before .before .before .before .before .before .put-event .ensures) in
+    let p1 = placed _ (length-front _ _ _ _) (c .before .before .before .before .before .before .before .before .before .before .before .before .before .before .before .before .before .before .put-event .ensures) in
     let p2 = more _ p1 (length-replicate {A = ℕ} 536 0) (c .before .before .before .before .before .before .before .before .before .before .before .before .before .before .fill .ensures) (omega arith) in
     let p3 = more _ p2 (length-code _) (c .before .before .before .before .before .before .before .before .before .before .store-code .ensures) (omega arith) in
     let p4 = more _ p3 (length-le 4 _) (c .before .before .before .before .before .before .store32 .ensures) (omega arith) in

@@ -28,7 +28,7 @@ same-length c = search needs
 returns : tie.Need-returns
 returns c =
     let a = c .before .before .before .before .before .before .before .before .before .before .before .before .before .before .before .before .before .args in
-    let p1 = placed _ (length-header 17 (a .size) (a .seq)) (c .before .before .before .before .before .before .before .before .before .before .before .before .before .before .put-header .ensures) in
+    let p1 = placed _ (length-header _ _ _) (c .before .before .before .before .before .before .before .before .before .before .before .before .before .before .put-header .ensures) in
     let p2 = more _ p1 (length-le 2 _) (c .before .before .before .before .before .before .before .before .before .before .store16 .ensures) (omega arith) in
     let p3 = more _ p2 (length-le 2 _) (c .before .before .before .before .before .before .store162 .ensures) (omega arith) in
     let p4 = more _ p3 (length-le 4 _) (c .before .before .store32 .ensures) (omega arith) in

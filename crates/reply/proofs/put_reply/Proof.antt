@@ -11,7 +11,8 @@ use Rattle.wire.proofs.Laws.{length-le}
 use Rattle.kvmi.specs.Codes.{isError}
 use Rattle.kvmi.specs.Reply.{replyBytes, replyData}
 use Rattle.reply.proofs.Lengths.{length-code}
-use Rattle.reply.proofs.Laws.{placed, more, length-header, length-contents, count-bound, reply-bytes, reply-count, written, unwritten}
+use Rattle.reply.proofs.Laws.{placed, more, length-header, reply-bytes, reply-count, written, unwritten}
+use Rattle.reply.proofs.Data.{length-contents, count-bound}
 use Rattle.reply.specs.Contents.{contentsBytes}
 use Rattle.reply.proofs.put_reply.Statement.{statement}
 use Rattle.reply.proofs.put_reply.Tie as tie
@@ -62,7 +63,7 @@ returns c =
     let k = c .before .before .before .before .before .before .before .before .before .before .before .before .before .before .before .before .before in
     let fits = c .before .before .before .before .before .before .before .before .before .before .before .before .before .before .before .before .if1 .taken in
     let a = k .before .before .before .before .before .args in
-    let p1 = placed _ (length-header (a .id) (k .count-of .result + 8) (a .seq)) (c .before .before .before .before .before .before .before .before .before .before .before .before .before .before .put-header .ensures) in
+    let p1 = placed _ (length-header _ _ _) (c .before .before .before .before .before .before .before .before .before .before .before .before .before .before .put-header .ensures) in
     let p2 = more _ p1 (length-code _) (c .before .before .before .before .before .before .before .before .before .before .store-code .ensures) (omega arith) in
     let p3 = more _ p2 (length-le 4 0) (c .before .before .before .before .before .before .store32 .ensures) (omega arith) in
     let p4 = more _ p3 (counted k) (c .before .before .put-contents .ensures) (omega arith) in
