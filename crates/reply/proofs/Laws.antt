@@ -6,7 +6,8 @@ use Prim.Native.Nat.{ℕ, zero, suc, _+_, _/_, _%_, _^_, _≤_, _<_}
 use native.Mathlib.Nat.{zero-add, suc-add, pow-suc, div-lt-iff-lt-mul, zero-lt-suc}
 use native.Mathlib.Omega.{arith}
 use lib.IntN.{ℤ, pos, negsuc}
-use lib.ListN.{length, replicate, length-append, length-replicate}
+use lib.ListN.{length, take, drop, replicate, length-append, length-replicate}
+use lib.Seq.{take-append-seam}
 use lib.Signed.{ltZ}
 use mir.Syntax.{w32}
 use mir.Val.{SFits, toZ, ofZ}
@@ -14,7 +15,7 @@ use mir.Facts.{toZ-ofZ}
 use borrow.Author.Tests.{le-ltb}
 use Rattle.wire.specs.Bytes.{le, store}
 use Rattle.wire.specs.Code.{codeBytes}
-use Rattle.wire.proofs.Laws.{length-le, le-join, store-join, store-past, store-none}
+use Rattle.wire.proofs.Laws.{length-le, le-join, store-join, store-past, store-none, store-start}
 use Rattle.kvmi.specs.declared.Settings.{Settings}
 use Rattle.kvmi.specs.Codes.{isError}
 use Rattle.kvmi.specs.Reply.{messageBytes, replyBytes, replyData, eventBytes, pauseEvent, commandErrorEvent}
@@ -150,3 +151,7 @@ unwritten s bytes r e h = record { count = e; there = sym (store-past s 0 bytes 
 
 pub written-none : (s : List ℕ) → Written s s 0 []
 written-none s = record { count = refl; there = sym (store-none s 0) }
+
+-- what fits stands at the front
+pub written-front : {s out b : List ℕ} {r : ℕ} → Written s out r b → length b ≤ length s → take r out ≡ b
+written-front {s} {out} {b} {r} w h = rw (w .there, w .count, store-start s b h) (take-append-seam b (drop (length b) s))

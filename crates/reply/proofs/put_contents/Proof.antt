@@ -9,12 +9,12 @@ use Rattle.reply.specs.Contents.{contentsBytes, contentsCount, contentsE
 use Rattle.reply.proofs.put_contents.Statement.{statement}
 use Rattle.reply.proofs.put_contents.Tie as tie
 
-enum-told : tie.Need-enum-told
-enum-told c = search needs
-
 -- a part is lent by where it starts and ends
 part-count : (from count : ℕ) → from + count - from ≡ count
 part-count from count = omega arith
+
+enum-told : tie.Need-enum-told
+enum-told c = search needs
 
 enum-told-2 : tie.Need-enum-told-2
 enum-told-2 c = search needs
