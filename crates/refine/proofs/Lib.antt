@@ -4,7 +4,6 @@ pub mod Vcpus
 pub mod Awaited
 pub mod Words
 pub mod Changes
-pub mod Lengths
 pub mod Simulate
 pub mod Theorems
 pub mod Frames

@@ -50,7 +50,7 @@ use Rattle.laws.proofs.Bool.{and-l, and-r, test}
 use Rattle.laws.proofs.Bits.{put-below}
 use Rattle.laws.proofs.Verdicts.{pick, and-false, or-false-l, Passed, verdict-cases, sound-of}
 use Rattle.laws.proofs.Steps.{step-kept}
-use Rattle.refine.proofs.Lengths.{length-reply, length-pause-whole, length-command-error, length-answer}
+use Rattle.reply.proofs.Lengths.{length-reply, length-pause-whole, length-command-error, length-answer}
 use Rattle.refine.proofs.Pages.{none-good}
 use Rattle.refine.proofs.Msrs.{zeros-field, zeros-msrs}
 use Rattle.refine.proofs.Vcpus.{zeros-vcpus, vcpus-ready, vcpus-pauses}
