@@ -1,0 +1,34 @@
+-- The image writer as code performs it, for any bits in the session: no more vCPUs are stated than there are blocks, and no more pages than words.
+use Prim.Native.Nat.{ℕ, min}
+use mathlib.Core.List.{List, [], _∷_}
+use mathlib.Core.Bool.{Bool, cond, not}
+use lib.ListN.{length}
+use lib.Dec.{ltb, eqb}
+use Rattle.kvmi.specs.declared.Signal.the-variants.{Quiet}
+use Rattle.kvmi.specs.Tables.{Tables}
+use Rattle.kvmi.specs.Image.{image}
+use Rattle.kvmi.specs.Call.{awaitsAny}
+use Rattle.store.specs.Meaning.{pagesOf, msrsOf, vcpusOf}
+use Rattle.session.specs.State.{State}
+use Rattle.session.specs.Calls.{Told, toldSame, toldWritten}
+use Rattle.session.specs.Meaning.{awaitedOf}
+
+-- the vCPUs that an image states
+unfoldable pub statedVcpus : State → ℕ
+statedVcpus st = min (st .session .settings .vcpus) 16
+
+unfoldable pub statedTables : State → Tables
+statedTables st =
+    record {
+      events = st .session .tool .events;
+      vcpus = vcpusOf (st .session .ready) (st .vcpus) 0 (statedVcpus st);
+      msrs = msrsOf (st .vcpus) 0 (statedVcpus st);
+      pages = pagesOf (st .pages) (min (st .session .tool .pages) (length (st .pages)));
+    }
+
+unfoldable pub imageOf : State → List ℕ → Told
+imageOf st out =
+    cond (not (eqb (st .session .tool .closed) 0)) (toldSame 2 st out [])
+    (cond (awaitsAny (awaitedOf (st .vcpus) 0 (statedVcpus st))) (toldSame 10 st out [])
+    (cond (ltb (length out) (length (image (statedTables st)))) (toldSame 3 st out [])
+    (toldWritten (image (statedTables st)) Quiet st out [])))

@@ -1,0 +1,1 @@
+// The table image of a session: written, and read.
