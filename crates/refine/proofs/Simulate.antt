@@ -134,7 +134,7 @@ module _ (st : State) (g : WordsGood st) (ok : So (inRange (st .session .setting
       (λ _. pick M (eqb id 15) _ _ (λ _. replies-meant st g few guest d (modeOf (enables id d) (eqb (getD d 2 0) 1)) (eqb (getD d 1 0) 1)) (λ _. still guest)))))))))
 
 -- by cases on one test of both
-both : {A B : Type 0} (R : A → B → Type 0) (b : Bool) (x y : A) (u v : B) → (b ≡ true → R x u) → (b ≡ false → R y v) → R (cond b x y) (cond b u v)
+pub both : {A B : Type 0} (R : A → B → Type 0) (b : Bool) (x y : A) (u v : B) → (b ≡ true → R x u) → (b ≡ false → R y v) → R (cond b x y) (cond b u v)
 both R true x y u v f g = f refl
 both R false x y u v f g = g refl
 
@@ -147,7 +147,7 @@ pub record Simulates (st : State) (r : Told) (q : model.Step) : Type 0 where
   pub settings : r .state .session .settings ≡ st .session .settings
   pub words : WordsGood (r .state)
 
-same-simulates : (k : ℕ) (st : State) (out guest : List ℕ) → WordsGood st → Simulates st (toldSame k st out guest) (model.unchanged k (modelOf st) out guest)
+pub same-simulates : (k : ℕ) (st : State) (out guest : List ℕ) → WordsGood st → Simulates st (toldSame k st out guest) (model.unchanged k (modelOf st) out guest)
 same-simulates k st out guest g = record { answer = refl; out = refl; guest = refl; model = refl; settings = refl; words = g }
 
 -- all words 0

@@ -1,0 +1,1 @@
+// Theorems over lists of calls: no code.
