@@ -72,7 +72,7 @@ unfolding freshOf
 begin-fresh s vcpus pages ok = (rw ok, rw ok)
 
 -- ---- every call keeps it
-formed : (st : State) (r : Told) (q : model.Step) → WellFormed st → Simulates st r q → Valid (st .session .settings) (q .model .tables) → WellFormed (r .state)
+pub formed : (st : State) (r : Told) (q : model.Step) → WellFormed st → Simulates st r q → Valid (st .session .settings) (q .model .tables) → WellFormed (r .state)
 formed st r q f m a =
     let same : tablesOf (r .state) ≡ q .model .tables = ap (λ (x : Model). x .tables) (m .model) in
     record {

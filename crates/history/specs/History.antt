@@ -1,0 +1,32 @@
+-- Lists of calls on a session, each on what the one before it left, over the definitions that the public promises equal.
+use mathlib.Core.Path.{_≡_}
+use Prim.Native.Nat.{ℕ}
+use mathlib.Core.List.{List, [], _∷_}
+use lib.ListN.{length}
+use Rattle.kvmi.specs.declared.Settings.{Settings}
+use Rattle.kvmi.specs.Tables.{Tables}
+use Rattle.kvmi.specs.Model.{Model, fresh, begun}
+use Rattle.kvmi.specs.Image.{loaded, loadImage}
+use Rattle.kvmi.specs.Call.{Call, message, ready, enter, writeImage}
+use Rattle.session.specs.State.{State}
+use Rattle.session.specs.Calls.{Told, freshOf, messageOf, readyOf, enterOf}
+use Rattle.image.specs.Write.{imageOf}
+use Rattle.image.specs.Read.{readOf}
+
+-- what a call does to a session
+unfoldable pub stepOf : State → Call → Told
+stepOf st (message msg out guest) = messageOf st msg out guest
+stepOf st (ready vcpu) = readyOf st vcpu
+stepOf st (enter vcpu block out) = enterOf st vcpu block out
+stepOf st (writeImage out) = imageOf st out
+
+unfoldable pub afterOf : State → List Call → State
+afterOf st [] = st
+afterOf st (c ∷ cs) = afterOf (stepOf st c .state) cs
+
+-- how a session began, on whatever words were lent (4,352 and 1,024 of them), and the model that began with it, which is given by the settings
+-- and the image alone
+pub data BeganOn (s : Settings) : State → Model → Type 0 where
+  anew : (vcpus pages : List ℕ) → length vcpus ≡ 4352 → length pages ≡ 1024 → freshOf s vcpus pages .answer .number ≡ 0 → BeganOn s (freshOf s vcpus pages .state) (fresh s)
+  fromImage : (vcpus pages : List ℕ) → length vcpus ≡ 4352 → length pages ≡ 1024 → (l : List ℕ) (t : Tables) → readOf s l vcpus pages .answer .number ≡ 0 → loadImage s l ≡ loaded t
+      → BeganOn s (readOf s l vcpus pages .state) (begun t)
