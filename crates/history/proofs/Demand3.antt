@@ -1,0 +1,134 @@
+-- Demand 3, proved. Assumes nothing.
+use mathlib.Core.Path.{_≡_, refl, sym, ap, _∙_, subst}
+use mathlib.Core.Logic.{_↔_}
+use Prim.Native.Nat.{ℕ, zero, suc, _≤_, _<_}
+use native.Mathlib.Omega.{arith}
+use mathlib.Core.List.{List, [], _∷_, _++_}
+use mathlib.Core.Bool.{Bool, true, false, cond, So, true≢false, false≢true}
+use lib.ListN.{length, take, drop, replicate}
+use mathlib.Core.Option.{Option, none, some}
+use lib.Seq.{take-at}
+use lib.Pow.{areBytes}
+use lib.Dec.{ltb}
+use borrow.Author.Tests.{le-ltb, ltb-true, ltb-false}
+use Rattle.kvmi.specs.declared.Settings.{Settings}
+use Rattle.kvmi.specs.declared.Signal.the-variants.{Quiet}
+use Rattle.kvmi.specs.Answer.{Paper, handled}
+use Rattle.kvmi.specs.Tables.{Tables, SameTables}
+use Rattle.kvmi.specs.Model.{Awaited, Model, begun}
+use Rattle.kvmi.specs.Image.{image, Loaded, loaded, badForm, forbidden, loadImage}
+use Rattle.kvmi.specs.Valid.{Valid}
+use Rattle.kvmi.specs.Call.{Call, awaitsAny, imageStep, after, Step}
+use Rattle.session.specs.State.{State}
+use Rattle.session.specs.Meaning.{modelOf, WellFormed}
+use Rattle.image.specs.Write.{imageOf}
+use Rattle.image.specs.Read.{toldLoaded, readOf}
+use Rattle.history.specs.History.{afterOf, BeganOn, anew, fromImage}
+use Rattle.history.specs.Demand3.{Open, Writes, Demand3}
+use Rattle.laws.proofs.Bool.{test, clash}
+use Rattle.laws.proofs.Verdicts.{pick}
+use Rattle.laws.proofs.Load.{load-write}
+use Rattle.laws.proofs.Write.{image-injective}
+use Rattle.laws.proofs.Same.{same-equal, equal-same}
+use Rattle.history.proofs.Images.{image-simulates}
+use Rattle.history.proofs.Lists.{Stands, after-stands, began-stands, read-range}
+
+-- ---- the model's image writing
+-- what an answer's number says of the model
+record Told (m : Model) (r : Step) : Type 0 where
+  closed : (r .answer .number ≡ 2) ↔ (m .closed ≡ true)
+  busy : (r .answer .number ≡ 10) ↔ ((m .closed ≡ false) × (awaitsAny (m .awaited) ≡ true))
+
+step-told : (m : Model) (out : List ℕ) → Told m (imageStep m out)
+unfolding imageStep
+step-told m out =
+    pick (Told m) (m .closed) _ _ (λ e. record { closed = (λ _. e, λ _. refl); busy = (λ h. absurd (omega arith), λ q. clash e (q .0)) })
+    (λ e. pick (Told m) (awaitsAny (m .awaited)) _ _
+    (λ w. record { closed = (λ h. absurd (omega arith), λ q. clash q e); busy = (λ _. (e, w), λ _. refl) })
+    (λ w. pick (Told m) (ltb (length out) (length (image (m .tables)))) _ _
+    (λ _. record { closed = (λ h. absurd (omega arith), λ q. clash q e); busy = (λ h. absurd (omega arith), λ q. clash (q .1) w) })
+    (λ _. record { closed = (λ h. absurd (omega arith), λ q. clash q e); busy = (λ h. absurd (omega arith), λ q. clash (q .1) w) })))
+
+step-writes : (m : Model) (out : List ℕ) → m .closed ≡ false → awaitsAny (m .awaited) ≡ false → length (image (m .tables)) ≤ length out
+    → (imageStep m out .answer ≡ handled (length (image (m .tables))) Quiet) × (imageStep m out .out ≡ image (m .tables) ++ drop (length (image (m .tables))) out)
+unfolding imageStep
+step-writes m out e w h = let r = le-ltb (length out) (length (image (m .tables))) h in (rw (e, w, r), rw (e, w, r))
+
+-- without room nothing is written
+step-short : (m : Model) (out : List ℕ) → m .closed ≡ false → awaitsAny (m .awaited) ≡ false → imageStep m out .answer .number ≡ 0 → length (image (m .tables)) ≤ length out
+unfolding imageStep
+step-short m out e w h =
+    test (ltb (length out) (length (image (m .tables)))) (λ r. let z : _≡_ {A = ℕ} 3 0 = rw (e, w, r) at h in absurd (omega arith))
+    (λ r. ltb-false (length out) (length (image (m .tables))) r)
+
+-- ---- the session's
+module _ (s : Settings) (st : State) (m : Model) (f : Stands s st m) (out : List ℕ) where
+  same-answer : imageOf st out .answer ≡ imageStep m out .answer
+  same-answer = image-simulates st (f .formed) out .answer ∙ ap (λ (x : Model). imageStep x out .answer) (f .model)
+
+  same-out : imageOf st out .out ≡ imageStep m out .out
+  same-out = image-simulates st (f .formed) out .out ∙ ap (λ (x : Model). imageStep x out .out) (f .model)
+
+  same-number : imageOf st out .answer .number ≡ imageStep m out .answer .number
+  same-number = ap (λ (p : Paper). p .number) same-answer
+
+  says-closed : (imageOf st out .answer .number ≡ 2) ↔ (m .closed ≡ true)
+  says-closed = let t = step-told m out .closed in (λ h. t .0 (sym same-number ∙ h), λ h. same-number ∙ t .1 h)
+
+  says-busy : (imageOf st out .answer .number ≡ 10) ↔ ((m .closed ≡ false) × (awaitsAny (m .awaited) ≡ true))
+  says-busy = let t = step-told m out .busy in (λ h. t .0 (sym same-number ∙ h), λ h. same-number ∙ t .1 h)
+
+  says-image : m .closed ≡ false → awaitsAny (m .awaited) ≡ false → length (image (m .tables)) ≤ length out → Writes st out (image (m .tables))
+  says-image e w h = let r = step-writes m out e w h in (same-answer ∙ r .0, same-out ∙ r .1)
+
+  -- what is written is the image
+  is-image : (bytes : List ℕ) → m .closed ≡ false → awaitsAny (m .awaited) ≡ false → Writes st out bytes → bytes ≡ image (m .tables)
+  is-image bytes e w h =
+      let zero-number : imageStep m out .answer .number ≡ 0 = sym same-number ∙ ap (λ (p : Paper). p .number) (h .0) in
+      let r = says-image e w (step-short m out e w zero-number) in
+      let n : length bytes ≡ length (image (m .tables)) = ap (λ (p : Paper). p .count) (sym (h .0) ∙ r .0) in
+      sym (take-at bytes (drop (length bytes) out) (length (image (m .tables))) n)
+      ∙ ap (take (length (image (m .tables)))) (sym (h .1) ∙ r .1)
+      ∙ take-at (image (m .tables)) (drop (length (image (m .tables))) out) (length (image (m .tables))) refl
+
+valid-of : (s : Settings) (st : State) (m : Model) → Stands s st m → Valid s (m .tables)
+valid-of s st m f = subst (λ (x : Settings). Valid x (m .tables)) (f .settings) (subst (λ (k : Model). Valid (st .session .settings) (k .tables)) (f .model) (f .formed .tables))
+
+-- an accepted image states tables
+accepts : (s : Settings) (l vcpus pages : List ℕ) → readOf s l vcpus pages .answer .number ≡ 0 → (t : Tables) × (loadImage s l ≡ loaded t)
+unfolding readOf toldLoaded
+accepts s l vcpus pages h = by (loadImage s l) refl (rw (read-range s l vcpus pages h) at h)
+  where
+    by : (x : Loaded) → loadImage s l ≡ x → toldLoaded s vcpus pages (loadImage s l) .answer .number ≡ 0 → (t : Tables) × (loadImage s l ≡ loaded t)
+    by (loaded t) e g = (t, e)
+    by (badForm off) e g = let z : _≡_ {A = ℕ} 8 0 = rw e at g in absurd (omega arith)
+    by (forbidden off) e g = let z : _≡_ {A = ℕ} 9 0 = rw e at g in absurd (omega arith)
+
+no-waits : (n : ℕ) → awaitsAny (replicate {A = Option Awaited} n none) ≡ false
+no-waits zero = refl
+no-waits (suc n) = no-waits n
+
+-- ---- demand 3
+pub demand-3 : Demand3
+demand-3 =
+    record {
+      closed = λ s st m b cs out. says-closed s (afterOf st cs) (after s m cs) (after-stands s st m cs (began-stands s st m b)) out;
+      busy = λ s st m b cs out. says-busy s (afterOf st cs) (after s m cs) (after-stands s st m cs (began-stands s st m b)) out;
+      writes = λ s st m b cs out o h. says-image s (afterOf st cs) (after s m cs) (after-stands s st m cs (began-stands s st m b)) out (o .0) (o .1) h;
+      alike = λ s st st′ m k b c cs ds out out′ bytes bytes′ o p w v.
+          let f = after-stands s st m cs (began-stands s st m b) in
+          let g = after-stands s st′ k ds (began-stands s st′ k c) in
+          let e = is-image s (afterOf st cs) (after s m cs) f out bytes (o .0) (o .1) w in
+          let d = is-image s (afterOf st′ ds) (after s k ds) g out′ bytes′ (p .0) (p .1) v in
+          let t = after s m cs .tables in
+          let u = after s k ds .tables in
+          let vt = valid-of s (afterOf st cs) (after s m cs) f in
+          let vu = valid-of s (afterOf st′ ds) (after s k ds) g in
+          (λ q. equal-same t u (image-injective s t u vt vu (sym e ∙ q ∙ d)), λ q. e ∙ ap image (same-equal s t u vt vu q) ∙ sym d);
+      again = λ s vcpus pages v p l bytes h out room.
+          let a = accepts s l vcpus pages h in
+          let f = began-stands s (readOf s l vcpus pages .state) (begun (a .0)) (fromImage vcpus pages v p l (a .0) h (a .1)) in
+          let same = load-write s l (a .0) bytes (a .1) in
+          subst (λ (x : List ℕ). Writes (readOf s l vcpus pages .state) out x) same
+          (says-image s (readOf s l vcpus pages .state) (begun (a .0)) f out refl (no-waits (length (a .0 .vcpus))) (subst (λ (x : List ℕ). length x ≤ length out) (sym same) room));
+    }
