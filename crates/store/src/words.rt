@@ -1,0 +1,105 @@
+// The vCPU words: a block for each vCPU, plain fields first and then a bit for each MSR switch.
+use crate::bits::bit_on;
+use crate::bits::put_bit;
+ghost use mathlib.Core.Path.{_≡_};
+ghost use lib.ListN.{getD, set};
+ghost use Rattle.store.specs.Words.{field, setField, msrSlot, msrWord, msrBitOn, setMsrBit, cleared};
+
+// How many words a vCPU has.
+pub const BLOCK_WORDS: usize = 272;
+
+// The plain fields: the switches and queues of a vCPU, and the event whose reply is awaited with its seq.
+pub const SINGLESTEP: usize = 0;
+
+pub const CRS: usize = 1;
+
+pub const EVENTS: usize = 2;
+
+pub const PAUSES: usize = 3;
+
+pub const AWAITED: usize = 4;
+
+pub const AWAITED_SEQ: usize = 5;
+
+// The first word of MSR switches.
+pub const MSRS: usize = 16;
+
+// The word at a place, or 0 past the end.
+fn word(words: &[u64], at: usize) -> u64
+    ensures { λ r. ⌜ r ≡ getD (now (words .entry)) at 0 ⌝ }
+{
+    if at < words.len() { words[at] } else { 0 }
+}
+
+// A word stored at a place; past the end nothing changes.
+fn set_word(words: &mut [u64], at: usize, x: u64)
+    ensures { λ _. ⌜ now (words .exit) ≡ set (now (words .entry)) at x ⌝ }
+{
+    if at < words.len() {
+        words[at] = x;
+    }
+}
+
+// Field k of a vCPU.
+pub fn read_field(words: &[u64], vcpu: u16, k: usize) -> u64
+    ensures { λ r. ⌜ r ≡ field (now (words .entry)) vcpu k ⌝ }
+{
+    if k < words.len() {
+        word(words, (vcpu as usize) * BLOCK_WORDS + k)
+    } else {
+        0
+    }
+}
+
+// Field k of a vCPU set.
+pub fn write_field(words: &mut [u64], vcpu: u16, k: usize, x: u64)
+    ensures { λ _. ⌜ now (words .exit) ≡ setField (now (words .entry)) vcpu k x ⌝ }
+{
+    if k < words.len() {
+        set_word(words, (vcpu as usize) * BLOCK_WORDS + k, x);
+    }
+}
+
+// The place of an MSR's switch among those of a vCPU.
+fn msr_slot(msr: u32) -> u32
+    ensures { λ r. ⌜ r ≡ msrSlot msr ⌝ }
+{
+    msr / 0xC0000000 * 8192 + msr % 8192
+}
+
+// The place of the word with an MSR's switch.
+fn msr_word(vcpu: u16, msr: u32) -> usize
+    ensures { λ r. ⌜ r ≡ msrWord vcpu msr ⌝ }
+{
+    let slot = msr_slot(msr);
+    (vcpu as usize) * BLOCK_WORDS + MSRS + (slot as usize) / 64
+}
+
+// Whether a vCPU's switch for an MSR is on.
+pub fn read_msr(words: &[u64], vcpu: u16, msr: u32) -> bool
+    ensures { λ r. ⌜ r ≡ msrBitOn (now (words .entry)) vcpu msr ⌝ }
+{
+    let w = word(words, msr_word(vcpu, msr));
+    bit_on(w, msr_slot(msr) % 64)
+}
+
+// A vCPU's switch for an MSR set.
+pub fn write_msr(words: &mut [u64], vcpu: u16, msr: u32, on: bool)
+    ensures { λ _. ⌜ now (words .exit) ≡ setMsrBit (now (words .entry)) vcpu msr on ⌝ }
+{
+    let at = msr_word(vcpu, msr);
+    let w = put_bit(word(words, at), msr_slot(msr) % 64, on);
+    set_word(words, at, w);
+}
+
+// Every word set to 0.
+pub fn clear(words: &mut [u64])
+    ensures { λ _. ⌜ now (words .exit) ≡ cleared (now (words .entry)) ⌝ }
+{
+    let n = words.len();
+    let mut i = 0;
+    while i < n {
+        words[i] = 0;
+        i += 1;
+    }
+}
