@@ -1,0 +1,11 @@
+-- What a function that writes bytes at the front of its output has done.
+use Prim.Native.Nat.{ℕ}
+use mathlib.Core.Path.{_≡_}
+use mathlib.Core.List.{List}
+use lib.ListN.{length}
+use Rattle.wire.specs.Bytes.{store}
+
+-- the output before and after, the count that is returned, and the bytes; where they do not fit the output stays as it was
+pub record Written (before after : List ℕ) (r : ℕ) (bytes : List ℕ) : Type 0 where
+  pub count : r ≡ length bytes
+  pub there : after ≡ store before 0 bytes
