@@ -2,12 +2,12 @@
 use mathlib.Core.Path.{_≡_, refl, sym, ap, _∙_}
 use mathlib.Core.Bool.{Bool, true, false}
 use Prim.Native.Nat.{ℕ, suc, _+_, _-_, _*_, _/_, _%_, _^_, _≤_, _<_}
-use native.Mathlib.Nat.{add-mul, le-trans, mod-le, mod-lt, mul-le-mul-right, div-mul-le-self, div-eq-of-lt, one-le-pow, pow-suc, pow-le-pow-right, zero-lt-suc}
+use native.Mathlib.Nat.{add-mul, le-trans, mod-le, mod-lt, mul-le-mul-right, div-mul-le-self, div-eq-of-lt, one-le-pow, pow-suc, pow-le-pow-right}
 use native.Mathlib.Omega.{arith}
 use lib.Arith.{digits-lt}
 use lib.Pow.{pow-add, shl-exact, shr-lt, split}
 use mir.Val.{boolByte}
-use Rattle.kvmi.specs.Bits.{bit, bitOf, isOn, putBit}
+use Rattle.kvmi.specs.Bits.{bit, bitOf, isOn}
 
 pub bit-small : (on : Bool) → bit on < 2
 bit-small true = omega arith

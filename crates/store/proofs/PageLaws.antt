@@ -2,19 +2,18 @@
 use mathlib.Core.Path.{_≡_, refl, sym, ap, _∙_}
 use mathlib.Core.Bool.{Bool, true, false, cond, _&&_}
 use mathlib.Core.Logic.{⊎-elim}
-use mathlib.Core.List.{List, [], _∷_, _++_, append-assoc, append-nil}
+use mathlib.Core.List.{List, [], _∷_, append-assoc, append-nil}
 use Prim.Native.Nat.{ℕ, zero, suc, _+_, _-_, _*_, _/_, _%_, _^_, _≤_, _<_, min}
-use native.Mathlib.Nat.{add-zero}
 use native.Mathlib.Numerals.{add-one}
 use native.Mathlib.Omega.{arith}
-use lib.Dec.{ltb, eqb}
-use lib.ListN.{length, getD, set, take, drop, length-drop, drop-of-length-le}
+use lib.Dec.{leb, ltb, eqb}
+use lib.ListN.{length, getD, set, take, drop, length-append, length-take, length-drop, length-set, drop-of-length-le}
 use lib.Seq.{take-all, take-suc, take-nil, take-length, drop-length, drop-cons, append-snoc, set-split, take-set-le, drop-set-lt, drop-set-add, take-suc-set, getD-drop, drop-drop, drop-at, length-take-le}
-use borrow.Author.Tests.{lt-ltb, le-ltb, ltb-true, ltb-false, eq-eqb, ne-eqb, eqb-true, eqb-false}
+use borrow.Author.Tests.{lt-ltb, le-ltb, ltb-true, ltb-false, leb-false, eq-eqb, ne-eqb, eqb-false}
 use Rattle.wire.proofs.Laws.{le-or-lt}
 use Rattle.kvmi.specs.Bits.{bit}
 use Rattle.kvmi.specs.Message.{Entry, entryOf, entriesOf}
-use Rattle.store.specs.PageWords.{wordKey, keyOf, bisect, placeOf, standsAt, insertWord, removeWord, PageTable, putEntry, putEntries}
+use Rattle.store.specs.PageWords.{wordKey, keyOf, bisect, placeOf, standsAt, insertWord, removeWord, PageTable, pageTable, changeWord, addWord, putEntry, putEntries, runEntries}
 
 -- ---- bisection
 
@@ -191,6 +190,77 @@ unfolding removeWord
 remove-last cur i l =
     let n : i + 1 - (i + 1) ≡ 0 = omega arith in
     rw (n, add-one i, append-nil) (sym (set-split cur i 0 l))
+
+-- ---- what an entry keeps: how many words there are, and a bound on those in use that is no less than the room
+
+pub length-insert : (ws : List ℕ) (count at x : ℕ) → at ≤ count → count < length ws → length (insertWord ws count at x) ≡ length ws
+unfolding insertWord
+length-insert ws count at x h l = simp (length-append, length-take, length-drop) (omega arith)
+
+pub length-remove : (ws : List ℕ) (count at : ℕ) → at < count → count ≤ length ws → length (removeWord ws count at) ≡ length ws
+unfolding removeWord
+length-remove ws count at h l = simp (length-append, length-take, length-drop) (omega arith)
+
+abbrev Kept : ℕ → PageTable → PageTable → Type 0
+Kept most t t′ = (length (t′ .words) ≡ length (t .words)) × (t′ .count ≤ most) × (t′ .count ≤ length (t .words))
+
+module _ (limit most key access : ℕ) (t : PageTable) (room : min limit (length (t .words)) ≤ most) (few : t .count ≤ most) (dense : t .count ≤ length (t .words)) where
+  change-kept : (at : ℕ) → at < t .count → Kept most t (changeWord t at key access)
+  unfolding changeWord
+  change-kept at h = go (eqb access 7)
+    where
+      go : (b : Bool) → Kept most t (cond b (pageTable (removeWord (t .words) (t .count) at) (t .count - 1) (t .skipped)) (pageTable (set (t .words) at (key * 8 + access)) (t .count) (t .skipped)))
+      go true = (length-remove (t .words) (t .count) at h dense, omega arith, omega arith)
+      go false = (length-set (t .words) at (key * 8 + access), few, dense)
+
+  add-kept : (at : ℕ) → at ≤ t .count → Kept most t (addWord limit t at key access)
+  unfolding addWord
+  add-kept at h = go (eqb access 7) (leb (min limit (length (t .words))) (t .count)) refl
+    where
+      go : (b c : Bool) → leb (min limit (length (t .words))) (t .count) ≡ c → Kept most t (cond b t (cond c (pageTable (t .words) (t .count) true) (pageTable (insertWord (t .words) (t .count) at (key * 8 + access)) (t .count + 1) (t .skipped))))
+      go true c e = (refl, few, dense)
+      go false true e = (refl, few, dense)
+      go false false e =
+          let free : t .count < min limit (length (t .words)) = leb-false (min limit (length (t .words))) (t .count) e in
+          (length-insert (t .words) (t .count) at (key * 8 + access) h (omega arith), omega arith, omega arith)
+
+  pub put-kept : Kept most t (putEntry limit key access t)
+  unfolding putEntry
+  put-kept = go (standsAt (t .words) (t .count) key at) refl
+    where
+      at : ℕ
+      at = placeOf (t .words) (t .count) key
+
+      go : (b : Bool) → standsAt (t .words) (t .count) key at ≡ b → Kept most t (cond b (changeWord t at key access) (addWord limit t at key access))
+      go true e = change-kept at (stands-lt (t .words) (t .count) key at e)
+      go false e = add-kept at (place-le (t .words) (t .count) key)
+
+pub put-bound : (limit key access : ℕ) (t t′ : PageTable) → t .count ≤ length (t .words) → t′ ≡ putEntry limit key access t → t′ .count ≤ length (t .words)
+put-bound limit key access t t′ dense e = rw e (put-kept limit (length (t .words)) key access t (omega arith) dense dense .1)
+
+pub entries-kept : (limit most view : ℕ) (es : List Entry) (t : PageTable) → min limit (length (t .words)) ≤ most → t .count ≤ most → t .count ≤ length (t .words)
+    → Kept most t (putEntries limit view es t)
+unfolding putEntries
+entries-kept limit most view [] t room few dense = (refl, few, dense)
+entries-kept limit most view (e ∷ es) t room few dense =
+    let t′ = putEntry limit (keyOf view (e .page)) (e .access) t in
+    let k = put-kept limit most (keyOf view (e .page)) (e .access) t room few dense in
+    let r = entries-kept limit most view es t′ (rw (k .0) room) (k .1) (rw (k .0) (k .2)) in
+    (r .0 ∙ k .0, r .1, omega arith)
+
+-- a run of entries keeps the number of words, and of those in use within them
+pub run-kept : (limit view : ℕ) (es : List Entry) (ws : List ℕ) (count : ℕ)
+    → (length (runEntries limit view es ws count .words) ≡ length ws) × (runEntries limit view es ws count .count ≤ length ws)
+unfolding runEntries
+run-kept limit view es ws count =
+    let k = entries-kept limit (length ws) view es (pageTable ws (min count (length ws)) false) (omega arith) (omega arith) (omega arith) in
+    (k .0, k .1)
+
+-- and within the limit, where they were
+pub run-limit : (limit view : ℕ) (es : List Entry) (ws : List ℕ) (count : ℕ) → count ≤ limit → runEntries limit view es ws count .count ≤ limit
+unfolding runEntries
+run-limit limit view es ws count h =
+    entries-kept limit limit view es (pageTable ws (min count (length ws)) false) (omega arith) (omega arith) (omega arith) .1
 
 -- ---- a run of entries
 

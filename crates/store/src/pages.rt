@@ -10,9 +10,13 @@ ghost use Rattle.store.specs.PageWords.{wordKey, placeOf, insertWord, re
 // The access of a page that no word stands for: read, write and execute.
 const RWX: u8 = 7;
 
-// A word's key is below 2^61.
+// How many pages a view has, 2^52.
+const PAGES: u64 = 4503599627370496;
+
+// How many keys a word can have, 2^61.
 const KEYS: u64 = 2305843009213693952;
 
+// The top bit of a word.
 const TOP: u64 = 9223372036854775808;
 
 // How many words are in use after entries were taken, and whether one was skipped for want of room.
@@ -99,7 +103,6 @@ fn change_word(
 ) -> Taken
     requires { ⌜ (at < count) × (count ≤ length (now words)) × (key < 2 ^ 55) ⌝ }
     ensures { λ r. ⌜ pageTable (now (words .exit)) (r .count) (r .skipped) ≡ changeWord (pageTable (now (words .entry)) count skipped) at key access ⌝ }
-    ensures { λ r. ⌜ r .count ≤ length (now (words .entry)) ⌝ }
 {
     if access == RWX {
         remove(words, count, at);
@@ -125,7 +128,6 @@ fn add_word(
 ) -> Taken
     requires { ⌜ (at ≤ count) × (count ≤ length (now words)) × (key < 2 ^ 55) ⌝ }
     ensures { λ r. ⌜ pageTable (now (words .exit)) (r .count) (r .skipped) ≡ addWord limit (pageTable (now (words .entry)) count skipped) at key access ⌝ }
-    ensures { λ r. ⌜ r .count ≤ length (now (words .entry)) ⌝ }
 {
     if access == RWX {
         return Taken { count, skipped };
@@ -163,7 +165,6 @@ fn put_entry(
 ) -> Taken
     requires { ⌜ (count ≤ length (now words)) × (key < 2 ^ 55) ⌝ }
     ensures { λ r. ⌜ pageTable (now (words .exit)) (r .count) (r .skipped) ≡ putEntry limit key access (pageTable (now (words .entry)) count skipped) ⌝ }
-    ensures { λ r. ⌜ r .count ≤ length (now (words .entry)) ⌝ }
 {
     let at = place(words, count, key);
     if stands_at(words, count, key, at) {
@@ -194,7 +195,7 @@ pub fn put_entries(
 ) -> Taken
     ensures { λ r. ⌜ pageTable (now (words .exit)) (r .count) (r .skipped) ≡ runEntries limit view (entriesOf n (now (d .entry))) (now (words .entry)) count ⌝ }
 {
-    let first = ((view % 8) as u64) * 4503599627370496;
+    let first = ((view % 8) as u64) * PAGES;
     let mut t = Taken {
         count: smaller(count, words.len()),
         skipped: false,

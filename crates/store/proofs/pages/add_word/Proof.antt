@@ -1,5 +1,4 @@
 -- Assumes nothing.
-use native.Mathlib.Omega.{arith}
 use borrow.Author.Tests.{lt-leb, le-leb, eq-eqb, ne-eqb}
 use borrow.Author.Needs.{needs}
 use Rattle.store.specs.PageWords.{addWord}
@@ -8,7 +7,7 @@ use Rattle.store.proofs.pages.add_word.Tie as tie
 
 returns : tie.Need-returns
 unfolding addWord
-returns c = (simp (eq-eqb _ _ (c .if1 .taken)), omega arith)
+returns c = simp (eq-eqb _ _ (c .if1 .taken))
 
 smaller-requires : tie.Need-smaller-requires
 smaller-requires c κs = search needs
@@ -30,11 +29,11 @@ same-length c = search needs
 
 returns-2 : tie.Need-returns-2
 unfolding addWord
-returns-2 c = (simp (ne-eqb _ _ (c .before .before .before .before .before .before .if1 .left), ← c .before .before .before .before .before .smaller .ensures, lt-leb _ _ (c .before .before .before .before .if2 .taken), ← c .before .before .insert .ensures), omega arith)
+returns-2 c = simp (ne-eqb _ _ (c .before .before .before .before .before .before .if1 .left), ← c .before .before .before .before .before .smaller .ensures, lt-leb _ _ (c .before .before .before .before .if2 .taken), ← c .before .before .insert .ensures)
 
 returns-3 : tie.Need-returns-3
 unfolding addWord
-returns-3 c = (simp (ne-eqb _ _ (c .before .before .if1 .left), ← c .before .smaller .ensures, le-leb _ _ (c .if2 .left)), omega arith)
+returns-3 c = simp (ne-eqb _ _ (c .before .before .if1 .left), ← c .before .smaller .ensures, le-leb _ _ (c .if2 .left))
 
 pub add-word-spec : {M : Type 1} → statement M
 add-word-spec =

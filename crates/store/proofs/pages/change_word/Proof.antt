@@ -1,5 +1,4 @@
 -- Assumes nothing.
-use native.Mathlib.Omega.{arith}
 use borrow.Author.Tests.{eq-eqb, ne-eqb}
 use borrow.Author.Needs.{needs}
 use Rattle.store.specs.PageWords.{changeWord}
@@ -29,14 +28,14 @@ same-length c = search needs
 
 returns : tie.Need-returns
 unfolding changeWord
-returns c = (simp (eq-eqb _ _ (c .before .before .before .before .if1 .taken), ← c .before .before .remove .ensures), omega arith)
+returns c = simp (eq-eqb _ _ (c .before .before .before .before .if1 .taken), ← c .before .before .remove .ensures)
 
 same-length-2 : tie.Need-same-length-2
 same-length-2 c = search needs
 
 returns-2 : tie.Need-returns-2
 unfolding changeWord
-returns-2 c = (simp (ne-eqb _ _ (c .if1 .left)), omega arith)
+returns-2 c = simp (ne-eqb _ _ (c .if1 .left))
 
 pub change-word-spec : {M : Type 1} → statement M
 change-word-spec =

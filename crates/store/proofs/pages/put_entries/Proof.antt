@@ -7,7 +7,7 @@ use lib.ListN.{length, drop}
 use borrow.Author.Needs.{needs}
 use Rattle.kvmi.specs.Message.{entriesOf}
 use Rattle.store.specs.PageWords.{keyOf, pageTable, putEntries, runEntries}
-use Rattle.store.proofs.PageLaws.{part-clamped, page-bound, run-entry, run-end}
+use Rattle.store.proofs.PageLaws.{part-clamped, page-bound, put-bound, run-entry, run-end}
 use Rattle.store.proofs.pages.put_entries.Statement.{statement}
 use Rattle.store.proofs.pages.put_entries.Tie as tie
 
@@ -83,7 +83,8 @@ loop-again c =
     let l = c .before .before .before .before .before .before .before .before .before .before .loop in
     let p = part-clamped _ _ _ _ (c .before .before .before .before .before .before .before .before .smaller2 .ensures) (c .before .before .before .before .before .before .before .smaller3 .ensures) in
     let e = c .before .before .before .before .before .read-entry .ensures in
-    let next = run-entry (c .before .before .before .before .before .before .before .before .before .before .before .before .before .before .args .n) (l .i) _ _ _ _ _ _ _ _ (omega arith) p (e .0) (e .1) (c .before .before .put-entry .ensures .0) in
+    let next = run-entry (c .before .before .before .before .before .before .before .before .before .before .before .before .before .before .args .n) (l .i) _ _ _ _ _ _ _ _ (omega arith) p (e .0) (e .1) (c .before .before .put-entry .ensures) in
+    let bound = put-bound _ _ _ (pageTable (l .words) (l .t .count) (l .t .skipped)) _ (omega arith) (c .before .before .put-entry .ensures) in
     (omega arith, omega arith, omega arith, l .inv .3 ∙ next)
 
 same-length : tie.Need-same-length Inv-loop μ-loop

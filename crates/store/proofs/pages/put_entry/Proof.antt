@@ -1,10 +1,10 @@
 -- A word that stands is in use, and a place is at most the count. Assumes nothing.
-use mathlib.Core.Path.{_≡_, sym, _∙_}
+use mathlib.Core.Path.{sym, _∙_}
 use Prim.Native.Nat.{min}
 use native.Mathlib.Omega.{arith}
 use lib.ListN.{length}
 use borrow.Author.Needs.{needs}
-use Rattle.store.specs.PageWords.{placeOf, putEntry}
+use Rattle.store.specs.PageWords.{putEntry}
 use Rattle.store.proofs.PageLaws.{place-le, place-whole, stands-lt}
 use Rattle.store.proofs.pages.put_entry.Statement.{statement}
 use Rattle.store.proofs.pages.put_entry.Tie as tie
@@ -28,7 +28,7 @@ returns : tie.Need-returns
 unfolding putEntry
 returns c =
     let p = c .before .before .before .before .before .before .before .place .ensures ∙ place-whole _ _ _ (c .before .before .before .before .before .before .before .before .before .before .pre .0) in
-    (simp (← p, ← c .before .before .before .before .before .stands-at .ensures, c .before .before .before .before .if1 .taken, ← c .before .before .change-word .ensures .0), c .before .before .change-word .ensures .1)
+    simp (← p, ← c .before .before .before .before .before .stands-at .ensures, c .before .before .before .before .if1 .taken, ← c .before .before .change-word .ensures)
 
 same-length-2 : tie.Need-same-length-2
 same-length-2 c = search needs
@@ -37,7 +37,7 @@ returns-2 : tie.Need-returns-2
 unfolding putEntry
 returns-2 c =
     let p = c .before .before .before .before .before .before .before .place .ensures ∙ place-whole _ _ _ (c .before .before .before .before .before .before .before .before .before .before .pre .0) in
-    (simp (← p, ← c .before .before .before .before .before .stands-at .ensures, c .before .before .before .before .if1 .left, ← c .before .before .add-word .ensures .0), c .before .before .add-word .ensures .1)
+    simp (← p, ← c .before .before .before .before .before .stands-at .ensures, c .before .before .before .before .if1 .left, ← c .before .before .add-word .ensures)
 
 pub put-entry-spec : {M : Type 1} → statement M
 put-entry-spec =
