@@ -282,21 +282,49 @@ fn apply_vcpu(vcpus: &mut [u64], c: Change)
 {
     match c {
         Change::QueuePause { vcpu, wait: _ } => queue_pause(vcpus, vcpu),
-        Change::SetVcpuEvent { vcpu, event, on } => switch_field(vcpus, vcpu, store::words::EVENTS, event as u32, on),
-        Change::SetCr { vcpu, cr, on } => switch_field(vcpus, vcpu, store::words::CRS, cr_bit(cr), on),
+        Change::SetVcpuEvent { vcpu, event, on } => switch_field(
+            vcpus,
+            vcpu,
+            store::words::EVENTS,
+            event as u32,
+            on,
+        ),
+        Change::SetCr { vcpu, cr, on } => switch_field(
+            vcpus,
+            vcpu,
+            store::words::CRS,
+            cr_bit(cr),
+            on,
+        ),
         Change::SetMsr { vcpu, msr, on } => store::words::write_msr(vcpus, vcpu, msr, on),
-        Change::SetSinglestep { vcpu, on } => store::words::write_field(vcpus, vcpu, store::words::SINGLESTEP, on as u64),
+        Change::SetSinglestep { vcpu, on } => store::words::write_field(
+            vcpus,
+            vcpu,
+            store::words::SINGLESTEP,
+            on as u64,
+        ),
         Change::EndWait { vcpu, crash: _ } => end_wait(vcpus, vcpu),
         _ => {}
     }
 }
 
 // A change on the session and its words.
-fn apply(s: Session, vcpus: &mut [u64], pages: &mut [u64], guest: &mut [u8], d: &[u8], c: Change) -> Effect
+fn apply(
+    s: Session,
+    vcpus: &mut [u64],
+    pages: &mut [u64],
+    guest: &mut [u8],
+    d: &[u8],
+    c: Change,
+) -> Effect
     ensures { λ r. ⌜ effect r (now (vcpus .exit)) (now (pages .exit)) (now (guest .exit)) ≡ change (state s (now (vcpus .entry)) (now (pages .entry))) (now (guest .entry)) (now (d .entry)) c ⌝ }
 {
     match c {
-        Change::SetVmEvent { event, on } => clean(s.with_events(store::bits::put_bit(s.tool.events, event as u32, on))),
+        Change::SetVmEvent { event, on } => clean(s.with_events(store::bits::put_bit(
+            s.tool.events,
+            event as u32,
+            on,
+        ))),
         Change::WritePhysical { gpa } => {
             write_guest(guest, gpa, d);
             clean(s)
@@ -324,7 +352,17 @@ fn close(s: Session, vcpus: &mut [u64], pages: &mut [u64]) -> Done
 }
 
 // A command is answered by a mode, with its code and what it asked for.
-fn answer(s: Session, mode: ReplyMode, id: u16, seq: u32, code: i32, d: &[u8], signal: Signal, out: &mut [u8], guest: &[u8]) -> Done
+fn answer(
+    s: Session,
+    mode: ReplyMode,
+    id: u16,
+    seq: u32,
+    code: i32,
+    d: &[u8],
+    signal: Signal,
+    out: &mut [u8],
+    guest: &[u8],
+) -> Done
     ensures { λ r. ⌜ ((v p : List ℕ) → told r v p (now (out .exit)) (now (guest .entry)) ≡ answering mode id seq code (now (d .entry)) signal (now (out .entry)) (now (guest .entry)) (state s v p)) ⌝ }
 {
     let row = kvmi::message::layout(id);
@@ -340,7 +378,16 @@ fn answer(s: Session, mode: ReplyMode, id: u16, seq: u32, code: i32, d: &[u8], s
 }
 
 // A message with a whole header: the tests, and what follows from them.
-fn handle(s: Session, vcpus: &mut [u64], pages: &mut [u64], id: u16, seq: u32, d: &[u8], out: &mut [u8], guest: &mut [u8]) -> Done
+fn handle(
+    s: Session,
+    vcpus: &mut [u64],
+    pages: &mut [u64],
+    id: u16,
+    seq: u32,
+    d: &[u8],
+    out: &mut [u8],
+    guest: &mut [u8],
+) -> Done
     ensures { λ r. ⌜ told r (now (vcpus .exit)) (now (pages .exit)) (now (out .exit)) (now (guest .exit)) ≡ handledOf (state s (now (vcpus .entry)) (now (pages .entry))) id seq (now (d .entry)) (now (out .entry)) (now (guest .entry)) ⌝ }
 {
     let vcpu = wire::load16(d, 0);
@@ -375,7 +422,10 @@ pub fn begin(settings: Settings, vcpus: &mut [u64; 4352], pages: &mut [u64; 1024
     store::words::clear(vcpus);
     store::words::clear(pages);
     Done {
-        answer: Answer::Handled { count: 0, signal: Signal::Quiet },
+        answer: Answer::Handled {
+            count: 0,
+            signal: Signal::Quiet,
+        },
         session: Session::fresh(settings),
     }
 }
@@ -406,13 +456,23 @@ impl Session {
         let mut s = self;
         s.ready = store::bits::put_bit(self.ready, vcpu as u32, true);
         Done {
-            answer: Answer::Handled { count: 0, signal: Signal::Quiet },
+            answer: Answer::Handled {
+                count: 0,
+                signal: Signal::Quiet,
+            },
             session: s,
         }
     }
 
     // One message of the tool.
-    pub fn message(self, vcpus: &mut [u64; 4352], pages: &mut [u64; 1024], msg: &[u8], out: &mut [u8], guest: &mut [u8]) -> Done
+    pub fn message(
+        self,
+        vcpus: &mut [u64; 4352],
+        pages: &mut [u64; 1024],
+        msg: &[u8],
+        out: &mut [u8],
+        guest: &mut [u8],
+    ) -> Done
         ensures { λ r. ⌜ told r (now (vcpus .exit)) (now (pages .exit)) (now (out .exit)) (now (guest .exit)) ≡ messageOf (state self (now (vcpus .entry)) (now (pages .entry))) (now (msg .entry)) (now (out .entry)) (now (guest .entry)) ⌝ }
     {
         if self.tool.closed != 0 {
@@ -481,7 +541,10 @@ fn enter_open(s: Session, vcpus: &mut [u64], vcpu: u16, block: &[u8], out: &mut 
     let queued = store::words::read_field(vcpus, vcpu, store::words::PAUSES);
     if queued == 0 {
         return Done {
-            answer: Answer::Handled { count: 0, signal: Signal::Quiet },
+            answer: Answer::Handled {
+                count: 0,
+                signal: Signal::Quiet,
+            },
             session: s,
         };
     }
@@ -491,7 +554,10 @@ fn enter_open(s: Session, vcpus: &mut [u64], vcpu: u16, block: &[u8], out: &mut 
     store::words::write_field(vcpus, vcpu, store::words::AWAITED, 2);
     store::words::write_field(vcpus, vcpu, store::words::AWAITED_SEQ, seq as u64);
     Done {
-        answer: Answer::Handled { count, signal: Signal::Quiet },
+        answer: Answer::Handled {
+            count,
+            signal: Signal::Quiet,
+        },
         session: s.with_seq(reply::next_seq(seq)),
     }
 }
