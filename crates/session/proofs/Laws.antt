@@ -9,6 +9,7 @@ use lib.ListN.{length, take, drop, length-drop, drop-of-length-le}
 use lib.Seq.{take-all}
 use denote.Enum.Declared.{tagOf}
 use types.Run.{OneOf, miss}
+use borrow.Author.Tests.{eq-eqb, le-leb}
 use Rattle.wire.specs.Bytes.{load}
 use Rattle.wire.proofs.Laws.{le-or-lt}
 use Rattle.kvmi.proofs.Change.{the-type}
@@ -23,10 +24,16 @@ use Rattle.kvmi.specs.declared.Verdict.the-variants.{Closes, Fails, Does}
 use Rattle.kvmi.specs.Change.{signalOf, modeFor}
 use Rattle.kvmi.specs.Message.{vcpuOf}
 use Rattle.kvmi.specs.Verdict.{verdict}
+use Rattle.kvmi.specs.declared.Answer.the-variants.{Handled}
+use Rattle.kvmi.specs.Model.{nextSeq}
+use Rattle.kvmi.specs.Reply.{pauseEvent}
+use Rattle.store.specs.Words.{field, setField, PAUSES, AWAITED, AWAITED-SEQ}
+use Rattle.reply.specs.Written.{Written}
 use Rattle.session.specs.declared.Session.{Session}
-use Rattle.session.specs.State.{State, state, modeOfNumber, putBit64, factsIn, Changed, change}
-use Rattle.session.specs.Calls.{toldClosing, answering, judgedOf}
-use Rattle.session.specs.Code.{PagesChanged, effect, cleanEffect, queuedPause, switchedField, endedWait, vcpusChanged, handledOf}
+use Rattle.session.specs.declared.Done.{Done}
+use Rattle.session.specs.State.{State, state, modeOfNumber, putBit64, factsIn, Changed, change, withTool, withToolSeq}
+use Rattle.session.specs.Calls.{told, toldClosing, answering, judgedOf, pausingOf}
+use Rattle.session.specs.Code.{PagesChanged, effect, cleanEffect, queuedPause, switchedField, endedWait, vcpusChanged, handledOf, enteredOf}
 
 -- ---- parts of a list
 
@@ -151,3 +158,15 @@ module _ (st : State) (id seq : ℕ) (d out guest : List ℕ) (n : ℕ) (f : Fac
         ∙ ap (λ (y : Changed). answering (modeFor (modeOfNumber (st .session .tool .mode)) c) id seq (y .code) d (signalOf c) out (y .guest) (y .state)) o
         ∙ ap (λ (y : Verdict). judgedOf st id seq d out guest y) (sym i)
         ∙ judged-as
+
+-- ---- the entry of a vCPU with a pause queued
+
+module _ (s t : Session) (v p block out after w1 w2 w3 : List ℕ) (vcpu awaited queued next count : ℕ) where
+  pub paused-as : awaited ≡ field v vcpu AWAITED → awaited ≡ 0 → queued ≡ field v vcpu PAUSES → (queued ≡ 0 → ⊥)
+      → Written out after count (pauseEvent (s .tool .seq) vcpu block) → w1 ≡ setField v vcpu PAUSES (queued - 1)
+      → w2 ≡ setField w1 vcpu AWAITED 2 → w3 ≡ setField w2 vcpu AWAITED-SEQ (s .tool .seq) → next ≡ nextSeq (s .tool .seq)
+      → t ≡ withTool s (withToolSeq (s .tool) next)
+      → told (record { answer = Handled count Quiet; session = t }) w3 p after [] ≡ enteredOf (state s v p) vcpu block out
+  unfolding enteredOf pausingOf
+  paused-as a a0 q q0 wrote x1 x2 x3 n e =
+      simp (← a, ← q, eq-eqb awaited 0 a0, le-leb 1 queued (omega (arith, q0)), wrote .count, wrote .there, x3, x2, x1, e, n)

@@ -1,133 +1,97 @@
+-- Each change of the words of a vCPU, and all others. Assumes nothing.
 use Rattle.session.specs.Code.{vcpusChanged}
 use Rattle.session.proofs.Laws.{vcpus-kept}
-use Rattle.kvmi.specs.Bits.{bit}
 use borrow.Author.Needs.{needs}
 use Rattle.session.proofs.apply_vcpu.Statement.{statement}
 use Rattle.session.proofs.apply_vcpu.Tie as tie
-use Rattle.session.proofs.apply_vcpu.Reads as reads
-use Rattle.session.proofs.apply_vcpu.Lts as lts
-use Rattle.session.proofs.cr_bit.Reads as cr-bit-reads
-use Rattle.session.proofs.end_wait.Reads as end-wait-reads
-use Rattle.session.proofs.queue_pause.Reads as queue-pause-reads
-use Rattle.session.proofs.switch_field.Reads as switch-field-reads
-use Rattle.store.proofs.words.write_field.Reads as write-field-reads
-use Rattle.store.proofs.words.write_msr.Reads as write-msr-reads
 
--- src/lib.rt:284:30
 enum-known-c : tie.Need-enum-known-c
 enum-known-c c = search needs
 
--- src/lib.rt:284:49
 queue-pause-requires : tie.Need-queue-pause-requires
 queue-pause-requires c κs = search needs
 
--- src/lib.rt:285:32
 enum-known-c-2 : tie.Need-enum-known-c-2
 enum-known-c-2 c = search needs
 
--- src/lib.rt:289:13
 cast-switch-field : tie.Need-cast-switch-field
 cast-switch-field c = search needs
 
--- src/lib.rt:285:53
 switch-field-requires : tie.Need-switch-field-requires
 switch-field-requires c κs = search needs
 
--- src/lib.rt:292:25
 enum-known-c-3 : tie.Need-enum-known-c-3
 enum-known-c-3 c = search needs
 
--- src/lib.rt:296:13
 cr-bit-requires : tie.Need-cr-bit-requires
 cr-bit-requires c κs = search needs
 
--- src/lib.rt:292:43
 switch-field-requires-2 : tie.Need-switch-field-requires-2
 switch-field-requires-2 c κs = search needs
 
--- src/lib.rt:299:26
 enum-known-c-4 : tie.Need-enum-known-c-4
 enum-known-c-4 c = search needs
 
--- src/lib.rt:299:45
 write-msr-requires : tie.Need-write-msr-requires
 write-msr-requires c κs = search needs
 
--- src/lib.rt:300:33
 enum-known-c-5 : tie.Need-enum-known-c-5
 enum-known-c-5 c = search needs
 
--- src/lib.rt:304:13
 cast-write-field : tie.Need-cast-write-field
 cast-write-field c = search needs
 
--- src/lib.rt:300:47
 write-field-requires : tie.Need-write-field-requires
 write-field-requires c κs = search needs
 
--- src/lib.rt:306:27
 enum-known-c-6 : tie.Need-enum-known-c-6
 enum-known-c-6 c = search needs
 
--- src/lib.rt:306:47
 end-wait-requires : tie.Need-end-wait-requires
 end-wait-requires c κs = search needs
 
--- src/lib.rt:280:1
 same-length : tie.Need-same-length
 same-length c = search needs
 
--- src/lib.rt:280:1
 returns : tie.Need-returns
 unfolding vcpusChanged
 returns c = rw (c .before .before .before .before .before .c .given .1) (c .before .before .queue-pause .ensures)
 
--- src/lib.rt:280:1
 same-length-2 : tie.Need-same-length-2
 same-length-2 c = search needs
 
--- src/lib.rt:280:1
 returns-2 : tie.Need-returns-2
 unfolding vcpusChanged
 returns-2 c = rw (c .before .before .before .before .before .c2 .given .1) (c .before .before .switch-field .ensures)
 
--- src/lib.rt:280:1
 same-length-3 : tie.Need-same-length-3
 same-length-3 c = search needs
 
--- src/lib.rt:280:1
 returns-3 : tie.Need-returns-3
 unfolding vcpusChanged
 returns-3 c = rw (c .before .before .before .before .before .before .c3 .given .1, ← c .before .before .before .cr-bit .ensures) (c .before .before .switch-field2 .ensures)
 
--- src/lib.rt:280:1
 same-length-4 : tie.Need-same-length-4
 same-length-4 c = search needs
 
--- src/lib.rt:280:1
 returns-4 : tie.Need-returns-4
 unfolding vcpusChanged
 returns-4 c = rw (c .before .before .before .before .before .c4 .given .1) (c .before .before .write-msr .ensures)
 
--- src/lib.rt:280:1
 same-length-5 : tie.Need-same-length-5
 same-length-5 c = search needs
 
--- src/lib.rt:280:1
 returns-5 : tie.Need-returns-5
 unfolding vcpusChanged
 returns-5 c = rw (c .before .before .before .before .before .c5 .given .1) (c .before .before .write-field .ensures)
 
--- src/lib.rt:280:1
 same-length-6 : tie.Need-same-length-6
 same-length-6 c = search needs
 
--- src/lib.rt:280:1
 returns-6 : tie.Need-returns-6
 unfolding vcpusChanged
 returns-6 c = rw (c .before .before .before .before .before .c6 .given .1) (c .before .before .end-wait .ensures)
 
--- src/lib.rt:280:1
 returns-7 : tie.Need-returns-7
 returns-7 c = vcpus-kept (c .before .before .args .vcpus .now) (c .before .before .args .c) (c .match .keys7)
 

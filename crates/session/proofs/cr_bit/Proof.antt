@@ -1,21 +1,17 @@
-use borrow.Author.Tests.{le-leb, lt-leb, lt-ltb, le-ltb, eq-eqb, ne-eqb, not-true, not-false}
+-- Each register by its tests. Assumes nothing.
+use borrow.Author.Tests.{eq-eqb, ne-eqb}
 use Rattle.kvmi.specs.Tables.{crBit}
 use Rattle.session.proofs.cr_bit.Statement.{statement}
 use Rattle.session.proofs.cr_bit.Tie as tie
-use Rattle.session.proofs.cr_bit.Reads as reads
-use Rattle.session.proofs.cr_bit.Lts as lts
 
--- src/lib.rt:208:9
 returns : tie.Need-returns
 unfolding crBit
 returns c = simp (eq-eqb _ _ (c .if1 .taken))
 
--- src/lib.rt:211:9
 returns-2 : tie.Need-returns-2
 unfolding crBit
 returns-2 c = simp (ne-eqb _ _ (c .before .if1 .left), eq-eqb _ _ (c .if2 .taken))
 
--- src/lib.rt:204:1
 returns-3 : tie.Need-returns-3
 unfolding crBit
 returns-3 c = simp (ne-eqb _ _ (c .before .if1 .left), ne-eqb _ _ (c .if2 .left))

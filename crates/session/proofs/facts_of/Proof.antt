@@ -1,33 +1,23 @@
+-- Each field from what its callee gives. Assumes nothing.
 use borrow.Author.Needs.{needs}
 use Rattle.session.proofs.facts_of.Statement.{statement}
 use Rattle.session.proofs.facts_of.Tie as tie
-use Rattle.session.proofs.facts_of.Reads as reads
-use Rattle.session.proofs.facts_of.Lts as lts
-use Rattle.session.proofs.mode_of.Reads as mode-of-reads
-use Rattle.store.proofs.bits.bit_on.Reads as bit-on-reads
-use Rattle.store.proofs.words.read_field.Reads as read-field-reads
 
--- src/lib.rt:167:15
 mode-of-requires : tie.Need-mode-of-requires
 mode-of-requires c κs = search needs
 
--- src/lib.rt:169:16
 bit-on-requires : tie.Need-bit-on-requires
 bit-on-requires c κs = search needs
 
--- src/lib.rt:170:17
 read-field-requires : tie.Need-read-field-requires
 read-field-requires c κs = search needs
 
--- src/lib.rt:171:18
 read-field-requires-2 : tie.Need-read-field-requires-2
 read-field-requires-2 c κs = search needs
 
--- src/lib.rt:172:14
 read-field-requires-3 : tie.Need-read-field-requires-3
 read-field-requires-3 c κs = search needs
 
--- src/lib.rt:163:1
 returns : tie.Need-returns
 returns c = simp (c .before .before .before .before .mode-of .ensures, c .before .before .before .bit-on .ensures, c .before .before .read-field .ensures, c .before .read-field2 .ensures, c .read-field3 .ensures)
 

@@ -1,26 +1,21 @@
-use borrow.Author.Tests.{le-leb, lt-leb, lt-ltb, le-ltb, eq-eqb, ne-eqb, not-true, not-false}
+-- Each bound by its test. Assumes nothing.
+use borrow.Author.Tests.{le-leb, lt-leb}
 use Rattle.session.specs.Code.{countsFit}
 use Rattle.session.proofs.in_range.Statement.{statement}
 use Rattle.session.proofs.in_range.Tie as tie
-use Rattle.session.proofs.in_range.Reads as reads
-use Rattle.session.proofs.in_range.Lts as lts
 
--- src/lib.rt:437:9
 returns : tie.Need-returns
 unfolding countsFit
 returns c = simp (lt-leb _ _ (c .if1 .taken))
 
--- src/lib.rt:440:9
 returns-2 : tie.Need-returns-2
 unfolding countsFit
 returns-2 c = simp (le-leb _ _ (c .before .if1 .left), lt-leb _ _ (c .if2 .taken))
 
--- src/lib.rt:443:9
 returns-3 : tie.Need-returns-3
 unfolding countsFit
 returns-3 c = simp (le-leb _ _ (c .before .before .if1 .left), le-leb _ _ (c .before .if2 .left), lt-leb _ _ (c .if3 .taken))
 
--- src/lib.rt:433:1
 returns-4 : tie.Need-returns-4
 unfolding countsFit
 returns-4 c = simp (le-leb _ _ (c .before .before .if1 .left), le-leb _ _ (c .before .if2 .left), le-leb _ _ (c .if3 .left))

@@ -1,23 +1,18 @@
+-- The one change that sets the mode, and all others. Assumes nothing.
 use Rattle.session.proofs.Laws.{mode-kept}
 use borrow.Author.Needs.{needs}
 use Rattle.session.proofs.mode_for.Statement.{statement}
 use Rattle.session.proofs.mode_for.Tie as tie
-use Rattle.session.proofs.mode_for.Reads as reads
-use Rattle.session.proofs.mode_for.Lts as lts
 
--- src/lib.rt:198:30
 enum-known-c : tie.Need-enum-known-c
 enum-known-c c = search needs
 
--- src/lib.rt:194:1
 returns : tie.Need-returns
 returns c = search needs
 
--- src/lib.rt:194:1
 returns-2 : tie.Need-returns-2
 returns-2 c = search needs
 
--- src/lib.rt:194:1
 returns-3 : tie.Need-returns-3
 returns-3 c = mode-kept (c .before .args .old) (c .before .args .c) (c .match .keys2)
 

@@ -1,21 +1,17 @@
-use borrow.Author.Tests.{le-leb, lt-leb, lt-ltb, le-ltb, eq-eqb, ne-eqb, not-true, not-false}
+-- Each number by its tests. Assumes nothing.
+use borrow.Author.Tests.{eq-eqb, ne-eqb}
 use Rattle.session.specs.State.{modeOfNumber}
 use Rattle.session.proofs.mode_of.Statement.{statement}
 use Rattle.session.proofs.mode_of.Tie as tie
-use Rattle.session.proofs.mode_of.Reads as reads
-use Rattle.session.proofs.mode_of.Lts as lts
 
--- src/lib.rt:144:9
 returns : tie.Need-returns
 unfolding modeOfNumber
 returns c = simp (eq-eqb _ _ (c .if1 .taken))
 
--- src/lib.rt:147:9
 returns-2 : tie.Need-returns-2
 unfolding modeOfNumber
 returns-2 c = simp (ne-eqb _ _ (c .before .if1 .left), eq-eqb _ _ (c .if2 .taken))
 
--- src/lib.rt:140:1
 returns-3 : tie.Need-returns-3
 unfolding modeOfNumber
 returns-3 c = simp (ne-eqb _ _ (c .before .if1 .left), ne-eqb _ _ (c .if2 .left))

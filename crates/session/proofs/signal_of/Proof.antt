@@ -1,31 +1,24 @@
+-- The two changes that signal, and all others. Assumes nothing.
 use Rattle.session.proofs.Laws.{quiet}
 use borrow.Author.Needs.{needs}
 use Rattle.session.proofs.signal_of.Statement.{statement}
 use Rattle.session.proofs.signal_of.Tie as tie
-use Rattle.session.proofs.signal_of.Reads as reads
-use Rattle.session.proofs.signal_of.Lts as lts
 
--- src/lib.rt:181:30
 enum-known-c : tie.Need-enum-known-c
 enum-known-c c = search needs
 
--- src/lib.rt:182:27
 enum-known-c-2 : tie.Need-enum-known-c-2
 enum-known-c-2 c = search needs
 
--- src/lib.rt:177:1
 returns : tie.Need-returns
 returns c = rw (c .before .c .given .1)
 
--- src/lib.rt:177:1
 returns-2 : tie.Need-returns-2
 returns-2 c = rw (c .before .before .c2 .given .1, c .if1 .taken)
 
--- src/lib.rt:177:1
 returns-3 : tie.Need-returns-3
 returns-3 c = search needs
 
--- src/lib.rt:177:1
 returns-4 : tie.Need-returns-4
 returns-4 c = quiet (c .before .args .c) (c .match .keys3)
 

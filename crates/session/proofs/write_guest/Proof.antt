@@ -1,38 +1,29 @@
-use mathlib.Core.Path.{_≡_, refl, sym, ap, _∙_}
+-- The bytes behind the 16, or none. Assumes nothing.
+use mathlib.Core.Path.{sym}
 use Rattle.session.proofs.Laws.{rest-part, drop-short}
 use Rattle.wire.proofs.Laws.{store-none}
 use borrow.Author.Needs.{needs}
 use Rattle.session.proofs.write_guest.Statement.{statement}
 use Rattle.session.proofs.write_guest.Tie as tie
-use Rattle.session.proofs.write_guest.Reads as reads
-use Rattle.session.proofs.write_guest.Lts as lts
-use Rattle.wire.proofs.copy.Reads as copy-reads
 
--- src/lib.rt:254:41
 sub-copy : tie.Need-sub-copy
 sub-copy c = search needs
 
--- src/lib.rt:254:41
 part-copy-start : tie.Need-part-copy-start
 part-copy-start c = search needs
 
--- src/lib.rt:254:41
 part-copy-end : tie.Need-part-copy-end
 part-copy-end c = search needs
 
--- src/lib.rt:254:9
 copy-requires : tie.Need-copy-requires
 copy-requires c κs = search needs
 
--- src/lib.rt:250:1
 same-length : tie.Need-same-length
 same-length c = search needs
 
--- src/lib.rt:250:1
 returns : tie.Need-returns
 returns c = rw (rest-part (c .before .before .before .before .before .before .before .before .args .d .now) 16) at (c .before .before .copy .ensures)
 
--- src/lib.rt:250:1
 returns-2 : tie.Need-returns-2
 returns-2 c = rw (drop-short 16 (c .before .before .before .args .d .now) (c .if1 .left)) (sym (store-none _ _))
 

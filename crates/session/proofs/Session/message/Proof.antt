@@ -1,5 +1,6 @@
-use mathlib.Core.Path.{_≡_, refl, sym, ap, _∙_}
-use borrow.Author.Tests.{le-leb, lt-leb, lt-ltb, le-ltb, eq-eqb, ne-eqb, not-true, not-false}
+-- Each test by itself; a whole header is 8 bytes long at least. Assumes nothing.
+use mathlib.Core.Path.{sym, _∙_}
+use borrow.Author.Tests.{lt-ltb, le-ltb, eq-eqb, ne-eqb}
 use Rattle.session.specs.Calls.{messageOf, headedOf}
 use Rattle.session.specs.Code.{handledOf}
 use Rattle.wire.proofs.Laws.{has-header}
@@ -7,68 +8,49 @@ use Rattle.session.proofs.Laws.{rest-part}
 use borrow.Author.Needs.{needs}
 use Rattle.session.proofs.Session.message.Statement.{statement}
 use Rattle.session.proofs.Session.message.Tie as tie
-use Rattle.session.proofs.Session.message.Reads as reads
-use Rattle.session.proofs.Session.message.Lts as lts
-use Rattle.session.proofs.close.Reads as close-reads
-use Rattle.session.proofs.handle.Reads as handle-reads
-use Rattle.wire.proofs.read_header.Reads as read-header-reads
 
--- src/lib.rt:479:13
 returns : tie.Need-returns
 unfolding messageOf
 returns c = simp (ne-eqb _ _ (c .if1 .taken))
 
--- src/lib.rt:485:13
 returns-2 : tie.Need-returns-2
 unfolding messageOf
 returns-2 c = simp (eq-eqb _ _ (c .before .if1 .left), lt-ltb _ _ (c .if2 .taken))
 
--- src/lib.rt:490:13
 read-header-requires : tie.Need-read-header-requires
 read-header-requires c κs = search needs
 
--- src/lib.rt:491:29
 enum-known-header : tie.Need-enum-known-header
 enum-known-header c = search needs
 
--- src/lib.rt:492:32
 enum-told : tie.Need-enum-told
 enum-told c = search needs
 
--- src/lib.rt:492:13
 close-requires : tie.Need-close-requires
 close-requires c κs = search needs
 
--- src/lib.rt:492:13
 returns-3 : tie.Need-returns-3
 unfolding messageOf headedOf
 returns-3 c = simp (eq-eqb _ _ (c .before .before .before .before .before .before .before .if1 .left), le-ltb _ _ (c .before .before .before .before .before .before .if2 .left), ← c .before .before .before .before .before .read-header .ensures, c .before .before .before .enum-told .given .1) (c .close .ensures _ _)
 
--- src/lib.rt:494:17
 sub-d : tie.Need-sub-d
 sub-d c = has-header (c .before .before .before .before .before .before .before .before .before .before .args .msg .now) _ _ _ (sym (c .before .before .before .read-header .ensures) ∙ c .before .header .given .1) .long
 
--- src/lib.rt:494:17
 part-d-start : tie.Need-part-d-start
 part-d-start c = has-header (c .before .before .before .before .before .before .before .before .before .before .args .msg .now) _ _ _ (sym (c .before .before .before .read-header .ensures) ∙ c .before .header .given .1) .long
 
--- src/lib.rt:494:17
 part-d-end : tie.Need-part-d-end
 part-d-end c = search needs
 
--- src/lib.rt:495:9
 handle-requires : tie.Need-handle-requires
 handle-requires c κs = search needs
 
--- src/lib.rt:468:5
 same-length : tie.Need-same-length
 same-length c = search needs
 
--- src/lib.rt:468:5
 same-length-2 : tie.Need-same-length-2
 same-length-2 c = search needs
 
--- src/lib.rt:468:5
 returns-4 : tie.Need-returns-4
 unfolding messageOf headedOf handledOf
 returns-4 c =

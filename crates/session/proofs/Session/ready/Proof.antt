@@ -1,29 +1,23 @@
-use borrow.Author.Tests.{le-leb, lt-leb, lt-ltb, le-ltb, eq-eqb, ne-eqb, not-true, not-false}
+-- Each test by itself. Assumes nothing.
+use borrow.Author.Tests.{le-leb, lt-leb, eq-eqb, ne-eqb}
 use Rattle.session.specs.Calls.{readyOf}
 use Rattle.session.specs.State.{putBit64}
 use Rattle.wire.proofs.Laws.{store-none}
 use borrow.Author.Needs.{needs}
 use Rattle.session.proofs.Session.ready.Statement.{statement}
 use Rattle.session.proofs.Session.ready.Tie as tie
-use Rattle.session.proofs.Session.ready.Reads as reads
-use Rattle.session.proofs.Session.ready.Lts as lts
-use Rattle.store.proofs.bits.put_bit.Reads as put-bit-reads
 
--- src/lib.rt:445:13
 returns : tie.Need-returns
 unfolding readyOf
 returns c v p = simp (ne-eqb _ _ (c .if1 .taken))
 
--- src/lib.rt:451:13
 returns-2 : tie.Need-returns-2
 unfolding readyOf
 returns-2 c v p = simp (eq-eqb _ _ (c .before .before .if1 .left), le-leb _ _ (c .if2 .taken))
 
--- src/lib.rt:457:9
 put-bit-requires : tie.Need-put-bit-requires
 put-bit-requires c κs = search needs
 
--- src/lib.rt:441:5
 returns-3 : tie.Need-returns-3
 unfolding readyOf putBit64
 returns-3 c v p = simp (eq-eqb _ _ (c .before .before .before .if1 .left), lt-leb _ _ (c .before .if2 .left), c .put-bit .ensures, store-none)
