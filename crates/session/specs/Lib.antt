@@ -1,3 +1,4 @@
 pub mod State
 pub mod Calls
 pub mod Meaning
+pub mod Code

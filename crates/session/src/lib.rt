@@ -1,7 +1,27 @@
 // A session: what the filter keeps of a guest, and the host calls that move it. A session is a small value that the host
 // keeps; its tables are words that the host lends with each call.
 use kvmi::Answer;
+use kvmi::Change;
+use kvmi::Facts;
+use kvmi::ReplyMode;
 use kvmi::Settings;
+use kvmi::Signal;
+use kvmi::Verdict;
+use wire::Header;
+ghost use mathlib.Core.Path.{_≡_};
+ghost use mathlib.Core.List.{List, []};
+ghost use Prim.Native.Nat.{ℕ};
+ghost use lib.ListN.{length, drop};
+ghost use Rattle.wire.specs.Bytes.{store};
+ghost use Rattle.kvmi.specs.Tables.{crBit};
+ghost use Rattle.kvmi.specs.Message.{vcpuOf};
+ghost use Rattle.kvmi.specs.Settings.{inRange};
+ghost use Rattle.kvmi.specs.Verdict.{verdict};
+ghost use Rattle.kvmi.specs.Change.{signalOf, modeFor};
+ghost use Rattle.store.specs.Words.{field, setField, PAUSES, AWAITED, AWAITED-SEQ};
+ghost use Rattle.session.specs.State.{state, freshSession, closedSession, withTool, withToolEvents, withToolMode, withToolSeq, withToolPages, withReadyBits, modeOfNumber, numberOfMode, putBit64, factsIn, change};
+ghost use Rattle.session.specs.Calls.{told, toldClosing, freshOf, answering, judgedOf, messageOf, readyOf, pausingOf, enterOf};
+ghost use Rattle.session.specs.Code.{effect, cleanEffect, queuedPause, switchedField, endedWait, pagesEffect, pagesSet, vcpusChanged, handledOf, enteredOf, countsFit};
 
 // What one introspection tool owns: unsigned integers only, so that any bits are a value. A flag is set where it is not 0.
 #[repr(C)]
@@ -29,4 +49,524 @@ pub struct Session {
 pub struct Done {
     pub answer: Answer,
     pub session: Session,
+}
+
+// What a change gives: the session after it, and 0 or the error that it met.
+pub struct Effect {
+    pub session: Session,
+    pub code: i32,
+}
+
+impl Session {
+    // How many pages can stand below rwx, in all views together.
+    pub const PAGE_LIMIT: usize = 1024;
+
+    // How many pauses of a vCPU can be queued.
+    pub const PAUSE_LIMIT: u64 = 8;
+
+    // The least output that a message is given.
+    pub const LEAST_OUT: usize = 4112;
+
+    // Every switch off, no vCPU ready, replies on, next event seq 0.
+    pub fn fresh(settings: Settings) -> Self
+        ensures { λ r. ⌜ r ≡ freshSession settings ⌝ }
+    {
+        let tool = Tool {
+            events: 0,
+            pages: 0,
+            closed: 0,
+            mode: 0,
+            seq: 0,
+        };
+        Session {
+            settings,
+            tool,
+            ready: 0,
+        }
+    }
+
+    // Fresh, but closed.
+    fn shut(settings: Settings) -> Self
+        ensures { λ r. ⌜ r ≡ closedSession settings ⌝ }
+    {
+        let tool = Tool {
+            events: 0,
+            pages: 0,
+            closed: 1,
+            mode: 0,
+            seq: 0,
+        };
+        Session {
+            settings,
+            tool,
+            ready: 0,
+        }
+    }
+
+    fn with_events(self, events: u64) -> Self
+        ensures { λ r. ⌜ r ≡ withTool self (withToolEvents (self .tool) events) ⌝ }
+    {
+        let mut s = self;
+        s.tool.events = events;
+        s
+    }
+
+    fn with_mode(self, mode: u32) -> Self
+        ensures { λ r. ⌜ r ≡ withTool self (withToolMode (self .tool) mode) ⌝ }
+    {
+        let mut s = self;
+        s.tool.mode = mode;
+        s
+    }
+
+    fn with_seq(self, seq: u32) -> Self
+        ensures { λ r. ⌜ r ≡ withTool self (withToolSeq (self .tool) seq) ⌝ }
+    {
+        let mut s = self;
+        s.tool.seq = seq;
+        s
+    }
+
+    fn with_pages(self, pages: u64) -> Self
+        ensures { λ r. ⌜ r ≡ withTool self (withToolPages (self .tool) pages) ⌝ }
+    {
+        let mut s = self;
+        s.tool.pages = pages;
+        s
+    }
+}
+
+// The reply mode that a number stands for.
+fn mode_of(n: u32) -> ReplyMode
+    ensures { λ r. ⌜ r ≡ modeOfNumber n ⌝ }
+{
+    if n == 0 {
+        return ReplyMode::On;
+    }
+    if n == 1 {
+        return ReplyMode::Off;
+    }
+    ReplyMode::ErrorsOnly
+}
+
+fn mode_number(mode: ReplyMode) -> u32
+    ensures { λ r. ⌜ r ≡ numberOfMode mode ⌝ }
+{
+    match mode {
+        ReplyMode::On => 0,
+        ReplyMode::Off => 1,
+        ReplyMode::ErrorsOnly => 2,
+    }
+}
+
+// What the tests of a message ask, for the vCPU that it names.
+fn facts_of(s: Session, vcpus: &[u64], guest: usize, vcpu: u16) -> Facts
+    ensures { λ r. ⌜ r ≡ factsIn (state s (now (vcpus .entry)) []) guest vcpu ⌝ }
+{
+    Facts {
+        mode: mode_of(s.tool.mode),
+        guest,
+        ready: store::bits::bit_on(s.ready, vcpu as u32),
+        pauses: store::words::read_field(vcpus, vcpu, store::words::PAUSES),
+        awaited: store::words::read_field(vcpus, vcpu, store::words::AWAITED),
+        seq: store::words::read_field(vcpus, vcpu, store::words::AWAITED_SEQ),
+    }
+}
+
+// What a change has the host do.
+fn signal_of(c: Change) -> Signal
+    ensures { λ r. ⌜ r ≡ signalOf c ⌝ }
+{
+    match c {
+        Change::QueuePause { vcpu, wait } => Signal::Kick { vcpu, wait },
+        Change::EndWait { vcpu, crash } => {
+            if crash {
+                Signal::Crash { vcpu }
+            } else {
+                Signal::Quiet
+            }
+        }
+        _ => Signal::Quiet,
+    }
+}
+
+// The mode by which a message is answered.
+fn mode_for(old: ReplyMode, c: Change) -> ReplyMode
+    ensures { λ r. ⌜ r ≡ modeFor old c ⌝ }
+{
+    match c {
+        Change::SetReplies { mode, now } => { if now { mode } else { old } }
+        _ => old,
+    }
+}
+
+// The bit of a control register's switch.
+fn cr_bit(cr: u32) -> u32
+    ensures { λ r. ⌜ r ≡ crBit cr ⌝ }
+{
+    if cr == 0 {
+        return 0;
+    }
+    if cr == 3 {
+        return 1;
+    }
+    2
+}
+
+// One pause more in a vCPU's queue.
+fn queue_pause(vcpus: &mut [u64], vcpu: u16)
+    ensures { λ _. ⌜ now (vcpus .exit) ≡ queuedPause (now (vcpus .entry)) vcpu ⌝ }
+{
+    let queued = store::words::read_field(vcpus, vcpu, store::words::PAUSES);
+    let more = std::num::wrapping_add_u64(queued, 1);
+    store::words::write_field(vcpus, vcpu, store::words::PAUSES, more);
+}
+
+// One bit of a vCPU's field.
+fn switch_field(vcpus: &mut [u64], vcpu: u16, k: usize, bit: u32, on: bool)
+    ensures { λ _. ⌜ now (vcpus .exit) ≡ switchedField (now (vcpus .entry)) vcpu k bit on ⌝ }
+{
+    let was = store::words::read_field(vcpus, vcpu, k);
+    let is = store::bits::put_bit(was, bit, on);
+    store::words::write_field(vcpus, vcpu, k, is);
+}
+
+// No reply awaited any more.
+fn end_wait(vcpus: &mut [u64], vcpu: u16)
+    ensures { λ _. ⌜ now (vcpus .exit) ≡ endedWait (now (vcpus .entry)) vcpu ⌝ }
+{
+    store::words::write_field(vcpus, vcpu, store::words::AWAITED, 0);
+    store::words::write_field(vcpus, vcpu, store::words::AWAITED_SEQ, 0);
+}
+
+// No error.
+fn clean(session: Session) -> Effect
+    ensures { λ r. ⌜ r ≡ cleanEffect session ⌝ }
+{
+    Effect { session, code: 0 }
+}
+
+// VM_WRITE_PHYSICAL: the bytes after the 16 that name the place, where all of them lie inside.
+fn write_guest(guest: &mut [u8], gpa: u64, d: &[u8])
+    ensures { λ _. ⌜ now (guest .exit) ≡ store (now (guest .entry)) gpa (drop 16 (now (d .entry))) ⌝ }
+{
+    if 16 <= d.len() {
+        wire::copy(guest, gpa as usize, &d[16..]);
+    }
+}
+
+// VM_SET_PAGE_ACCESS: its entries stand behind the first 8 bytes.
+fn set_pages(s: Session, pages: &mut [u64], view: u16, count: u16, d: &[u8]) -> Effect
+    ensures { λ r. ⌜ pagesEffect r (now (pages .exit)) ≡ pagesSet s (now (pages .entry)) view count (now (d .entry)) ⌝ }
+{
+    let from = if 8 <= d.len() { 8 } else { d.len() };
+    let used = s.tool.pages as usize;
+    let taken = store::pages::put_entries(
+        pages,
+        used,
+        Session::PAGE_LIMIT,
+        view,
+        count,
+        &d[from..],
+    );
+    let session = s.with_pages(taken.count as u64);
+    if taken.skipped {
+        return Effect { session, code: -12 };
+    }
+    Effect { session, code: 0 }
+}
+
+// The changes of one vCPU's words.
+fn apply_vcpu(vcpus: &mut [u64], c: Change)
+    ensures { λ _. ⌜ now (vcpus .exit) ≡ vcpusChanged (now (vcpus .entry)) c ⌝ }
+{
+    match c {
+        Change::QueuePause { vcpu, wait: _ } => queue_pause(vcpus, vcpu),
+        Change::SetVcpuEvent { vcpu, event, on } => switch_field(
+            vcpus,
+            vcpu,
+            store::words::EVENTS,
+            event as u32,
+            on,
+        ),
+        Change::SetCr { vcpu, cr, on } => switch_field(
+            vcpus,
+            vcpu,
+            store::words::CRS,
+            cr_bit(cr),
+            on,
+        ),
+        Change::SetMsr { vcpu, msr, on } => store::words::write_msr(vcpus, vcpu, msr, on),
+        Change::SetSinglestep { vcpu, on } => store::words::write_field(
+            vcpus,
+            vcpu,
+            store::words::SINGLESTEP,
+            on as u64,
+        ),
+        Change::EndWait { vcpu, crash: _ } => end_wait(vcpus, vcpu),
+        _ => {}
+    }
+}
+
+// A change on the session and its words.
+fn apply(
+    s: Session,
+    vcpus: &mut [u64],
+    pages: &mut [u64],
+    guest: &mut [u8],
+    d: &[u8],
+    c: Change,
+) -> Effect
+    ensures { λ r. ⌜ effect r (now (vcpus .exit)) (now (pages .exit)) (now (guest .exit)) ≡ change (state s (now (vcpus .entry)) (now (pages .entry))) (now (guest .entry)) (now (d .entry)) c ⌝ }
+{
+    match c {
+        Change::SetVmEvent { event, on } => clean(s.with_events(store::bits::put_bit(
+            s.tool.events,
+            event as u32,
+            on,
+        ))),
+        Change::WritePhysical { gpa } => {
+            write_guest(guest, gpa, d);
+            clean(s)
+        }
+        Change::SetPages { view, count } => set_pages(s, pages, view, count, d),
+        Change::SetReplies { mode, now: _ } => clean(s.with_mode(mode_number(mode))),
+        _ => {
+            apply_vcpu(vcpus, c);
+            clean(s)
+        }
+    }
+}
+
+// The session closes: everything fresh, no event awaited, and closed for good.
+fn close(s: Session, vcpus: &mut [u64], pages: &mut [u64]) -> Done
+    ensures { λ r. ⌜ ((out guest : List ℕ) → told r (now (vcpus .exit)) (now (pages .exit)) out guest ≡ toldClosing (state s (now (vcpus .entry)) (now (pages .entry))) out guest) ⌝ }
+{
+    store::words::clear(vcpus);
+    store::words::clear(pages);
+    let settings = s.settings;
+    Done {
+        answer: Answer::Closing,
+        session: Session::shut(settings),
+    }
+}
+
+// A command is answered by a mode, with its code and what it asked for.
+fn answer(
+    s: Session,
+    mode: ReplyMode,
+    id: u16,
+    seq: u32,
+    code: i32,
+    d: &[u8],
+    signal: Signal,
+    out: &mut [u8],
+    guest: &[u8],
+) -> Done
+    ensures { λ r. ⌜ ((v p : List ℕ) → told r v p (now (out .exit)) (now (guest .entry)) ≡ answering mode id seq code (now (d .entry)) signal (now (out .entry)) (now (guest .entry)) (state s v p)) ⌝ }
+{
+    let row = kvmi::message::layout(id);
+    let kind = row.reply;
+    let settings = s.settings;
+    let next = s.tool.seq;
+    let count = reply::answer(out, settings, guest, kind, mode, next, id, seq, code, d);
+    let session = s.with_seq(reply::seq_after(mode, next, code));
+    Done {
+        answer: Answer::Handled { count, signal },
+        session,
+    }
+}
+
+// A message with a whole header: the tests, and what follows from them.
+fn handle(
+    s: Session,
+    vcpus: &mut [u64],
+    pages: &mut [u64],
+    id: u16,
+    seq: u32,
+    d: &[u8],
+    out: &mut [u8],
+    guest: &mut [u8],
+) -> Done
+    ensures { λ r. ⌜ told r (now (vcpus .exit)) (now (pages .exit)) (now (out .exit)) (now (guest .exit)) ≡ handledOf (state s (now (vcpus .entry)) (now (pages .entry))) id seq (now (d .entry)) (now (out .entry)) (now (guest .entry)) ⌝ }
+{
+    let vcpu = wire::load16(d, 0);
+    let facts = facts_of(s, vcpus, guest.len(), vcpu);
+    let settings = s.settings;
+    let mode = mode_of(s.tool.mode);
+    let v = verdict::judge(settings, facts, id, seq, d);
+    match v {
+        Verdict::Closes => close(s, vcpus, pages),
+        Verdict::Fails(code) => answer(s, mode, id, seq, code, d, Signal::Quiet, out, guest),
+        Verdict::Does(c) => {
+            let by = mode_for(mode, c);
+            let signal = signal_of(c);
+            let e = apply(s, vcpus, pages, guest, d, c);
+            let session = e.session;
+            answer(session, by, id, seq, e.code, d, signal, out, guest)
+        }
+    }
+}
+
+// A session begins fresh, on whatever words are lent. Settings out of range are refused: no word changes, and the
+// session that is handed back is closed.
+pub fn begin(settings: Settings, vcpus: &mut [u64; 4352], pages: &mut [u64; 1024]) -> Done
+    ensures { λ r. ⌜ told r (now (vcpus .exit)) (now (pages .exit)) [] [] ≡ freshOf settings (now (vcpus .entry)) (now (pages .entry)) ⌝ }
+{
+    if !in_range(settings.vcpus, settings.views) {
+        return Done {
+            answer: Answer::BadSettings,
+            session: Session::shut(settings),
+        };
+    }
+    store::words::clear(vcpus);
+    store::words::clear(pages);
+    Done {
+        answer: Answer::Handled {
+            count: 0,
+            signal: Signal::Quiet,
+        },
+        session: Session::fresh(settings),
+    }
+}
+
+fn in_range(vcpus: u32, views: u32) -> bool
+    ensures { λ r. ⌜ r ≡ countsFit vcpus views ⌝ }
+{
+    if vcpus < 1 {
+        return false;
+    }
+    if 16 < vcpus {
+        return false;
+    }
+    if views < 1 {
+        return false;
+    }
+    views <= 8
+}
+
+impl Session {
+    // A vCPU can be introspected from now on.
+    pub fn ready(self, vcpu: u16) -> Done
+        ensures { λ r. ⌜ ((v p : List ℕ) → told r v p [] [] ≡ readyOf (state self v p) vcpu) ⌝ }
+    {
+        if self.tool.closed != 0 {
+            return Done {
+                answer: Answer::Closed,
+                session: self,
+            };
+        }
+        if self.settings.vcpus <= vcpu as u32 {
+            return Done {
+                answer: Answer::BadVcpu,
+                session: self,
+            };
+        }
+        let mut s = self;
+        s.ready = store::bits::put_bit(self.ready, vcpu as u32, true);
+        Done {
+            answer: Answer::Handled {
+                count: 0,
+                signal: Signal::Quiet,
+            },
+            session: s,
+        }
+    }
+
+    // One message of the tool.
+    pub fn message(
+        self,
+        vcpus: &mut [u64; 4352],
+        pages: &mut [u64; 1024],
+        msg: &[u8],
+        out: &mut [u8],
+        guest: &mut [u8],
+    ) -> Done
+        ensures { λ r. ⌜ told r (now (vcpus .exit)) (now (pages .exit)) (now (out .exit)) (now (guest .exit)) ≡ messageOf (state self (now (vcpus .entry)) (now (pages .entry))) (now (msg .entry)) (now (out .entry)) (now (guest .entry)) ⌝ }
+    {
+        if self.tool.closed != 0 {
+            return Done {
+                answer: Answer::Closed,
+                session: self,
+            };
+        }
+        if out.len() < Session::LEAST_OUT {
+            return Done {
+                answer: Answer::ShortOut,
+                session: self,
+            };
+        }
+        let header = wire::read_header(msg);
+        let Header::Whole { id, size: _, seq } = header else {
+            return close(self, vcpus, pages);
+        };
+        let d = &msg[8..];
+        handle(self, vcpus, pages, id, seq, d, out, guest)
+    }
+
+    // A vCPU enters the guest: with a pause queued, its event is written and its reply awaited.
+    pub fn enter(self, vcpus: &mut [u64; 4352], vcpu: u16, block: &[u8], out: &mut [u8]) -> Done
+        ensures { λ r. ⌜ ((p : List ℕ) → told r (now (vcpus .exit)) p (now (out .exit)) [] ≡ enterOf (state self (now (vcpus .entry)) p) vcpu (now (block .entry)) (now (out .entry))) ⌝ }
+    {
+        if self.tool.closed != 0 {
+            return Done {
+                answer: Answer::Closed,
+                session: self,
+            };
+        }
+        if self.settings.vcpus <= vcpu as u32 {
+            return Done {
+                answer: Answer::BadVcpu,
+                session: self,
+            };
+        }
+        if block.len() != 536 {
+            return Done {
+                answer: Answer::BadState,
+                session: self,
+            };
+        }
+        if out.len() < 552 {
+            return Done {
+                answer: Answer::ShortOut,
+                session: self,
+            };
+        }
+        enter_open(self, vcpus, vcpu, block, out)
+    }
+}
+
+// The rest of an entry whose arguments are in order.
+fn enter_open(s: Session, vcpus: &mut [u64], vcpu: u16, block: &[u8], out: &mut [u8]) -> Done
+    ensures { λ r. ⌜ ((p : List ℕ) → told r (now (vcpus .exit)) p (now (out .exit)) [] ≡ enteredOf (state s (now (vcpus .entry)) p) vcpu (now (block .entry)) (now (out .entry))) ⌝ }
+{
+    let awaited = store::words::read_field(vcpus, vcpu, store::words::AWAITED);
+    if awaited != 0 {
+        return Done {
+            answer: Answer::Waiting,
+            session: s,
+        };
+    }
+    let queued = store::words::read_field(vcpus, vcpu, store::words::PAUSES);
+    if queued == 0 {
+        return Done {
+            answer: Answer::Handled {
+                count: 0,
+                signal: Signal::Quiet,
+            },
+            session: s,
+        };
+    }
+    let seq = s.tool.seq;
+    let count = reply::pause_event(out, seq, vcpu as u32, block);
+    store::words::write_field(vcpus, vcpu, store::words::PAUSES, queued - 1);
+    store::words::write_field(vcpus, vcpu, store::words::AWAITED, 2);
+    store::words::write_field(vcpus, vcpu, store::words::AWAITED_SEQ, seq as u64);
+    Done {
+        answer: Answer::Handled {
+            count,
+            signal: Signal::Quiet,
+        },
+        session: s.with_seq(reply::next_seq(seq)),
+    }
 }

@@ -1,0 +1,4 @@
+pub mod Alike
+pub mod Runs
+pub mod Parts
+pub mod Rows

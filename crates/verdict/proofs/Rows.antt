@@ -1,0 +1,72 @@
+-- Laws of the table's rows. Assumes nothing.
+use mathlib.Core.Path.{_≡_, refl, sym, ap, _∙_}
+use mathlib.Core.Logic.{⊎-elim}
+use mathlib.Core.List.{List}
+use mathlib.Core.Bool.{Bool, true, false, So, cond, not, _&&_}
+use Prim.Native.Nat.{ℕ, zero, suc, _≤_, _<_}
+use native.Mathlib.Omega.{arith}
+use lib.Dec.{leb, eqb}
+use lib.ListN.{List·getD-eq-default}
+use borrow.Author.Tests.{le-leb, lt-leb, ne-eqb, eqb-true, leb-true}
+use Rattle.wire.proofs.Laws.{le-or-lt}
+use Rattle.kvmi.specs.declared.Settings.{Settings}
+use Rattle.kvmi.specs.declared.Facts.{Facts}
+use Rattle.kvmi.specs.declared.Change.the-variants.{Nothing}
+use Rattle.kvmi.specs.declared.Verdict.the-variants.{Does}
+use Rattle.kvmi.specs.Message.{layoutOf, messages, unknown, namesVcpu, flagsAt, firstPadding, padding, firstOfRuns}
+use Rattle.kvmi.specs.Verdict.{verdict, commandVerdict, isInvalid, isUnready, isDenied, isUnsupported, isBusy, isAbsent, losesErrors, changeOf}
+use Rattle.laws.proofs.Bool.{test, and-l, and-r}
+use Rattle.verdict.specs.Handlers.{idOf, isKnown, handled, byRow}
+
+-- what a test says of each number below a bound
+abbrev allBelow : (ℕ → Bool) → ℕ → Bool
+allBelow f zero = true
+allBelow f (suc n) = f n && allBelow f n
+
+below : (f : ℕ → Bool) (n i : ℕ) → So (allBelow f n) → i < n → So (f i)
+below f zero i h g = absurd (omega arith)
+below f (suc n) i h g =
+    ⊎-elim
+    (λ (p : n ≤ i). let e : n ≡ i = omega arith in rw e at (and-l (f n) (allBelow f n) h))
+    (λ p. below f n i (and-r (f n) (allBelow f n) h) p)
+    (le-or-lt n i)
+
+abbrev rightRow : ℕ → Bool
+rightRow id = eqb (idOf (layoutOf id .handler)) (cond (leb 1 id && leb id 16) id 0)
+
+right-rows : allBelow rightRow 17 ≡ true
+unfolding layoutOf
+right-rows = refl
+
+past : (id : ℕ) → 17 ≤ id → layoutOf id ≡ unknown
+unfolding layoutOf
+past id h = List·getD-eq-default messages unknown {n = id} h
+
+-- a row's handler is its message's, and past the table there is none
+pub row-id : (id : ℕ) → idOf (layoutOf id .handler) ≡ cond (leb 1 id && leb id 16) id 0
+row-id id =
+    ⊎-elim
+    (λ h. rw (ap (λ l. idOf (l .handler)) (past id h), lt-leb id 16 h, le-leb 1 id (omega arith)))
+    (λ h. eqb-true _ _ (below rightRow 17 id right-rows h))
+    (le-or-lt 17 id)
+
+pub row-known : (id : ℕ) → isKnown (layoutOf id .handler) ≡ (leb 1 id && leb id 16)
+row-known id =
+    rw (row-id id)
+    (test (leb 1 id && leb id 16)
+    (λ e. let h = leb-true 1 id (and-l (leb 1 id) (leb id 16) e) in rw (e, ne-eqb id 0 (λ z. omega arith)))
+    (λ e. rw e))
+
+-- so the row tells all that the number does
+pub by-row : (s : Settings) (f : Facts) (id seq : ℕ) (d : List ℕ) → byRow s f (layoutOf id) id seq d ≡ verdict s f id seq d
+unfolding byRow verdict handled
+by-row s f id seq d =
+    rw (row-known id)
+    (test (leb 1 id && leb id 16)
+    (λ e. let h : idOf (layoutOf id .handler) ≡ id = row-id id ∙ rw e in rw (e, h))
+    (λ e. rw e))
+
+-- messages 1 and 4 ask nothing and change nothing
+pub asks-nothing : (s : Settings) (f : Facts) (d : List ℕ) → (commandVerdict s f 1 d ≡ Does Nothing) × (commandVerdict s f 4 d ≡ Does Nothing)
+unfolding commandVerdict isInvalid isUnready isDenied isUnsupported isBusy isAbsent losesErrors changeOf namesVcpu flagsAt firstPadding padding firstOfRuns
+asks-nothing s f d = (refl, refl)

@@ -1,0 +1,14 @@
+use mathlib.Core.Path.{refl}
+use Rattle.kvmi.specs.Tables.{isMsr}
+use Rattle.verdict.proofs.tests.is_msr.Statement.{statement}
+use Rattle.verdict.proofs.tests.is_msr.Tie as tie
+use Rattle.verdict.proofs.tests.is_msr.Reads as reads
+use Rattle.verdict.proofs.tests.is_msr.Lts as lts
+
+-- src/tests.rt:82:1
+returns : tie.Need-returns
+unfolding isMsr
+returns c = refl
+
+pub is-msr-spec : {M : Type 1} → statement M
+is-msr-spec = tie.close (tie.spec returns)

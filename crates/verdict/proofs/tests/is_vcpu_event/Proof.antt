@@ -1,0 +1,14 @@
+use mathlib.Core.Bool.{or-assoc, or-false}
+use Rattle.kvmi.specs.Message.{isVcpuEvent}
+use Rattle.verdict.proofs.tests.is_vcpu_event.Statement.{statement}
+use Rattle.verdict.proofs.tests.is_vcpu_event.Tie as tie
+use Rattle.verdict.proofs.tests.is_vcpu_event.Reads as reads
+use Rattle.verdict.proofs.tests.is_vcpu_event.Lts as lts
+
+-- src/tests.rt:69:1
+returns : tie.Need-returns
+unfolding isVcpuEvent
+returns c = simp (or-assoc, or-false)
+
+pub is-vcpu-event-spec : {M : Type 1} → statement M
+is-vcpu-event-spec = tie.close (tie.spec returns)

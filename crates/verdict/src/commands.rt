@@ -1,0 +1,174 @@
+// Test 6 for each command: its causes of error, and its change. Every function takes any data.
+use crate::causes::Causes;
+use crate::entries;
+use crate::padding;
+use crate::tests;
+use kvmi::Change;
+use kvmi::Facts;
+use kvmi::Settings;
+use kvmi::Verdict;
+ghost use mathlib.Core.Path.{_≡_};
+ghost use Rattle.kvmi.specs.Verdict.{commandVerdict};
+
+pub fn check_command(settings: Settings, facts: Facts, d: &[u8]) -> Verdict
+    ensures { λ r. ⌜ r ≡ commandVerdict settings facts 2 (now (d .entry)) ⌝ }
+{
+    let id = wire::load16(d, 0);
+    let invalid = (padding::of_number(d) != 0) | !tests::is_command(id);
+    let mut c = Causes::new(invalid, false);
+    c.denied = !tests::allows_command(settings.commands, id);
+    c.decide(Change::Nothing)
+}
+
+pub fn check_event(settings: Settings, facts: Facts, d: &[u8]) -> Verdict
+    ensures { λ r. ⌜ r ≡ commandVerdict settings facts 3 (now (d .entry)) ⌝ }
+{
+    let event = wire::load16(d, 0);
+    let invalid = (padding::of_number(d) != 0) | !tests::is_event(event);
+    let mut c = Causes::new(invalid, false);
+    c.denied = !tests::is_on(settings.events, event);
+    c.decide(Change::Nothing)
+}
+
+pub fn control_vm_events(settings: Settings, facts: Facts, d: &[u8]) -> Verdict
+    ensures { λ r. ⌜ r ≡ commandVerdict settings facts 5 (now (d .entry)) ⌝ }
+{
+    let event = wire::load16(d, 0);
+    let enable = wire::byte(d, 2);
+    let shaped = (padding::of_switch(d) != 0) | !tests::is_switch(enable);
+    let mut c = Causes::new(shaped | !tests::is_vm_event(event), false);
+    c.denied = !tests::is_on(settings.events, event);
+    c.decide(Change::SetVmEvent {
+        event,
+        on: enable == 1,
+    })
+}
+
+pub fn read_physical(settings: Settings, facts: Facts, d: &[u8]) -> Verdict
+    ensures { λ r. ⌜ r ≡ commandVerdict settings facts 6 (now (d .entry)) ⌝ }
+{
+    let gpa = wire::load64(d, 0);
+    let mut c = Causes::new(!tests::in_one_page(gpa, wire::load64(d, 8)), false);
+    c.absent = !tests::page_exists(facts.guest, gpa);
+    c.decide(Change::Nothing)
+}
+
+pub fn write_physical(settings: Settings, facts: Facts, d: &[u8]) -> Verdict
+    ensures { λ r. ⌜ r ≡ commandVerdict settings facts 7 (now (d .entry)) ⌝ }
+{
+    let gpa = wire::load64(d, 0);
+    let mut c = Causes::new(!tests::in_one_page(gpa, wire::load64(d, 8)), false);
+    c.absent = !tests::page_exists(facts.guest, gpa);
+    c.decide(Change::WritePhysical { gpa })
+}
+
+pub fn get_vcpu_info(settings: Settings, facts: Facts, d: &[u8]) -> Verdict
+    ensures { λ r. ⌜ r ≡ commandVerdict settings facts 8 (now (d .entry)) ⌝ }
+{
+    let vcpu = wire::load16(d, 0);
+    let invalid = (padding::of_number(d) != 0) | (settings.vcpus <= vcpu as u32);
+    Causes::new(invalid, !facts.ready).decide(Change::Nothing)
+}
+
+pub fn pause_vcpu(settings: Settings, facts: Facts, d: &[u8]) -> Verdict
+    ensures { λ r. ⌜ r ≡ commandVerdict settings facts 9 (now (d .entry)) ⌝ }
+{
+    let vcpu = wire::load16(d, 0);
+    let wait = wire::byte(d, 8);
+    let named = (padding::of_vcpu_switch(d) != 0) | (settings.vcpus <= vcpu as u32);
+    let mut c = Causes::new(named | !tests::is_switch(wait), !facts.ready);
+    c.busy = 8 <= facts.pauses;
+    c.decide(Change::QueuePause {
+        vcpu,
+        wait: wait == 1,
+    })
+}
+
+pub fn control_vcpu_events(settings: Settings, facts: Facts, d: &[u8]) -> Verdict
+    ensures { λ r. ⌜ r ≡ commandVerdict settings facts 10 (now (d .entry)) ⌝ }
+{
+    let vcpu = wire::load16(d, 0);
+    let event = wire::load16(d, 8);
+    let enable = wire::byte(d, 10);
+    let on = enable == 1;
+    let named = (padding::of_vcpu_event(d) != 0) | (settings.vcpus <= vcpu as u32);
+    let shaped = named | !tests::is_switch(enable);
+    let mut c = Causes::new(shaped | !tests::is_vcpu_event(event), !facts.ready);
+    c.denied = !tests::is_on(settings.events, event);
+    c.unsupported = on & ((event == 8) & !tests::is_set(settings.descriptors));
+    c.busy = on & ((event == 4) & tests::is_set(settings.breakpoints));
+    c.decide(Change::SetVcpuEvent { vcpu, event, on })
+}
+
+pub fn control_cr(settings: Settings, facts: Facts, d: &[u8]) -> Verdict
+    ensures { λ r. ⌜ r ≡ commandVerdict settings facts 11 (now (d .entry)) ⌝ }
+{
+    let vcpu = wire::load16(d, 0);
+    let enable = wire::byte(d, 8);
+    let cr = wire::load32(d, 12);
+    let named = (padding::of_register(d) != 0) | (settings.vcpus <= vcpu as u32);
+    let shaped = named | !tests::is_switch(enable);
+    let c = Causes::new(shaped | !tests::is_cr(cr), !facts.ready);
+    c.decide(Change::SetCr {
+        vcpu,
+        cr,
+        on: enable == 1,
+    })
+}
+
+pub fn control_msr(settings: Settings, facts: Facts, d: &[u8]) -> Verdict
+    ensures { λ r. ⌜ r ≡ commandVerdict settings facts 12 (now (d .entry)) ⌝ }
+{
+    let vcpu = wire::load16(d, 0);
+    let enable = wire::byte(d, 8);
+    let msr = wire::load32(d, 12);
+    let named = (padding::of_register(d) != 0) | (settings.vcpus <= vcpu as u32);
+    let shaped = named | !tests::is_switch(enable);
+    let c = Causes::new(shaped | !tests::is_msr(msr), !facts.ready);
+    c.decide(Change::SetMsr {
+        vcpu,
+        msr,
+        on: enable == 1,
+    })
+}
+
+pub fn set_page_access(settings: Settings, facts: Facts, d: &[u8]) -> Verdict
+    ensures { λ r. ⌜ r ≡ commandVerdict settings facts 13 (now (d .entry)) ⌝ }
+{
+    let count = wire::load16(d, 0);
+    let view = wire::load16(d, 2);
+    let headed = (padding::of_pages(d) != 0) | (settings.views <= view as u32);
+    let c = Causes::new(headed | !entries::entries_fit(d), false);
+    c.decide(Change::SetPages { view, count })
+}
+
+pub fn control_singlestep(settings: Settings, facts: Facts, d: &[u8]) -> Verdict
+    ensures { λ r. ⌜ r ≡ commandVerdict settings facts 14 (now (d .entry)) ⌝ }
+{
+    let vcpu = wire::load16(d, 0);
+    let enable = wire::byte(d, 8);
+    let named = (padding::of_vcpu_switch(d) != 0) | (settings.vcpus <= vcpu as u32);
+    let mut c = Causes::new(named | !tests::is_switch(enable), !facts.ready);
+    c.unsupported = !tests::is_set(settings.singlestep);
+    c.decide(Change::SetSinglestep {
+        vcpu,
+        on: enable == 1,
+    })
+}
+
+// Errors that no reply tells go to event 13: without it they would be lost, and the session closes.
+pub fn control_replies(settings: Settings, facts: Facts, d: &[u8]) -> Verdict
+    ensures { λ r. ⌜ r ≡ commandVerdict settings facts 15 (now (d .entry)) ⌝ }
+{
+    let enable = wire::byte(d, 0);
+    let now = wire::byte(d, 1);
+    let flag = wire::byte(d, 2);
+    let switches = tests::is_switch(enable) & (tests::is_switch(now) & tests::is_switch(flag));
+    let mut c = Causes::new((padding::of_switch(d) != 0) | !switches, false);
+    c.closing = (enable != 1) & (flag == 1) & !tests::is_on(settings.events, 13);
+    let mode = tests::mode_of(enable == 1, flag == 1);
+    c.decide(Change::SetReplies {
+        mode,
+        now: now == 1,
+    })
+}
