@@ -30,8 +30,7 @@ use Rattle.kvmi.specs.Reply.{pauseEvent}
 use Rattle.store.specs.Words.{field, setField, PAUSES, AWAITED, AWAITED-SEQ}
 use Rattle.reply.specs.Written.{Written}
 use Rattle.session.specs.declared.Session.{Session}
-use Rattle.session.specs.declared.Done.{Done}
-use Rattle.session.specs.State.{State, state, modeOfNumber, putBit64, factsIn, Changed, change, withTool, withToolSeq}
+use Rattle.session.specs.State.{State, state, modeOfNumber, factsIn, Changed, change, withTool, withToolSeq}
 use Rattle.session.specs.Calls.{told, toldClosing, answering, judgedOf, pausingOf}
 use Rattle.session.specs.Code.{PagesChanged, effect, cleanEffect, queuedPause, switchedField, endedWait, vcpusChanged, handledOf, enteredOf}
 
@@ -140,22 +139,26 @@ module _ (st : State) (id seq : ℕ) (d out guest : List ℕ) (n : ℕ) (f : Fac
     unfolding judgedOf
     closes-as i = ap (λ (x : Verdict). judgedOf st id seq d out guest x) (sym i) ∙ judged-as
 
-    pub fails-as : (code : ℤ) (m : ReplyMode) → v ≡ Fails code → m ≡ modeOfNumber (st .session .tool .mode)
-        → answering m id seq code d Quiet out guest st ≡ handledOf st id seq d out guest
+    -- the code that is passed on is the verdict's, or the change's
+    pub fails-as : (code told : ℤ) (m : ReplyMode) → v ≡ Fails code → told ≡ code → m ≡ modeOfNumber (st .session .tool .mode)
+        → answering m id seq told d Quiet out guest st ≡ handledOf st id seq d out guest
     unfolding judgedOf
-    fails-as code m i j =
-        ap (λ (x : ReplyMode). answering x id seq code d Quiet out guest st) j
+    fails-as code told m i t j =
+        ap (λ (x : ReplyMode). answering x id seq told d Quiet out guest st) j
+        ∙ ap (λ (x : ℤ). answering (modeOfNumber (st .session .tool .mode)) id seq x d Quiet out guest st) t
         ∙ ap (λ (x : Verdict). judgedOf st id seq d out guest x) (sym i)
         ∙ judged-as
 
-    pub does-as : (c : Change) (m by : ReplyMode) (signal : Signal) (x : Changed) → v ≡ Does c → m ≡ modeOfNumber (st .session .tool .mode)
-        → by ≡ modeFor m c → signal ≡ signalOf c → x ≡ change st guest d c
-        → answering by id seq (x .code) d signal out (x .guest) (x .state) ≡ handledOf st id seq d out guest
+    pub does-as : (c : Change) (told : ℤ) (m by : ReplyMode) (signal : Signal) (x : Changed) → v ≡ Does c → told ≡ x .code
+        → m ≡ modeOfNumber (st .session .tool .mode) → by ≡ modeFor m c → signal ≡ signalOf c → x ≡ change st guest d c
+        → answering by id seq told d signal out (x .guest) (x .state) ≡ handledOf st id seq d out guest
     unfolding judgedOf
-    does-as c m by signal x i j k l o =
-        ap (λ (y : ReplyMode). answering y id seq (x .code) d signal out (x .guest) (x .state)) (k ∙ ap (λ (y : ReplyMode). modeFor y c) j)
-        ∙ ap (λ (y : Signal). answering (modeFor (modeOfNumber (st .session .tool .mode)) c) id seq (x .code) d y out (x .guest) (x .state)) l
-        ∙ ap (λ (y : Changed). answering (modeFor (modeOfNumber (st .session .tool .mode)) c) id seq (y .code) d (signalOf c) out (y .guest) (y .state)) o
+    does-as c told m by signal x i t j k l o =
+        let now = modeFor (modeOfNumber (st .session .tool .mode)) c in
+        ap (λ (y : ReplyMode). answering y id seq told d signal out (x .guest) (x .state)) (k ∙ ap (λ (y : ReplyMode). modeFor y c) j)
+        ∙ ap (λ (y : ℤ). answering now id seq y d signal out (x .guest) (x .state)) t
+        ∙ ap (λ (y : Signal). answering now id seq (x .code) d y out (x .guest) (x .state)) l
+        ∙ ap (λ (y : Changed). answering now id seq (y .code) d (signalOf c) out (y .guest) (y .state)) o
         ∙ ap (λ (y : Verdict). judgedOf st id seq d out guest y) (sym i)
         ∙ judged-as
 

@@ -68,7 +68,7 @@ same-length-5 c = search needs
 returns-2 : tie.Need-returns-2
 returns-2 c =
     let f : SFits w32 (c .before .before .before .before .before .before .v .given .0 .0) = search needs in
-    rw (toZ-ofZ f) at (c .before .before .answer .ensures (c .before .before .before .before .before .before .before .before .before .before .before .before .before .before .before .before .before .before .before .args .vcpus .now) (c .before .before .before .before .before .before .before .before .before .before .before .before .before .before .before .before .before .before .before .args .pages .now)) ∙ fails-as _ _ _ _ _ _ _ _ _ (c .before .before .before .before .before .before .before .before .before .before .before .before .before .load16 .ensures) (c .before .before .before .before .before .before .before .before .before .before .before .facts-of .ensures) (c .before .before .before .before .before .before .before .before .judge .ensures) _ _ (c .before .before .before .before .before .before .v .given .1) (c .before .before .before .before .before .before .before .before .before .mode-of .ensures)
+    c .before .before .answer .ensures _ _ ∙ fails-as _ _ _ _ _ _ _ _ _ (c .before .before .before .before .before .before .before .before .before .before .before .before .before .load16 .ensures) (c .before .before .before .before .before .before .before .before .before .before .before .facts-of .ensures) (c .before .before .before .before .before .before .before .before .judge .ensures) _ _ _ (c .before .before .before .before .before .before .v .given .1) (toZ-ofZ f) (c .before .before .before .before .before .before .before .before .before .mode-of .ensures)
 
 same-length-6 : tie.Need-same-length-6
 same-length-6 c = search needs
@@ -85,7 +85,7 @@ same-length-9 c = search needs
 returns-3 : tie.Need-returns-3
 returns-3 c =
     let f : SFits w32 (c .before .before .before .before .before .before .before .before .before .before .before .before .before .apply .result .code) = search needs in
-    rw (toZ-ofZ f) at (c .before .before .answer2 .ensures (c .before .before .before .before .before .before .before .before .before .before .before .before .before .apply .last .1 .0) (c .before .before .before .before .before .before .before .before .before .before .before .before .before .apply .last .1 .1 .0)) ∙ does-as _ _ _ _ _ _ _ _ _ (c .before .before .before .before .before .before .before .before .before .before .before .before .before .before .before .before .before .before .before .before .before .before .before .before .before .before .before .load16 .ensures) (c .before .before .before .before .before .before .before .before .before .before .before .before .before .before .before .before .before .before .before .before .before .before .before .before .before .facts-of .ensures) (c .before .before .before .before .before .before .before .before .before .before .before .before .before .before .before .before .before .before .before .before .before .before .judge .ensures) _ _ _ _ _ (c .before .before .before .before .before .before .before .before .before .before .before .before .before .before .before .before .before .before .before .before .v2 .given .1) (c .before .before .before .before .before .before .before .before .before .before .before .before .before .before .before .before .before .before .before .before .before .before .before .mode-of .ensures) (c .before .before .before .before .before .before .before .before .before .before .before .before .before .before .before .before .before .before .mode-for .ensures) (c .before .before .before .before .before .before .before .before .before .before .before .before .before .before .before .before .before .signal-of .ensures) (c .before .before .before .before .before .before .before .before .before .before .before .before .before .apply .ensures)
+    c .before .before .answer2 .ensures _ _ ∙ does-as _ _ _ _ _ _ _ _ _ (c .before .before .before .before .before .before .before .before .before .before .before .before .before .before .before .before .before .before .before .before .before .before .before .before .before .before .before .load16 .ensures) (c .before .before .before .before .before .before .before .before .before .before .before .before .before .before .before .before .before .before .before .before .before .before .before .before .before .facts-of .ensures) (c .before .before .before .before .before .before .before .before .before .before .before .before .before .before .before .before .before .before .before .before .before .before .judge .ensures) _ _ _ _ _ _ (c .before .before .before .before .before .before .before .before .before .before .before .before .before .before .before .before .before .before .before .before .v2 .given .1) (toZ-ofZ f) (c .before .before .before .before .before .before .before .before .before .before .before .before .before .before .before .before .before .before .before .before .before .before .before .mode-of .ensures) (c .before .before .before .before .before .before .before .before .before .before .before .before .before .before .before .before .before .before .mode-for .ensures) (c .before .before .before .before .before .before .before .before .before .before .before .before .before .before .before .before .before .signal-of .ensures) (c .before .before .before .before .before .before .before .before .before .before .before .before .before .apply .ensures)
 
 pub handle-spec : {M : Type 1} → statement M
 handle-spec =
