@@ -15,16 +15,15 @@ use Rattle.kvmi.specs.declared.Settings.{Settings}
 use Rattle.kvmi.specs.declared.Signal.{Signal}
 use Rattle.kvmi.specs.declared.Signal.the-variants.{Quiet}
 use Rattle.kvmi.specs.declared.ReplyMode.{ReplyMode}
-use Rattle.kvmi.specs.declared.Change.{Change}
 use Rattle.kvmi.specs.declared.Verdict.{Verdict}
 use Rattle.kvmi.specs.declared.Verdict.the-variants.{Closes, Fails, Does}
 use Rattle.kvmi.specs.Answer.{Paper, handled, plain, plainAt}
 use Rattle.kvmi.specs.Settings.{inRange}
-use Rattle.kvmi.specs.Tables.{Vcpu, Tables, vcpuAt, withReady, withPauses}
+use Rattle.kvmi.specs.Tables.{Tables, vcpuAt, withReady, withPauses}
 use Rattle.kvmi.specs.Model.{Awaited, Model, begun, fresh, closedModel, withSeq, setAwaited, awaitedBy, onVcpu, nextSeq, isSome}
 use Rattle.kvmi.specs.Message.{layoutOf, vcpuOf}
 use Rattle.kvmi.specs.Verdict.{verdict, factsOf}
-use Rattle.kvmi.specs.Change.{Applied, apply, signalOf, modeFor}
+use Rattle.kvmi.specs.Change.{apply, signalOf, modeFor}
 use Rattle.kvmi.specs.Reply.{replyData, pauseEvent, answerOf, answerSeq}
 use Rattle.kvmi.specs.Image.{Loaded, loaded, badForm, forbidden, image, loadImage}
 

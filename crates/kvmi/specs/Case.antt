@@ -1,8 +1,8 @@
 -- Document 01's cases, and edges that a wrong reading would get wrong. A row is settings, how the session begins, calls, and what the last
 -- of them gives: answer, bytes written, and the image of the tables after it.
 use Prim.Native.Nat.{ℕ}
-use mathlib.Core.List.{List, [], _∷_, _++_, map}
-use mathlib.Core.Bool.{Bool, true, false}
+use mathlib.Core.List.{List, [], _∷_, _++_}
+use mathlib.Core.Bool.{true, false}
 use mathlib.Core.Option.{Option, none, some}
 use lib.ListN.{take, replicate}
 use Rattle.wire.specs.Bytes.{le}

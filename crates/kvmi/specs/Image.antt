@@ -1,5 +1,5 @@
 -- "The table image": the bytes of tables, and what an image loads as.
-use Prim.Native.Nat.{ℕ, zero, suc, _+_, _*_, _/_, _%_, _^_}
+use Prim.Native.Nat.{ℕ, suc, _+_, _*_, _/_, _%_, _^_}
 use mathlib.Core.List.{List, [], _∷_, _++_}
 use mathlib.Core.Bool.{Bool, true, false, _&&_, _||_, not}
 use lib.ListN.{length, getD}
@@ -9,7 +9,7 @@ use Rattle.kvmi.specs.Bits.{bit, bitsHave, among}
 use Rattle.kvmi.specs.Settings.{allowsEvent, canSinglestep, uncatchable, taken}
 use Rattle.kvmi.specs.Row.{Row}
 use Rattle.kvmi.specs.Record.{Kind, VM, VC, MS, PA, EN, widths, size, Rec, whole, cut, orderOf, writeAll, parse}
-use Rattle.kvmi.specs.Tables.{Vcpu, Msr, Page, Tables, resting, vcpuAt, isMsr, withVcpus, withMsrs, withPages}
+use Rattle.kvmi.specs.Tables.{Vcpu, Msr, Page, Tables, resting, isMsr, withVcpus, withMsrs, withPages}
 use Rattle.kvmi.specs.Message.{isVmEvent, isVcpuEvent}
 
 -- ---- tables as records

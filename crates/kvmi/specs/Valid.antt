@@ -1,6 +1,5 @@
 -- Valid tables: what the settings allow and an image can state.
-use Prim.Native.Nat.{ℕ, _≤_}
-use mathlib.Core.List.{List}
+use Prim.Native.Nat.{_≤_}
 use mathlib.Core.Bool.{Bool, _&&_, So}
 use lib.ListN.{length}
 use Rattle.kvmi.specs.declared.Settings.{Settings}
