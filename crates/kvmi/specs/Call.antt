@@ -17,6 +17,7 @@ use Rattle.kvmi.specs.declared.Signal.the-variants.{Quiet}
 use Rattle.kvmi.specs.declared.ReplyMode.{ReplyMode}
 use Rattle.kvmi.specs.declared.Verdict.{Verdict}
 use Rattle.kvmi.specs.declared.Verdict.the-variants.{Closes, Fails, Does}
+use Rattle.kvmi.specs.Limits.{leastOut, eventOut, stateBytes}
 use Rattle.kvmi.specs.Answer.{Paper, handled, plain, plainAt}
 use Rattle.kvmi.specs.Settings.{inRange}
 use Rattle.kvmi.specs.Tables.{Tables, vcpuAt, withReady, withPauses}
@@ -97,7 +98,7 @@ headed s m d out guest (Whole id size seq) = judged s m id seq d out guest (verd
 unfoldable pub messageStep : Settings → Model → List ℕ → List ℕ → List ℕ → Step
 messageStep s m msg out guest =
     cond (m .closed) (unchanged 2 m out guest)
-    (cond (ltb (length out) 4112) (unchanged 3 m out guest)
+    (cond (ltb (length out) leastOut) (unchanged 3 m out guest)
     (headed s m (drop 8 msg) out guest (headerOf msg)))
 
 -- ---- a ready mark: "2, 4"
@@ -118,8 +119,8 @@ unfoldable pub enterStep : Settings → Model → ℕ → List ℕ → List ℕ 
 enterStep s m vcpu state out =
     cond (m .closed) (unchanged 2 m out [])
     (cond (leb (s .vcpus) vcpu) (unchanged 4 m out [])
-    (cond (not (eqb (length state) 536)) (unchanged 5 m out [])
-    (cond (ltb (length out) 552) (unchanged 3 m out [])
+    (cond (not (eqb (length state) stateBytes)) (unchanged 5 m out [])
+    (cond (ltb (length out) eventOut) (unchanged 3 m out [])
     (cond (isSome (awaitedBy m vcpu)) (unchanged 6 m out [])
     (cond (leb 1 (vcpuAt (m .tables) vcpu .pauses)) (pausing m vcpu state out) (writing [] Quiet out [] m))))))
 

@@ -13,16 +13,13 @@ use Rattle.kvmi.specs.declared.Signal.{Signal}
 use Rattle.kvmi.specs.declared.Signal.the-variants.{Quiet, Kick, Crash}
 use Rattle.kvmi.specs.declared.Change.{Change}
 use Rattle.kvmi.specs.declared.Change.the-variants.{Nothing, SetVmEvent, WritePhysical, QueuePause, SetVcpuEvent, SetCr, SetMsr, SetPages, SetSinglestep, SetReplies, EndWait}
+pub use Rattle.kvmi.specs.Limits.{pageLimit}
 use Rattle.kvmi.specs.Bits.{putBit}
 use Rattle.kvmi.specs.Codes.{OK, ENOMEM}
 use Rattle.kvmi.specs.Table.{has, put, forget}
 use Rattle.kvmi.specs.Tables.{Msr, Page, msrKey, pageKey, crBit, withSinglestep, withCrs, withEvents, withPauses, withVmEvents, withMsrs, withPages}
 use Rattle.kvmi.specs.Model.{Model, withTables, withMode, setAwaited, onVcpu}
 use Rattle.kvmi.specs.Message.{Entry, entriesOf}
-
--- "1,024 pages (all views together)"
-abbrev pub pageLimit : ℕ
-pageLimit = 1024
 
 -- ---- message 13
 -- the pages below rwx, and whether an entry was skipped

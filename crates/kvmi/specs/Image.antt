@@ -5,6 +5,7 @@ use mathlib.Core.Bool.{Bool, true, false, _&&_, _||_, not}
 use lib.ListN.{length, getD}
 use lib.Dec.{eqb, leb, ltb}
 use Rattle.kvmi.specs.declared.Settings.{Settings}
+use Rattle.kvmi.specs.Limits.{pageLimit, pauseLimit}
 use Rattle.kvmi.specs.Bits.{bit, bitsHave, among}
 use Rattle.kvmi.specs.Settings.{allowsEvent, canSinglestep, uncatchable, taken}
 use Rattle.kvmi.specs.Row.{Row}
@@ -91,7 +92,7 @@ isIdle v = not (v .singlestep) && eqb (v .crs) 0 && eqb (v .events) 0 && eqb (v 
 
 -- "pauses above 8, a flag or CR bit not named, [..] or an event bit that message [..] 10 (VC) doesn't take"
 unfoldable pub vcForm : Vcpu → Bool
-vcForm v = leb (v .crs) 7 && bitsHave isVcpuEvent 0 16 (v .events) && leb (v .pauses) 8 && (v .ready || isIdle v)
+vcForm v = leb (v .crs) 7 && bitsHave isVcpuEvent 0 16 (v .events) && leb (v .pauses) pauseLimit && (v .ready || isIdle v)
 
 -- "an MSR outside message 12's ranges"; "An unready vCPU has [..] no MS"
 unfoldable pub msForm : List Vcpu → Msr → Bool
@@ -106,7 +107,7 @@ abbrev pub formOf : (k : Kind) → ℕ → Tables → Row (widths k) → Bool
 formOf VM n t f = false
 formOf VC n t f = ltb (f .0) n && leb (f .1 .0) 3 && eqb (f .1 .1 .1 .1 .1 .0) 0 && vcForm (vcpuOfRow f)
 formOf MS n t f = msForm (t .vcpus) (msrOfRow f)
-formOf PA n t f = eqb (f .1 .1 .0) 0 && paForm (pageOfRow f) && ltb (length (t .pages)) 1024
+formOf PA n t f = eqb (f .1 .1 .0) 0 && paForm (pageOfRow f) && ltb (length (t .pages)) pageLimit
 formOf EN n t f = eqb (f .0) (recordCount t)
 
 -- "one VC for every vCPU": the next VC is that of the next vCPU, and none is missing before any other kind

@@ -1,6 +1,7 @@
 pub mod Bits
 pub mod Table
 pub mod Row
+pub mod Limits
 pub mod Settings
 pub mod Codes
 pub mod Answer

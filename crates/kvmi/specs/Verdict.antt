@@ -15,6 +15,7 @@ use Rattle.kvmi.specs.declared.Change.{Change}
 use Rattle.kvmi.specs.declared.Change.the-variants.{Nothing, SetVmEvent, WritePhysical, QueuePause, SetVcpuEvent, SetCr, SetMsr, SetPages, SetSinglestep, SetReplies, EndWait}
 use Rattle.kvmi.specs.declared.Verdict.{Verdict}
 use Rattle.kvmi.specs.declared.Verdict.the-variants.{Closes, Fails, Does}
+use Rattle.kvmi.specs.Limits.{pauseLimit}
 use Rattle.kvmi.specs.Bits.{among, every}
 use Rattle.kvmi.specs.Codes.{EPERM, ENOENT, EAGAIN, EBUSY, EINVAL, EOPNOTSUPP, ENOSYS}
 use Rattle.kvmi.specs.Settings.{allowsCommand, allowsEvent, canSinglestep, uncatchable, taken}
@@ -85,7 +86,7 @@ isUnsupported s id d = eqb id 14 && not (canSinglestep s) || eqb id 10 && enable
 
 -- -16 EBUSY
 unfoldable pub isBusy : Settings → Facts → ℕ → List ℕ → Bool
-isBusy s f id d = eqb id 10 && enables id d && taken s (eventOf id d) || eqb id 9 && leb 8 (f .pauses)
+isBusy s f id d = eqb id 10 && enables id d && taken s (eventOf id d) || eqb id 9 && leb pauseLimit (f .pauses)
 
 -- "a page (4,096 bytes) exists if it lies wholly inside"
 unfoldable pub pageExists : ℕ → ℕ → Bool
