@@ -91,6 +91,7 @@ judged s m id seq d out guest (Does c) =
     answering s (modeFor (m .mode) c) id seq (apply m guest d c .code) d (signalOf c) out (apply m guest d c .guest) (apply m guest d c .model)
 
 -- test 1: "Fewer than 8 bytes, or size unequal to the bytes that follow: closes."
+-- The vCPU number is read from the data of every message and used only where the message names a vCPU.
 unfoldable pub headed : Settings → Model → List ℕ → List ℕ → List ℕ → Header → Step
 headed s m d out guest Broken = closing s out guest
 headed s m d out guest (Whole id size seq) = judged s m id seq d out guest (verdict s (factsOf m (length guest) (vcpuOf d)) id seq d)

@@ -58,7 +58,8 @@ isAccess a = among a (0 ∷ 1 ∷ 3 ∷ 4 ∷ 5 ∷ 7 ∷ [])
 unfoldable pub inOnePage : ℕ → ℕ → Bool
 inOnePage gpa size = leb 1 size && leb (gpa % 4096 + size) 4096
 
--- -22 EINVAL, in the sentence's order
+-- -22 EINVAL, mostly in the sentence's order: the response flags stand with the other bytes that are at most 1, and "a count that disagrees is -22"
+-- is test 4's
 unfoldable pub isInvalid : Settings → ℕ → List ℕ → Bool
 isInvalid s id d =
     not (eqb (firstPadding id d) 0)
@@ -120,7 +121,8 @@ changeOf id d =
 unfoldable pub losesErrors : Settings → ℕ → List ℕ → Bool
 losesErrors s id d = eqb id 15 && not (enables id d) && eqb (getD d 2 0) 1 && not (allowsEvent s 13)
 
--- test 6: "errors, the first that applies". (-12 is known when the entries of message 13 have run.)
+-- test 6: "errors, the first that applies" (-12 is known when the entries of message 13 have run); and test 5's second sentence, which asks whether
+-- "test 6 would pass" and so stands behind it
 unfoldable pub commandVerdict : Settings → Facts → ℕ → List ℕ → Verdict
 commandVerdict s f id d =
     cond (isInvalid s id d) (Fails EINVAL)
