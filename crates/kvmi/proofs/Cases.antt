@@ -1,4 +1,4 @@
--- Document 01's cases P1 to P12 and further edges, each list by one computed statement: a case more adds a row and no proof.
+-- Document 01's cases P1 to P12 and further edges, each list by one computed statement: a row more adds no proof.
 use mathlib.Core.Path.{_≡_, refl}
 use mathlib.Core.List.{List, map}
 use Rattle.wire.specs.Bytes.{le, num, load, store}
@@ -16,7 +16,11 @@ use Rattle.kvmi.specs.Reply.{messageBytes, replyBytes, replyData, eventB
 use Rattle.kvmi.specs.Record.{kindAt}
 use Rattle.kvmi.specs.Image.{image, vmForm, isIdle, vcForm, msForm, paForm, vmMay, mayEnable, vcMay, paMay, loadImage}
 use Rattle.kvmi.specs.Call.{beginFresh, beginFrom, answering, judged, headed, messageStep, readyStep, pausing, enterStep, imageStep, step}
-use Rattle.kvmi.specs.Case.{Case, Seen, seen, cases, edges, crowded, crowdedSeen}
+use Rattle.kvmi.specs.Case.{Case, seen, cases}
+use Rattle.kvmi.specs.Edge.{Edge, outcome}
+use Rattle.kvmi.specs.MessageEdges.{ofMessages, paddings, paddingsSeen}
+use Rattle.kvmi.specs.SessionEdges.{ofSessions, crowded, crowdedSeen}
+use Rattle.kvmi.specs.ImageEdges.{ofImages, crammed, crammedSeen}
 
 abbrev Right : List Case → Type 0
 Right cs = map seen cs ≡ map (λ (c : Case). c .expected) cs
@@ -25,11 +29,30 @@ pub cases-right : Right cases
 unfolding le num load store isWhole headerOf twos codeBytes bitOf isOn putBit bitsHave writeRow readRow inRange isSet allowsCommand allowsEvent canSinglestep uncatchable taken isCr crBit isMsr nextSeq layoutOf sizeFits namesVcpu vcpuOf enableAt enables flagsAt eventOf registerOf gpaOf sizeOf countOf countFits viewOf entryOf entriesOf entryPadding padding firstNonZero firstOfRuns firstPadding isVmEvent isVcpuEvent takesEvent isAccess inOnePage isInvalid isUnready isDenied isUnsupported isBusy pageExists isAbsent changeOf losesErrors commandVerdict isAwaited eventReplyVerdict verdict isSkipped setPage takeEntry takeEntries setMsr apply messageBytes replyBytes replyData eventBytes pauseEvent commandErrorEvent answerBytes answerSeq answerOf kindAt image vmForm isIdle vcForm msForm paForm vmMay mayEnable vcMay paMay loadImage beginFresh beginFrom answering judged headed messageStep readyStep pausing enterStep imageStep step seen
 cases-right = refl
 
-pub edges-right : Right edges
-unfolding le num load store isWhole headerOf twos codeBytes bitOf isOn putBit bitsHave writeRow readRow inRange isSet allowsCommand allowsEvent canSinglestep uncatchable taken isCr crBit isMsr nextSeq layoutOf sizeFits namesVcpu vcpuOf enableAt enables flagsAt eventOf registerOf gpaOf sizeOf countOf countFits viewOf entryOf entriesOf entryPadding padding firstNonZero firstOfRuns firstPadding isVmEvent isVcpuEvent takesEvent isAccess inOnePage isInvalid isUnready isDenied isUnsupported isBusy pageExists isAbsent changeOf losesErrors commandVerdict isAwaited eventReplyVerdict verdict isSkipped setPage takeEntry takeEntries setMsr apply messageBytes replyBytes replyData eventBytes pauseEvent commandErrorEvent answerBytes answerSeq answerOf kindAt image vmForm isIdle vcForm msForm paForm vmMay mayEnable vcMay paMay loadImage beginFresh beginFrom answering judged headed messageStep readyStep pausing enterStep imageStep step seen
-edges-right = refl
+abbrev As-expected : List Edge → Type 0
+As-expected es = map outcome es ≡ map (λ (e : Edge). e .expected) es
+
+pub of-messages-right : As-expected ofMessages
+unfolding le num load store isWhole headerOf twos codeBytes bitOf isOn putBit bitsHave writeRow readRow inRange isSet allowsCommand allowsEvent canSinglestep uncatchable taken isCr crBit isMsr nextSeq layoutOf sizeFits namesVcpu vcpuOf enableAt enables flagsAt eventOf registerOf gpaOf sizeOf countOf countFits viewOf entryOf entriesOf entryPadding padding firstNonZero firstOfRuns firstPadding isVmEvent isVcpuEvent takesEvent isAccess inOnePage isInvalid isUnready isDenied isUnsupported isBusy pageExists isAbsent changeOf losesErrors commandVerdict isAwaited eventReplyVerdict verdict isSkipped setPage takeEntry takeEntries setMsr apply messageBytes replyBytes replyData eventBytes pauseEvent commandErrorEvent answerBytes answerSeq answerOf kindAt image vmForm isIdle vcForm msForm paForm vmMay mayEnable vcMay paMay loadImage beginFresh beginFrom answering judged headed messageStep readyStep pausing enterStep imageStep step outcome
+of-messages-right = refl
+
+pub of-sessions-right : As-expected ofSessions
+unfolding le num load store isWhole headerOf twos codeBytes bitOf isOn putBit bitsHave writeRow readRow inRange isSet allowsCommand allowsEvent canSinglestep uncatchable taken isCr crBit isMsr nextSeq layoutOf sizeFits namesVcpu vcpuOf enableAt enables flagsAt eventOf registerOf gpaOf sizeOf countOf countFits viewOf entryOf entriesOf entryPadding padding firstNonZero firstOfRuns firstPadding isVmEvent isVcpuEvent takesEvent isAccess inOnePage isInvalid isUnready isDenied isUnsupported isBusy pageExists isAbsent changeOf losesErrors commandVerdict isAwaited eventReplyVerdict verdict isSkipped setPage takeEntry takeEntries setMsr apply messageBytes replyBytes replyData eventBytes pauseEvent commandErrorEvent answerBytes answerSeq answerOf kindAt image vmForm isIdle vcForm msForm paForm vmMay mayEnable vcMay paMay loadImage beginFresh beginFrom answering judged headed messageStep readyStep pausing enterStep imageStep step outcome
+of-sessions-right = refl
+
+pub of-images-right : As-expected ofImages
+unfolding le num load store isWhole headerOf twos codeBytes bitOf isOn putBit bitsHave writeRow readRow inRange isSet allowsCommand allowsEvent canSinglestep uncatchable taken isCr crBit isMsr nextSeq layoutOf sizeFits namesVcpu vcpuOf enableAt enables flagsAt eventOf registerOf gpaOf sizeOf countOf countFits viewOf entryOf entriesOf entryPadding padding firstNonZero firstOfRuns firstPadding isVmEvent isVcpuEvent takesEvent isAccess inOnePage isInvalid isUnready isDenied isUnsupported isBusy pageExists isAbsent changeOf losesErrors commandVerdict isAwaited eventReplyVerdict verdict isSkipped setPage takeEntry takeEntries setMsr apply messageBytes replyBytes replyData eventBytes pauseEvent commandErrorEvent answerBytes answerSeq answerOf kindAt image vmForm isIdle vcForm msForm paForm vmMay mayEnable vcMay paMay loadImage beginFresh beginFrom answering judged headed messageStep readyStep pausing enterStep imageStep step outcome
+of-images-right = refl
 
 -- the skip rule
 pub crowded-right : crowded ≡ crowdedSeen
 unfolding isSkipped setPage takeEntry takeEntries
 crowded-right = refl
+
+pub crammed-right : crammed ≡ crammedSeen
+unfolding paForm paMay
+crammed-right = refl
+
+pub paddings-right : paddings ≡ paddingsSeen
+unfolding le num load countOf countFits entryPadding padding firstNonZero firstOfRuns firstPadding
+paddings-right = refl

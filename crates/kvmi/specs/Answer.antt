@@ -1,11 +1,9 @@
 -- "Host answers": document 01's number and values of each case of an answer.
 use Prim.Native.Nat.{ℕ}
-use mathlib.Core.List.{List, [], _∷_}
-use lib.ListN.{getD}
 use Rattle.kvmi.specs.declared.Answer.{Answer}
 use Rattle.kvmi.specs.declared.Answer.the-variants.{Handled, Closing, Closed, ShortOut, BadVcpu, BadState, Waiting, BadSettings, BadForm, Forbidden, Busy, NotApplicable}
 use Rattle.kvmi.specs.declared.Signal.{Signal}
-use Rattle.kvmi.specs.declared.Signal.the-variants.{Quiet, Kick, Crash}
+use Rattle.kvmi.specs.declared.Signal.the-variants.{Quiet}
 
 -- number, count of bytes written, signal (none, kick(vCPU, wait), crash(vCPU)), offset; what an answer has none of is 0 or none
 pub record Paper : Type 0 where

@@ -15,16 +15,16 @@ use Rattle.kvmi.specs.declared.Settings.{Settings}
 use Rattle.kvmi.specs.declared.Signal.{Signal}
 use Rattle.kvmi.specs.declared.Signal.the-variants.{Quiet}
 use Rattle.kvmi.specs.declared.ReplyMode.{ReplyMode}
-use Rattle.kvmi.specs.declared.Change.{Change}
 use Rattle.kvmi.specs.declared.Verdict.{Verdict}
 use Rattle.kvmi.specs.declared.Verdict.the-variants.{Closes, Fails, Does}
+use Rattle.kvmi.specs.Limits.{leastOut, eventOut, stateBytes}
 use Rattle.kvmi.specs.Answer.{Paper, handled, plain, plainAt}
 use Rattle.kvmi.specs.Settings.{inRange}
-use Rattle.kvmi.specs.Tables.{Vcpu, Tables, vcpuAt, withReady, withPauses}
+use Rattle.kvmi.specs.Tables.{Tables, vcpuAt, withReady, withPauses}
 use Rattle.kvmi.specs.Model.{Awaited, Model, begun, fresh, closedModel, withSeq, setAwaited, awaitedBy, onVcpu, nextSeq, isSome}
 use Rattle.kvmi.specs.Message.{layoutOf, vcpuOf}
 use Rattle.kvmi.specs.Verdict.{verdict, factsOf}
-use Rattle.kvmi.specs.Change.{Applied, apply, signalOf, modeFor}
+use Rattle.kvmi.specs.Change.{apply, signalOf, modeFor}
 use Rattle.kvmi.specs.Reply.{replyData, pauseEvent, answerOf, answerSeq}
 use Rattle.kvmi.specs.Image.{Loaded, loaded, badForm, forbidden, image, loadImage}
 
@@ -91,6 +91,7 @@ judged s m id seq d out guest (Does c) =
     answering s (modeFor (m .mode) c) id seq (apply m guest d c .code) d (signalOf c) out (apply m guest d c .guest) (apply m guest d c .model)
 
 -- test 1: "Fewer than 8 bytes, or size unequal to the bytes that follow: closes."
+-- The vCPU number is read from the data of every message and used only where the message names a vCPU.
 unfoldable pub headed : Settings → Model → List ℕ → List ℕ → List ℕ → Header → Step
 headed s m d out guest Broken = closing s out guest
 headed s m d out guest (Whole id size seq) = judged s m id seq d out guest (verdict s (factsOf m (length guest) (vcpuOf d)) id seq d)
@@ -98,7 +99,7 @@ headed s m d out guest (Whole id size seq) = judged s m id seq d out guest (verd
 unfoldable pub messageStep : Settings → Model → List ℕ → List ℕ → List ℕ → Step
 messageStep s m msg out guest =
     cond (m .closed) (unchanged 2 m out guest)
-    (cond (ltb (length out) 4112) (unchanged 3 m out guest)
+    (cond (ltb (length out) leastOut) (unchanged 3 m out guest)
     (headed s m (drop 8 msg) out guest (headerOf msg)))
 
 -- ---- a ready mark: "2, 4"
@@ -119,8 +120,8 @@ unfoldable pub enterStep : Settings → Model → ℕ → List ℕ → List ℕ 
 enterStep s m vcpu state out =
     cond (m .closed) (unchanged 2 m out [])
     (cond (leb (s .vcpus) vcpu) (unchanged 4 m out [])
-    (cond (not (eqb (length state) 536)) (unchanged 5 m out [])
-    (cond (ltb (length out) 552) (unchanged 3 m out [])
+    (cond (not (eqb (length state) stateBytes)) (unchanged 5 m out [])
+    (cond (ltb (length out) eventOut) (unchanged 3 m out [])
     (cond (isSome (awaitedBy m vcpu)) (unchanged 6 m out [])
     (cond (leb 1 (vcpuAt (m .tables) vcpu .pauses)) (pausing m vcpu state out) (writing [] Quiet out [] m))))))
 

@@ -1,9 +1,9 @@
 -- What a message that passes its tests changes: "a message handled without error sets its switch to enable (5, 10, 11, 12, 14)
 -- or adds a pause (9); applied entries of 13 set pages; reply mode, events, event replies [..] act as written."
-use Prim.Native.Nat.{ℕ, suc, _+_, _*_, _^_}
+use Prim.Native.Nat.{ℕ, _+_}
 use mathlib.Core.List.{List, [], _∷_}
 use mathlib.Core.Bool.{Bool, true, false, cond, not, _&&_}
-use mathlib.Core.Option.{Option, none, some}
+use mathlib.Core.Option.{none}
 use lib.IntN.{ℤ}
 use lib.ListN.{length, drop}
 use lib.Dec.{leb, eqb}
@@ -13,16 +13,13 @@ use Rattle.kvmi.specs.declared.Signal.{Signal}
 use Rattle.kvmi.specs.declared.Signal.the-variants.{Quiet, Kick, Crash}
 use Rattle.kvmi.specs.declared.Change.{Change}
 use Rattle.kvmi.specs.declared.Change.the-variants.{Nothing, SetVmEvent, WritePhysical, QueuePause, SetVcpuEvent, SetCr, SetMsr, SetPages, SetSinglestep, SetReplies, EndWait}
+pub use Rattle.kvmi.specs.Limits.{pageLimit}
 use Rattle.kvmi.specs.Bits.{putBit}
 use Rattle.kvmi.specs.Codes.{OK, ENOMEM}
 use Rattle.kvmi.specs.Table.{has, put, forget}
-use Rattle.kvmi.specs.Tables.{Vcpu, Msr, Page, Tables, msrKey, pageKey, crBit, withSinglestep, withCrs, withEvents, withPauses, withVmEvents, withMsrs, withPages}
+use Rattle.kvmi.specs.Tables.{Msr, Page, msrKey, pageKey, crBit, withSinglestep, withCrs, withEvents, withPauses, withVmEvents, withMsrs, withPages}
 use Rattle.kvmi.specs.Model.{Model, withTables, withMode, setAwaited, onVcpu}
 use Rattle.kvmi.specs.Message.{Entry, entriesOf}
-
--- "1,024 pages (all views together)"
-abbrev pub pageLimit : ℕ
-pageLimit = 1024
 
 -- ---- message 13
 -- the pages below rwx, and whether an entry was skipped

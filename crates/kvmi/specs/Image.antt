@@ -1,15 +1,16 @@
 -- "The table image": the bytes of tables, and what an image loads as.
-use Prim.Native.Nat.{ℕ, zero, suc, _+_, _*_, _/_, _%_, _^_}
+use Prim.Native.Nat.{ℕ, suc, _+_, _*_, _/_, _%_, _^_}
 use mathlib.Core.List.{List, [], _∷_, _++_}
 use mathlib.Core.Bool.{Bool, true, false, _&&_, _||_, not}
 use lib.ListN.{length, getD}
 use lib.Dec.{eqb, leb, ltb}
 use Rattle.kvmi.specs.declared.Settings.{Settings}
+use Rattle.kvmi.specs.Limits.{pageLimit, pauseLimit}
 use Rattle.kvmi.specs.Bits.{bit, bitsHave, among}
 use Rattle.kvmi.specs.Settings.{allowsEvent, canSinglestep, uncatchable, taken}
 use Rattle.kvmi.specs.Row.{Row}
-use Rattle.kvmi.specs.Record.{Kind, VM, VC, MS, PA, EN, widths, size, Rec, whole, cut, orderOf, writeAll, parse}
-use Rattle.kvmi.specs.Tables.{Vcpu, Msr, Page, Tables, resting, vcpuAt, isMsr, withVcpus, withMsrs, withPages}
+use Rattle.kvmi.specs.Record.{Kind, VM, VC, MS, PA, EN, widths, size, vmVersion, vmCount, vmEvents, vcVcpu, vcFlags, vcCrs, vcEvents, vcPauses, vcZero, msVcpu, msMsr, paView, paAccess, paZero, paPage, enCount, Rec, whole, cut, orderOf, writeAll, parse}
+use Rattle.kvmi.specs.Tables.{Vcpu, Msr, Page, Tables, resting, isMsr, withVcpus, withMsrs, withPages}
 use Rattle.kvmi.specs.Message.{isVmEvent, isVcpuEvent}
 
 -- ---- tables as records
@@ -64,13 +65,13 @@ image t = writeAll (records t)
 
 -- ---- what a record states
 abbrev pub vcpuOfRow : Row (widths VC) → Vcpu
-vcpuOfRow f = record { ready = eqb (f .1 .0 % 2) 1; singlestep = eqb (f .1 .0 / 2) 1; crs = f .1 .1 .0; events = f .1 .1 .1 .0; pauses = f .1 .1 .1 .1 .0 }
+vcpuOfRow f = record { ready = eqb (vcFlags f % 2) 1; singlestep = eqb (vcFlags f / 2) 1; crs = vcCrs f; events = vcEvents f; pauses = vcPauses f }
 
 abbrev pub msrOfRow : Row (widths MS) → Msr
-msrOfRow f = record { vcpu = f .0; msr = f .1 .0 }
+msrOfRow f = record { vcpu = msVcpu f; msr = msMsr f }
 
 abbrev pub pageOfRow : Row (widths PA) → Page
-pageOfRow f = record { view = f .0; page = f .1 .1 .1 .0; access = f .1 .0 }
+pageOfRow f = record { view = paView f; page = paPage f; access = paAccess f }
 
 -- the tables with what a record behind VM states
 abbrev pub withRecord : (k : Kind) → Tables → Row (widths k) → Tables
@@ -89,9 +90,10 @@ vmForm n events = leb 1 n && leb n 16 && bitsHave isVmEvent 0 16 events
 unfoldable pub isIdle : Vcpu → Bool
 isIdle v = not (v .singlestep) && eqb (v .crs) 0 && eqb (v .events) 0 && eqb (v .pauses) 0
 
--- "pauses above 8, a flag or CR bit not named, [..] or an event bit that message [..] 10 (VC) doesn't take"
+-- "pauses above 8", a "CR bit not named", "an event bit that message [..] 10 (VC) doesn't take", "An unready vCPU has only zeros".
+-- (A flag that is not named is found in `formOf`: a vCPU's record has no room for one.)
 unfoldable pub vcForm : Vcpu → Bool
-vcForm v = leb (v .crs) 7 && bitsHave isVcpuEvent 0 16 (v .events) && leb (v .pauses) 8 && (v .ready || isIdle v)
+vcForm v = leb (v .crs) 7 && bitsHave isVcpuEvent 0 16 (v .events) && leb (v .pauses) pauseLimit && (v .ready || isIdle v)
 
 -- "an MSR outside message 12's ranges"; "An unready vCPU has [..] no MS"
 unfoldable pub msForm : List Vcpu → Msr → Bool
@@ -101,18 +103,19 @@ msForm vs m = ltb (m .vcpu) (length vs) && isMsr (m .msr) && (getD vs (m .vcpu) 
 unfoldable pub paForm : Page → Bool
 paForm p = leb (p .view) 7 && among (p .access) (0 ∷ 1 ∷ 3 ∷ 4 ∷ 5 ∷ []) && ltb (p .page) (2 ^ 52)
 
--- the form of a record behind VM, in an image of n vCPUs that has stated t before it; "zero bytes must be zero"
+-- the form of a record behind VM, in an image of n vCPUs that has stated t before it: "zero bytes must be zero", "a vCPU not below it",
+-- "a flag [..] not named" (above 3), "at most 1,024", and the count in EN
 abbrev pub formOf : (k : Kind) → ℕ → Tables → Row (widths k) → Bool
 formOf VM n t f = false
-formOf VC n t f = ltb (f .0) n && leb (f .1 .0) 3 && eqb (f .1 .1 .1 .1 .1 .0) 0 && vcForm (vcpuOfRow f)
+formOf VC n t f = ltb (vcVcpu f) n && leb (vcFlags f) 3 && eqb (vcZero f) 0 && vcForm (vcpuOfRow f)
 formOf MS n t f = msForm (t .vcpus) (msrOfRow f)
-formOf PA n t f = eqb (f .1 .1 .0) 0 && paForm (pageOfRow f) && ltb (length (t .pages)) 1024
-formOf EN n t f = eqb (f .0) (recordCount t)
+formOf PA n t f = eqb (paZero f) 0 && paForm (pageOfRow f) && ltb (length (t .pages)) pageLimit
+formOf EN n t f = eqb (enCount f) (recordCount t)
 
 -- "one VC for every vCPU": the next VC is that of the next vCPU, and none is missing before any other kind
 abbrev pub isNext : (k : Kind) → ℕ → Tables → Row (widths k) → Bool
 isNext VM n t f = false
-isNext VC n t f = eqb (f .0) (length (t .vcpus))
+isNext VC n t f = eqb (vcVcpu f) (length (t .vcpus))
 isNext MS n t f = eqb (length (t .vcpus)) n
 isNext PA n t f = eqb (length (t .vcpus)) n
 isNext EN n t f = eqb (length (t .vcpus)) n
@@ -185,8 +188,8 @@ abbrev pub loadRecords : Settings → List Rec → Loaded
 loadRecords s [] = badForm 0
 loadRecords s (cut l ∷ rs) = badForm 0
 loadRecords s (whole VM f ∷ rs) =
-    judge (eqb (f .0) 1 && vmForm (f .1 .0) (f .1 .1 .0)) (vmMay s (f .1 .0) (f .1 .1 .0)) 0
-    (loadRest s (f .1 .0) (size VM) (suc (orderOf VM f)) (stated (f .1 .1 .0)) rs)
+    judge (eqb (vmVersion f) 1 && vmForm (vmCount f) (vmEvents f)) (vmMay s (vmCount f) (vmEvents f)) 0
+    (loadRest s (vmCount f) (size VM) (suc (orderOf VM f)) (stated (vmEvents f)) rs)
 loadRecords s (whole VC f ∷ rs) = badForm 0
 loadRecords s (whole MS f ∷ rs) = badForm 0
 loadRecords s (whole PA f ∷ rs) = badForm 0

@@ -1,6 +1,7 @@
 pub mod Bits
 pub mod Table
 pub mod Row
+pub mod Limits
 pub mod Settings
 pub mod Codes
 pub mod Answer
@@ -16,3 +17,7 @@ pub mod Valid
 pub mod Call
 pub mod Pauses
 pub mod Case
+pub mod Edge
+pub mod MessageEdges
+pub mod SessionEdges
+pub mod ImageEdges

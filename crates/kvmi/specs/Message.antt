@@ -47,7 +47,7 @@ messages =
 unfoldable pub layoutOf : ℕ → Layout
 layoutOf id = getD messages id unknown
 
--- test 4: the data's size is the table's. "Message 13 closes only below 8 bytes."
+-- test 4: the data's size is the table's. "Message 13 closes only below 8 bytes; a count that disagrees is -22."
 unfoldable pub sizeFits : SizeRule → List ℕ → Bool
 sizeFits (Exactly n) d = eqb (length d) n
 sizeFits SizeField d = leb 16 (length d) && eqb (length d) (16 + load 8 d 8)
@@ -60,14 +60,14 @@ carriesData WithData = true
 carriesData Silent = false
 
 -- ---- fields
--- "(v) means the 8-byte vCPU header first"; EVENT_REPLY, 16, apart
+-- the messages marked (v), with "the 8-byte vCPU header first"; EVENT_REPLY, 16, is marked too and is judged apart
 unfoldable pub namesVcpu : ℕ → Bool
 namesVcpu id = among id (8 ∷ 9 ∷ 10 ∷ 11 ∷ 12 ∷ 14 ∷ [])
 
 unfoldable pub vcpuOf : List ℕ → ℕ
 vcpuOf d = load 2 d 0
 
--- the place of enable (wait in 9, action in 16)
+-- the place of enable (wait in 9), in the messages that have one
 unfoldable pub enableAt : ℕ → ℕ
 enableAt id = cond (eqb id 5) 2 (cond (eqb id 10) 10 (cond (eqb id 15) 0 8))
 
@@ -93,7 +93,7 @@ gpaOf d = load 8 d 0
 unfoldable pub sizeOf : List ℕ → ℕ
 sizeOf d = load 8 d 8
 
--- message 13: "the count field and the size must agree"
+-- message 13 says how many entries it has, and its size must agree with that
 unfoldable pub countOf : List ℕ → ℕ
 countOf d = load 2 d 0
 
@@ -103,7 +103,7 @@ countFits d = eqb (length d) (8 + 16 * countOf d)
 unfoldable pub viewOf : List ℕ → ℕ
 viewOf d = load 2 d 2
 
--- an entry of message 13; "Page number is gpa / 4096, rounded down", of an address of 64 bits
+-- an entry of message 13; "Page number is gpa / 4096, rounded down". (`% 2 ^ 64` only says that an address has 64 bits: any eight bytes do.)
 pub record Entry : Type 0 where
   pub page : ℕ
   pub access : ℕ
@@ -122,7 +122,7 @@ unfoldable pub entryPadding : ℕ → ℕ → List (ℕ × ℕ)
 entryPadding at zero = []
 entryPadding at (suc n) = (at, 7) ∷ entryPadding (at + 16) n
 
--- "Entries are looked at only if the count fits."
+-- where the count of message 13 does not fit its size, which is -22 as well, no entry's padding is looked at
 unfoldable pub padding : ℕ → List ℕ → List (ℕ × ℕ)
 padding id d =
     cond (among id (2 ∷ 3 ∷ 8 ∷ [])) ((2, 6) ∷ [])

@@ -1,7 +1,7 @@
 -- The records of the table image as rows of numbers behind a mark, and a list of bytes cut into them.
 use Prim.Native.Nat.{ℕ, zero, suc, _+_, _*_, _^_}
 use mathlib.Core.List.{List, [], _∷_, _++_}
-use mathlib.Core.Bool.{Bool, true, false, cond}
+use mathlib.Core.Bool.{cond}
 use mathlib.Core.Option.{Option, none, some}
 use lib.ListN.{length, drop}
 use lib.Dec.{eqb, leb}
@@ -42,6 +42,55 @@ widths EN = 4 ∷ []
 abbrev pub size : Kind → ℕ
 size k = width (2 ∷ widths k)
 
+-- ---- the numbers of a row by name, where a reader asks for them
+abbrev pub vmVersion : Row (widths VM) → ℕ
+vmVersion f = f .0
+
+abbrev pub vmCount : Row (widths VM) → ℕ
+vmCount f = f .1 .0
+
+abbrev pub vmEvents : Row (widths VM) → ℕ
+vmEvents f = f .1 .1 .0
+
+abbrev pub vcVcpu : Row (widths VC) → ℕ
+vcVcpu f = f .0
+
+abbrev pub vcFlags : Row (widths VC) → ℕ
+vcFlags f = f .1 .0
+
+abbrev pub vcCrs : Row (widths VC) → ℕ
+vcCrs f = f .1 .1 .0
+
+abbrev pub vcEvents : Row (widths VC) → ℕ
+vcEvents f = f .1 .1 .1 .0
+
+abbrev pub vcPauses : Row (widths VC) → ℕ
+vcPauses f = f .1 .1 .1 .1 .0
+
+abbrev pub vcZero : Row (widths VC) → ℕ
+vcZero f = f .1 .1 .1 .1 .1 .0
+
+abbrev pub msVcpu : Row (widths MS) → ℕ
+msVcpu f = f .0
+
+abbrev pub msMsr : Row (widths MS) → ℕ
+msMsr f = f .1 .0
+
+abbrev pub paView : Row (widths PA) → ℕ
+paView f = f .0
+
+abbrev pub paAccess : Row (widths PA) → ℕ
+paAccess f = f .1 .0
+
+abbrev pub paZero : Row (widths PA) → ℕ
+paZero f = f .1 .1 .0
+
+abbrev pub paPage : Row (widths PA) → ℕ
+paPage f = f .1 .1 .1 .0
+
+abbrev pub enCount : Row (widths EN) → ℕ
+enCount f = f .0
+
 -- a whole record, or bytes that begin none
 pub data Rec : Type 0 where
   whole : (k : Kind) → Row (widths k) → Rec
@@ -53,9 +102,9 @@ place kind major minor = kind * 2 ^ 80 + (major * 2 ^ 64 + minor)
 
 abbrev pub orderOf : (k : Kind) → Row (widths k) → ℕ
 orderOf VM f = place 0 0 0
-orderOf VC f = place 1 (f .0) 0
-orderOf MS f = place 2 (f .0) (f .1 .0)
-orderOf PA f = place 3 (f .0) (f .1 .1 .1 .0)
+orderOf VC f = place 1 (vcVcpu f) 0
+orderOf MS f = place 2 (msVcpu f) (msMsr f)
+orderOf PA f = place 3 (paView f) (paPage f)
 orderOf EN f = place 4 0 0
 
 abbrev pub write : Rec → List ℕ

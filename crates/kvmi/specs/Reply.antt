@@ -1,7 +1,7 @@
 -- The bytes that go out: replies, and "Events".
-use Prim.Native.Nat.{ℕ, _+_}
+use Prim.Native.Nat.{ℕ}
 use mathlib.Core.List.{List, [], _∷_, _++_}
-use mathlib.Core.Bool.{Bool, true, false, cond}
+use mathlib.Core.Bool.{cond}
 use lib.IntN.{ℤ}
 use lib.ListN.{length, take, drop, replicate}
 use lib.Dec.{eqb}
@@ -12,6 +12,7 @@ use Rattle.kvmi.specs.declared.ReplyMode.{ReplyMode}
 use Rattle.kvmi.specs.declared.ReplyMode.the-variants.{On, Off, ErrorsOnly}
 use Rattle.kvmi.specs.declared.ReplyKind.{ReplyKind}
 use Rattle.kvmi.specs.declared.ReplyKind.the-variants.{CodeOnly, WithData, Silent}
+use Rattle.kvmi.specs.Limits.{stateBytes}
 use Rattle.kvmi.specs.Codes.{isError}
 use Rattle.kvmi.specs.Model.{nextSeq}
 use Rattle.kvmi.specs.Message.{gpaOf, sizeOf}
@@ -43,7 +44,7 @@ pauseEvent seq vcpu state = eventBytes seq vcpu 2 state []
 -- event 13: "vCPU 0, a zero state block and 001's 16 bytes after it; message size field 560": error, seq and id of the command
 unfoldable pub commandErrorEvent : ℕ → ℤ → ℕ → ℕ → List ℕ
 commandErrorEvent seq code commandSeq commandId =
-    eventBytes seq 0 13 (replicate 536 0) (codeBytes code ++ le 4 commandSeq ++ le 2 commandId ++ replicate 6 0)
+    eventBytes seq 0 13 (replicate stateBytes 0) (codeBytes code ++ le 4 commandSeq ++ le 2 commandId ++ replicate 6 0)
 
 -- what is written in answer to a command: "While replies are off nothing is written, but an error with the flag kept writes one CMD_ERROR event."
 -- seq is the next event's

@@ -1,6 +1,6 @@
 -- "Settings": their ranges, and what they allow.
 use Prim.Native.Nat.{ℕ}
-use mathlib.Core.List.{List, [], _∷_}
+use mathlib.Core.List.{[], _∷_}
 use mathlib.Core.Bool.{Bool, not, _&&_, _||_}
 use lib.Dec.{leb, eqb}
 use Rattle.kvmi.specs.declared.Settings.{Settings}

@@ -2,8 +2,8 @@
 use Prim.Native.Nat.{ℕ, _+_, _*_, _^_}
 use mathlib.Core.Path.{_≡_}
 use mathlib.Core.List.{List, [], _∷_}
-use mathlib.Core.Bool.{Bool, true, false, cond, _&&_, _||_}
-use lib.ListN.{length, getD, set, replicate}
+use mathlib.Core.Bool.{Bool, false, cond, _&&_, _||_}
+use lib.ListN.{getD, set, replicate}
 use lib.Dec.{eqb, leb}
 use Rattle.kvmi.specs.Bits.{isOn, among}
 
@@ -90,7 +90,7 @@ setVcpu t i v = withVcpus t (set (t .vcpus) i v)
 unfoldable pub isCr : ℕ → Bool
 isCr cr = among cr (0 ∷ 3 ∷ 4 ∷ [])
 
--- the bit of a CR's switch: "1, 2, 4 for CR0, CR3, CR4"
+-- the place of a CR's bit: 0, 1, 2, whose bits are "1, 2, 4 for CR0, CR3, CR4"
 unfoldable pub crBit : ℕ → ℕ
 crBit cr = cond (eqb cr 0) 0 (cond (eqb cr 3) 1 2)
 
@@ -122,7 +122,8 @@ accessIn (p ∷ ps) view page = cond (eqb (p .view) view && eqb (p .page) page) 
 unfoldable pub access : Tables → ℕ → ℕ → ℕ
 access t view page = accessIn (t .pages) view page
 
--- the tables are equal, said by lookup: every ready mark, every switch, every queue, the access of every view and page
+-- the tables are equal, said by lookup: every ready mark, every switch, every queue, the access of every view and page.
+-- It is said of tables under equal settings: how many vCPUs there are is not compared.
 pub record SameTables (t u : Tables) : Type 0 where
   pub vmEvents : (event : ℕ) → vmEventOn t event ≡ vmEventOn u event
   pub ready : (vcpu : ℕ) → vcpuAt t vcpu .ready ≡ vcpuAt u vcpu .ready

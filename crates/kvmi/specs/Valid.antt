@@ -1,9 +1,9 @@
 -- Valid tables: what the settings allow and an image can state.
-use Prim.Native.Nat.{ℕ, _≤_}
-use mathlib.Core.List.{List}
+use Prim.Native.Nat.{_≤_}
 use mathlib.Core.Bool.{Bool, _&&_, So}
 use lib.ListN.{length}
 use Rattle.kvmi.specs.declared.Settings.{Settings}
+use Rattle.kvmi.specs.Limits.{pageLimit}
 use Rattle.kvmi.specs.Bits.{every}
 use Rattle.kvmi.specs.Table.{rising}
 use Rattle.kvmi.specs.Tables.{Vcpu, Page, Tables, msrKey, pageKey}
@@ -27,4 +27,4 @@ pub record Valid (s : Settings) (t : Tables) : Type 0 where
   -- pages below rwx, ascending, at most 1,024
   pub pas : So (every (paGood s) (t .pages))
   pub paUp : So (rising pageKey 0 (t .pages))
-  pub paFew : length (t .pages) ≤ 1024
+  pub paFew : length (t .pages) ≤ pageLimit

@@ -1,21 +1,21 @@
 -- "What is tested first": tests 2 to 6 of a message with a whole header, in their order, and the rule of EVENT_REPLY.
 use Prim.Native.Nat.{ℕ, _+_, _*_, _/_, _%_}
-use mathlib.Core.List.{List, [], _∷_, map}
+use mathlib.Core.List.{List, [], _∷_}
 use mathlib.Core.Bool.{Bool, true, false, cond, not, _&&_, _||_}
 use mathlib.Core.Option.{Option, none, some}
 use lib.IntN.{ℤ}
-use lib.ListN.{length, getD, drop}
-use lib.Dec.{leb, ltb, eqb}
+use lib.ListN.{getD, drop}
+use lib.Dec.{leb, eqb}
 use Rattle.wire.specs.Bytes.{load}
 use Rattle.kvmi.specs.declared.Settings.{Settings}
 use Rattle.kvmi.specs.declared.ReplyMode.{ReplyMode}
 use Rattle.kvmi.specs.declared.ReplyMode.the-variants.{On, Off, ErrorsOnly}
-use Rattle.kvmi.specs.declared.Layout.{Layout}
 use Rattle.kvmi.specs.declared.Facts.{Facts}
 use Rattle.kvmi.specs.declared.Change.{Change}
 use Rattle.kvmi.specs.declared.Change.the-variants.{Nothing, SetVmEvent, WritePhysical, QueuePause, SetVcpuEvent, SetCr, SetMsr, SetPages, SetSinglestep, SetReplies, EndWait}
 use Rattle.kvmi.specs.declared.Verdict.{Verdict}
 use Rattle.kvmi.specs.declared.Verdict.the-variants.{Closes, Fails, Does}
+use Rattle.kvmi.specs.Limits.{pauseLimit}
 use Rattle.kvmi.specs.Bits.{among, every}
 use Rattle.kvmi.specs.Codes.{EPERM, ENOENT, EAGAIN, EBUSY, EINVAL, EOPNOTSUPP, ENOSYS}
 use Rattle.kvmi.specs.Settings.{allowsCommand, allowsEvent, canSinglestep, uncatchable, taken}
@@ -58,7 +58,8 @@ isAccess a = among a (0 ∷ 1 ∷ 3 ∷ 4 ∷ 5 ∷ 7 ∷ [])
 unfoldable pub inOnePage : ℕ → ℕ → Bool
 inOnePage gpa size = leb 1 size && leb (gpa % 4096 + size) 4096
 
--- -22 EINVAL, in the sentence's order
+-- -22 EINVAL, mostly in the sentence's order: the response flags stand with the other bytes that are at most 1, and "a count that disagrees is -22"
+-- is test 4's
 unfoldable pub isInvalid : Settings → ℕ → List ℕ → Bool
 isInvalid s id d =
     not (eqb (firstPadding id d) 0)
@@ -86,7 +87,7 @@ isUnsupported s id d = eqb id 14 && not (canSinglestep s) || eqb id 10 && enable
 
 -- -16 EBUSY
 unfoldable pub isBusy : Settings → Facts → ℕ → List ℕ → Bool
-isBusy s f id d = eqb id 10 && enables id d && taken s (eventOf id d) || eqb id 9 && leb 8 (f .pauses)
+isBusy s f id d = eqb id 10 && enables id d && taken s (eventOf id d) || eqb id 9 && leb pauseLimit (f .pauses)
 
 -- "a page (4,096 bytes) exists if it lies wholly inside"
 unfoldable pub pageExists : ℕ → ℕ → Bool
@@ -120,7 +121,8 @@ changeOf id d =
 unfoldable pub losesErrors : Settings → ℕ → List ℕ → Bool
 losesErrors s id d = eqb id 15 && not (enables id d) && eqb (getD d 2 0) 1 && not (allowsEvent s 13)
 
--- test 6: "errors, the first that applies". (-12 is known when the entries of message 13 have run.)
+-- test 6: "errors, the first that applies" (-12 is known when the entries of message 13 have run); and test 5's second sentence, which asks whether
+-- "test 6 would pass" and so stands behind it
 unfoldable pub commandVerdict : Settings → Facts → ℕ → List ℕ → Verdict
 commandVerdict s f id d =
     cond (isInvalid s id d) (Fails EINVAL)

@@ -56,7 +56,7 @@ pub enum SizeRule {
     Exactly { bytes: u16 },
     // 16 and as many as its size field says.
     SizeField,
-    // 8, and 16 for each of the entries that it counts.
+    // At least 8; that 16 follow for each entry that it counts is tested later.
     Entries,
     // Of an unknown id: no rule.
     Unruled,
@@ -98,7 +98,7 @@ pub struct Layout {
 }
 
 // What the tests of a message ask of the session: the reply mode, how many bytes of guest memory are lent, and what stands
-// for the vCPU that the message names: its ready mark, queued pauses, and the event whose reply it awaits (0: none).
+// for the vCPU that the message names: its ready mark, queued pauses, the event whose reply it awaits (0: none) and that event's seq.
 pub struct Facts {
     pub mode: ReplyMode,
     pub guest: usize,

@@ -1,0 +1,22 @@
+-- Document 01's fixed numbers.
+use Prim.Native.Nat.{ℕ}
+
+-- "1,024 pages (all views together)"
+abbrev pub pageLimit : ℕ
+pageLimit = 1024
+
+-- "queued pauses (0..8)"
+abbrev pub pauseLimit : ℕ
+pauseLimit = 8
+
+-- "output below 4,112 (message)"
+abbrev pub leastOut : ℕ
+leastOut = 4112
+
+-- "552 (entry)": a pause event's bytes
+abbrev pub eventOut : ℕ
+eventOut = 552
+
+-- "536 copied state bytes"
+abbrev pub stateBytes : ℕ
+stateBytes = 536

@@ -1,0 +1,228 @@
+-- Edges of several calls: replies and the reply mode, events and their replies, the other host calls, closed sessions, beginnings, full tables.
+use Prim.Native.Nat.{ℕ, zero, suc}
+use mathlib.Core.List.{List, [], _∷_, _++_, map}
+use mathlib.Core.Bool.{true, false}
+use mathlib.Core.Option.{none}
+use lib.ListN.{take, drop, set, replicate}
+use Rattle.kvmi.specs.declared.ReplyMode.the-variants.{On, Off, ErrorsOnly}
+use Rattle.kvmi.specs.declared.Signal.the-variants.{Quiet, Crash}
+use Rattle.kvmi.specs.Answer.{handled, plain}
+use Rattle.kvmi.specs.Tables.{Page, Tables}
+use Rattle.kvmi.specs.Model.{Model}
+use Rattle.kvmi.specs.Message.{Entry}
+use Rattle.kvmi.specs.Change.{Run, takeEntries}
+use Rattle.kvmi.specs.Reply.{messageBytes}
+use Rattle.kvmi.specs.Call.{Call, message, ready, enter, writeImage}
+use Rattle.kvmi.specs.Case.{anew, fromBytes, standing, two, out, page, send, vcpuHeader, physical, entry, pause, controlMsr, setAccess, reply, c0, c22, vm, vc, en, freshImage, readyImage}
+use Rattle.kvmi.specs.Edge.{Edge, nothing, left, commanding, sized, odd, lent, state, naming, eventData, modeData, answerData, controlVmEvent, controlEvent, controlCr, singlestep, responses, sendAs, eventReply, to15, c11, c12, idle, pa, pauseBytes, failBytes, beside, nobody, awaits, quiet, shut, over, told, gave, answered, closing, begun, row}
+
+-- ---- replies and reply mode
+abbrev pub replyEdges : List Edge
+replyEdges =
+    -- what the settings say, before any vCPU is ready, and a command's seq echoed; VCPU_GET_INFO of the last vCPU
+    row odd (sendAs 0x04030201 1 [] ∷ [])
+    (told (handled 32 Quiet) (1 ∷ 0 ∷ 24 ∷ 0 ∷ 1 ∷ 2 ∷ 3 ∷ 4 ∷ c0 ++ c0 ++ (1 ∷ 0 ∷ 0 ∷ 0 ∷ 0 ∷ 0 ∷ 0 ∷ 0 ∷ 0xF1 ∷ 0xF2 ∷ 0xF3 ∷ 0xF4 ∷ 0xF5 ∷ 0 ∷ 0 ∷ 0 ∷ [])) (0x56 ∷ 0x4D ∷ 1 ∷ 0 ∷ 3 ∷ 0 ∷ 0 ∷ 0 ∷ idle 0 ++ idle 1 ++ idle 2 ++ en 4) (beside On 0 (none ∷ none ∷ none ∷ [])))
+    ∷ row odd (send 4 [] ∷ [])
+    (told (handled 32 Quiet) (4 ∷ 0 ∷ 24 ∷ 0 ∷ 8 ∷ 0 ∷ 0 ∷ 0 ∷ c0 ++ c0 ++ (3 ∷ replicate 15 0)) (0x56 ∷ 0x4D ∷ 1 ∷ 0 ∷ 3 ∷ 0 ∷ 0 ∷ 0 ∷ idle 0 ++ idle 1 ++ idle 2 ++ en 4) (beside On 0 (none ∷ none ∷ none ∷ [])))
+    ∷ row odd (ready 2 ∷ send 8 (vcpuHeader 2) ∷ [])
+    (told (handled 24 Quiet) (8 ∷ 0 ∷ 16 ∷ 0 ∷ 8 ∷ 0 ∷ 0 ∷ 0 ∷ c0 ++ c0 ++ (0x88 ∷ 0x77 ∷ 0x66 ∷ 0x55 ∷ 0x44 ∷ 0x33 ∷ 0x22 ∷ 0x11 ∷ [])) (0x56 ∷ 0x4D ∷ 1 ∷ 0 ∷ 3 ∷ 0 ∷ 0 ∷ 0 ∷ idle 0 ++ idle 1 ++ vc 2 1 0 0 0 ++ en 4) (beside On 0 (none ∷ none ∷ none ∷ [])))
+    -- from replies on: now 0 is replied to and now 1 is not; the flag is kept with enable 0
+    ∷ row two (responses 0 0 0 ∷ []) (told (handled 16 Quiet) (reply 15 c0) freshImage (beside Off 0 nobody))
+    ∷ row two (responses 0 0 1 ∷ []) (told (handled 16 Quiet) (reply 15 c0) freshImage (beside ErrorsOnly 0 nobody))
+    ∷ row two (responses 0 1 0 ∷ []) (told (handled 0 Quiet) [] freshImage (beside Off 0 nobody))
+    ∷ row two (responses 0 1 1 ∷ []) (told (handled 0 Quiet) [] freshImage (beside ErrorsOnly 0 nobody))
+    ∷ row two (responses 1 0 1 ∷ []) (answered 15 c0 freshImage)
+    ∷ row two (responses 1 1 1 ∷ []) (answered 15 c0 freshImage)
+    -- from replies off: on again with now 0 in silence and with now 1 replied to; the flag set and dropped in silence
+    ∷ row two (responses 0 1 0 ∷ responses 1 0 0 ∷ []) (told (handled 0 Quiet) [] freshImage quiet)
+    ∷ row two (responses 0 1 0 ∷ responses 1 1 0 ∷ []) (answered 15 c0 freshImage)
+    ∷ row two (responses 0 1 1 ∷ responses 1 1 1 ∷ []) (answered 15 c0 freshImage)
+    ∷ row two (responses 0 1 0 ∷ responses 0 0 1 ∷ []) (told (handled 0 Quiet) [] freshImage (beside ErrorsOnly 0 nobody))
+    ∷ row two (responses 0 1 1 ∷ responses 0 1 0 ∷ []) (told (handled 0 Quiet) [] freshImage (beside Off 0 nobody))
+    -- an error in 15 follows the old mode, whatever now says
+    ∷ row two (responses 0 1 2 ∷ []) (answered 15 c22 freshImage)
+    ∷ row two (responses 0 1 0 ∷ responses 1 1 2 ∷ []) (told (handled 0 Quiet) [] freshImage (beside Off 0 nobody))
+    ∷ row two (responses 0 1 1 ∷ responses 1 1 2 ∷ []) (told (handled 568 Quiet) (failBytes 0 c22 15) freshImage (beside ErrorsOnly 1 nobody))
+    -- an error with replies off: in silence without the flag, an event with it, of vCPU 0 whichever vCPU the command named, with the command's seq
+    ∷ row two (responses 0 1 0 ∷ controlCr 1 4 1 ∷ []) (told (handled 0 Quiet) [] freshImage (beside Off 0 nobody))
+    ∷ row two (responses 0 1 1 ∷ controlCr 1 4 1 ∷ []) (told (handled 568 Quiet) (failBytes 0 c11 11) freshImage (beside ErrorsOnly 1 nobody))
+    ∷ row two (responses 0 1 1 ∷ sendAs 0x04030201 2 (naming 0) ∷ [])
+    (told (handled 568 Quiet) (17 ∷ 0 ∷ 0x30 ∷ 2 ∷ 0 ∷ 0 ∷ 0 ∷ 0 ∷ 0x20 ∷ 2 ∷ 0 ∷ 0 ∷ 13 ∷ 0 ∷ 0 ∷ 0 ∷ replicate 536 0 ++ c22 ++ (1 ∷ 2 ∷ 3 ∷ 4 ∷ 2 ∷ 0 ∷ 0 ∷ 0 ∷ 0 ∷ 0 ∷ 0 ∷ 0 ∷ [])) freshImage (beside ErrorsOnly 1 nobody))
+    -- the second error's event has the next seq; what is no error takes none
+    ∷ row two (responses 0 1 1 ∷ controlCr 1 4 1 ∷ send 2 (naming 5) ∷ send 2 (naming 0) ∷ []) (told (handled 568 Quiet) (failBytes 1 c22 2) freshImage (beside ErrorsOnly 2 nobody))
+    -- an error that is replied to takes no seq
+    ∷ row two (send 2 (naming 0) ∷ responses 0 1 1 ∷ send 2 (naming 0) ∷ []) (told (handled 568 Quiet) (failBytes 0 c22 2) freshImage (beside ErrorsOnly 1 nobody))
+    ∷ []
+
+-- ---- vCPU entry and event replies
+-- vCPU 0 has one pause queued, and the next event has a given seq
+abbrev pub pausedAt : ℕ → Model
+pausedAt seq = record { tables = record { events = 0; vcpus = (record { ready = true; singlestep = false; crs = 0; events = 0; pauses = 1 }) ∷ (record { ready = false; singlestep = false; crs = 0; events = 0; pauses = 0 }) ∷ []; msrs = []; pages = [] }; mode = On; seq = seq; awaited = nobody; closed = false }
+
+-- vCPU 0 has sent a pause event with seq 0
+abbrev pub sent : List Call
+sent = ready 0 ∷ pause 0 ∷ enter 0 state (lent 552) ∷ []
+
+-- a reply to it that closes
+abbrev pub wrong : ℕ → List ℕ → Edge
+wrong seq d = row two (sent ++ (sendAs seq 16 d ∷ [])) closing
+
+abbrev pub eventEdges : List Edge
+eventEdges =
+    -- no pause is queued; the vCPU need not be ready
+    row two (enter 1 state (lent 552) ∷ []) (gave (handled 0 Quiet) [] (lent 552) freshImage quiet)
+    -- one of three pauses; the output behind the event
+    ∷ row two (ready 0 ∷ pause 0 ∷ pause 0 ∷ pause 0 ∷ enter 0 state (lent 553) ∷ [])
+    (gave (handled 552 Quiet) (pauseBytes 0 0) (lent 553) (vm ++ vc 0 1 0 0 2 ++ idle 1 ++ en 3) (beside On 1 (awaits 0 ∷ none ∷ [])))
+    -- of vCPU 1; pauses and switches of vCPU 0 stay
+    ∷ row two (ready 0 ∷ ready 1 ∷ controlCr 0 3 1 ∷ pause 0 ∷ pause 1 ∷ enter 1 state (lent 552) ∷ [])
+    (gave (handled 552 Quiet) (pauseBytes 0 1) (lent 552) (vm ++ vc 0 1 2 0 1 ++ vc 1 1 0 0 0 ++ en 3) (beside On 1 (none ∷ awaits 0 ∷ [])))
+    -- with replies off too
+    ∷ row two (ready 0 ∷ pause 0 ∷ responses 0 1 0 ∷ enter 0 state (lent 552) ∷ [])
+    (gave (handled 552 Quiet) (pauseBytes 0 0) (lent 552) readyImage (beside Off 1 (awaits 0 ∷ none ∷ [])))
+    -- the next event has the next seq, be it a pause or an error
+    ∷ row two (ready 1 ∷ pause 1 ∷ sent ++ (enter 1 state (lent 552) ∷ []))
+    (gave (handled 552 Quiet) (pauseBytes 1 1) (lent 552) (vm ++ vc 0 1 0 0 0 ++ vc 1 1 0 0 0 ++ en 3) (beside On 2 (awaits 0 ∷ awaits 1 ∷ [])))
+    ∷ row two (sent ++ (responses 0 1 1 ∷ send 2 (naming 0) ∷ [])) (told (handled 568 Quiet) (failBytes 1 c22 2) readyImage (beside ErrorsOnly 2 (awaits 0 ∷ none ∷ [])))
+    ∷ row two (responses 0 1 1 ∷ send 2 (naming 0) ∷ sent) (gave (handled 552 Quiet) (pauseBytes 1 0) (lent 552) readyImage (beside ErrorsOnly 2 (awaits 1 ∷ none ∷ [])))
+    -- refused in the order 4, 5, 3, 6
+    ∷ row two (enter 2 [] [] ∷ []) (gave (plain 4) [] [] freshImage quiet)
+    ∷ row two (sent ++ (enter 0 (drop 1 state) (lent 551) ∷ [])) (gave (plain 5) [] (lent 551) readyImage (beside On 1 (awaits 0 ∷ none ∷ [])))
+    ∷ row two (enter 0 (0 ∷ state) (lent 552) ∷ []) (gave (plain 5) [] (lent 552) freshImage quiet)
+    ∷ row two (sent ++ (enter 0 state (lent 551) ∷ [])) (gave (plain 3) [] (lent 551) readyImage (beside On 1 (awaits 0 ∷ none ∷ [])))
+    ∷ row two (enter 0 state (lent 551) ∷ []) (gave (plain 3) [] (lent 551) freshImage quiet)
+    ∷ row two (sent ++ (enter 0 state (lent 552) ∷ [])) (gave (plain 6) [] (lent 552) readyImage (beside On 1 (awaits 0 ∷ none ∷ [])))
+    ∷ row two (sent ++ (pause 0 ∷ enter 0 state (lent 552) ∷ [])) (gave (plain 6) [] (lent 552) (vm ++ vc 0 1 0 0 1 ++ idle 1 ++ en 3) (beside On 1 (awaits 0 ∷ none ∷ [])))
+    -- the other vCPU does not wait
+    ∷ row two (sent ++ (enter 1 state (lent 552) ∷ [])) (gave (handled 0 Quiet) [] (lent 552) readyImage (beside On 1 (awaits 0 ∷ none ∷ [])))
+    -- a reply is taken once, with action 0 or 2, and in any reply mode; no command need be allowed
+    ∷ row two (sent ++ (eventReply 0 0 0 2 ∷ [])) (told (handled 0 Quiet) [] readyImage (beside On 1 nobody))
+    ∷ row two (sent ++ (eventReply 0 0 2 2 ∷ [])) (told (handled 0 (Crash 0)) [] readyImage (beside On 1 nobody))
+    ∷ row two (sent ++ (responses 0 1 1 ∷ eventReply 0 0 2 2 ∷ [])) (told (handled 0 (Crash 0)) [] readyImage (beside ErrorsOnly 1 nobody))
+    ∷ row two (sent ++ (eventReply 0 0 0 2 ∷ eventReply 0 0 0 2 ∷ [])) closing
+    ∷ (record { settings = commanding 0; start = fromBytes (vm ++ idle 0 ++ vc 1 1 0 0 1 ++ en 3); calls = enter 1 state (lent 552) ∷ eventReply 0 1 2 2 ∷ []; expected = told (handled 0 (Crash 1)) [] (vm ++ idle 0 ++ vc 1 1 0 0 0 ++ en 3) (beside On 1 nobody) })
+    -- of two that are awaited, the one that is meant
+    ∷ row two (ready 1 ∷ pause 1 ∷ sent ++ (enter 1 state (lent 552) ∷ eventReply 1 1 0 2 ∷ []))
+    (told (handled 0 Quiet) [] (vm ++ vc 0 1 0 0 0 ++ vc 1 1 0 0 0 ++ en 3) (beside On 2 (awaits 0 ∷ none ∷ [])))
+    ∷ row two (ready 1 ∷ pause 1 ∷ sent ++ (enter 1 state (lent 552) ∷ eventReply 0 1 0 2 ∷ [])) closing
+    -- after it the vCPU enters again
+    ∷ row two (ready 0 ∷ pause 0 ∷ sent ++ (eventReply 0 0 0 2 ∷ enter 0 state (lent 552) ∷ []))
+    (gave (handled 552 Quiet) (pauseBytes 1 0) (lent 552) readyImage (beside On 2 (awaits 1 ∷ none ∷ [])))
+    -- another seq, in its first and in its last byte; another event; action 1 and 3; another vCPU, and ones not below the count
+    ∷ wrong 1 (answerData 0 0 2)
+    ∷ wrong 0x1000000 (answerData 0 0 2)
+    ∷ wrong 0 (answerData 0 0 13)
+    ∷ wrong 0 (answerData 0 0 0)
+    ∷ wrong 0 (answerData 0 1 2)
+    ∷ wrong 0 (answerData 0 3 2)
+    ∷ wrong 0 (answerData 1 0 2)
+    ∷ wrong 0 (answerData 2 0 2)
+    ∷ wrong 0 (answerData 0x100 0 2)
+    -- padding; one byte more, one fewer
+    ∷ wrong 0 (set (answerData 0 0 2) 2 1)
+    ∷ wrong 0 (set (answerData 0 0 2) 7 1)
+    ∷ wrong 0 (set (answerData 0 0 2) 10 1)
+    ∷ wrong 0 (set (answerData 0 0 2) 15 1)
+    ∷ wrong 0 (answerData 0 0 2 ++ (0 ∷ []))
+    ∷ wrong 0 (take 15 (answerData 0 0 2))
+    -- none is awaited, and event 0 is no event
+    ∷ row two (eventReply 0 0 0 2 ∷ []) closing
+    ∷ row two (eventReply 0 0 0 0 ∷ []) closing
+    -- the seq goes from 4,294,967,295 to 0
+    ∷ (record { settings = two; start = standing (pausedAt 0xFFFFFFFF); calls = enter 0 state (lent 552) ∷ []; expected = gave (handled 552 Quiet) (pauseBytes 0xFFFFFFFF 0) (lent 552) readyImage (beside On 0 (awaits 0xFFFFFFFF ∷ none ∷ [])) })
+    ∷ (record { settings = two; start = standing (pausedAt 0xFFFFFFFE); calls = enter 0 state (lent 552) ∷ []; expected = gave (handled 552 Quiet) (pauseBytes 0xFFFFFFFE 0) (lent 552) readyImage (beside On 0xFFFFFFFF (awaits 0xFFFFFFFE ∷ none ∷ [])) })
+    ∷ []
+
+-- ---- the other calls, calls on a closed session, and how a session begins
+-- everything at once, and then an empty message
+abbrev pub ruined : List Call
+ruined = controlVmEvent 12 1 ∷ setAccess 1 0 (entry 0x5000 1) ∷ sent ++ (controlMsr 0 0x10 1 ∷ controlCr 0 3 1 ∷ responses 0 1 1 ∷ message [] out page ∷ [])
+
+abbrev pub joined : List (List ℕ) → List ℕ
+joined [] = []
+joined (l ∷ ls) = l ++ joined ls
+
+abbrev pub callEdges : List Edge
+callEdges =
+    -- ready marks: of the last vCPU, a second time, of none
+    row two (ready 1 ∷ []) (gave (handled 0 Quiet) [] [] (vm ++ idle 0 ++ vc 1 1 0 0 0 ++ en 3) quiet)
+    ∷ row two (ready 0 ∷ controlEvent 0 4 1 ∷ controlCr 0 3 1 ∷ singlestep 0 1 ∷ pause 0 ∷ ready 0 ∷ []) (gave (handled 0 Quiet) [] [] (vm ++ vc 0 3 2 0x10 1 ++ idle 1 ++ en 3) quiet)
+    ∷ row two (ready 2 ∷ []) (gave (plain 4) [] [] freshImage quiet)
+    ∷ row (sized 16 1) (ready 16 ∷ ready 15 ∷ [])
+    (gave (handled 0 Quiet) [] [] (0x56 ∷ 0x4D ∷ 1 ∷ 0 ∷ 16 ∷ 0 ∷ 0 ∷ 0 ∷ joined (map idle (take 15 to15)) ++ vc 15 1 0 0 0 ++ en 17) (beside On 0 (replicate 16 none)))
+    -- image writing: as long as the image, one byte short, one byte more; 10 comes before 3
+    ∷ row two (writeImage (lent 34) ∷ []) (gave (handled 34 Quiet) freshImage (lent 34) freshImage quiet)
+    ∷ row two (writeImage (lent 33) ∷ []) (gave (plain 3) [] (lent 33) freshImage quiet)
+    ∷ row two (writeImage (lent 35) ∷ []) (gave (handled 34 Quiet) freshImage (lent 35) freshImage quiet)
+    ∷ row two (sent ++ (writeImage (lent 34) ∷ [])) (gave (plain 10) [] (lent 34) readyImage (beside On 1 (awaits 0 ∷ none ∷ [])))
+    ∷ row two (sent ++ (writeImage (lent 33) ∷ [])) (gave (plain 10) [] (lent 33) readyImage (beside On 1 (awaits 0 ∷ none ∷ [])))
+    ∷ row two (ready 1 ∷ pause 1 ∷ enter 1 state (lent 552) ∷ writeImage (lent 34) ∷ []) (gave (plain 10) [] (lent 34) (vm ++ idle 0 ++ vc 1 1 0 0 0 ++ en 3) (beside On 1 (none ∷ awaits 0 ∷ [])))
+    ∷ row two (sent ++ (eventReply 0 0 0 2 ∷ writeImage (lent 34) ∷ [])) (gave (handled 34 Quiet) readyImage (lent 34) readyImage (beside On 1 nobody))
+    -- a message with 4,111 bytes of output, whole or not; with more than 4,112
+    ∷ row two (message (messageBytes 5 8 (eventData 12 1)) (lent 4111) page ∷ []) (left (plain 3) (lent 4111) page freshImage quiet)
+    ∷ row two (message [] (lent 4111) page ∷ []) (left (plain 3) (lent 4111) page freshImage quiet)
+    ∷ row two (message (messageBytes 15 8 (modeData 1 0 0)) (lent 4113) page ∷ []) (left (handled 16 Quiet) (over (reply 15 c0) (lent 4113)) page freshImage quiet)
+    -- closing drops everything; what comes after it answers 2, whatever else is wrong with it
+    ∷ row two ruined closing
+    ∷ row two (ruined ++ (send 2 (naming 5) ∷ [])) (told (plain 2) [] freshImage shut)
+    ∷ row two (ruined ++ (message [] (lent 5) page ∷ [])) (left (plain 2) (lent 5) page freshImage shut)
+    ∷ row two (ruined ++ (send 7 (physical 0 1 ++ (1 ∷ [])) ∷ [])) (told (plain 2) [] freshImage shut)
+    ∷ row two (ruined ++ (ready 0 ∷ [])) (gave (plain 2) [] [] freshImage shut)
+    ∷ row two (ruined ++ (ready 2 ∷ [])) (gave (plain 2) [] [] freshImage shut)
+    ∷ row two (ruined ++ (enter 0 state (lent 552) ∷ [])) (gave (plain 2) [] (lent 552) freshImage shut)
+    ∷ row two (ruined ++ (enter 2 [] (lent 5) ∷ [])) (gave (plain 2) [] (lent 5) freshImage shut)
+    ∷ row two (ruined ++ (writeImage (lent 34) ∷ [])) (gave (plain 2) [] (lent 34) freshImage shut)
+    ∷ row two (ruined ++ (writeImage (lent 5) ∷ [])) (gave (plain 2) [] (lent 5) freshImage shut)
+    -- settings in and out of range, in both ways to begin; 7 comes before 8
+    ∷ begun (sized 0 1) anew (nothing (plain 7))
+    ∷ begun (sized 17 1) anew (nothing (plain 7))
+    ∷ begun (sized 2 0) anew (nothing (plain 7))
+    ∷ begun (sized 2 9) anew (nothing (plain 7))
+    ∷ begun (sized 0 1) (fromBytes []) (nothing (plain 7))
+    ∷ begun (sized 17 1) (fromBytes freshImage) (nothing (plain 7))
+    ∷ begun (sized 2 0) (fromBytes freshImage) (nothing (plain 7))
+    ∷ begun (sized 2 9) (fromBytes freshImage) (nothing (plain 7))
+    ∷ begun (sized 1 1) anew (left (handled 0 Quiet) [] [] (0x56 ∷ 0x4D ∷ 1 ∷ 0 ∷ 1 ∷ 0 ∷ 0 ∷ 0 ∷ idle 0 ++ en 2) (beside On 0 (none ∷ [])))
+    ∷ begun (sized 16 8) anew (left (handled 0 Quiet) [] [] (0x56 ∷ 0x4D ∷ 1 ∷ 0 ∷ 16 ∷ 0 ∷ 0 ∷ 0 ∷ joined (map idle to15) ++ en 17) (beside On 0 (replicate 16 none)))
+    ∷ begun (sized 16 8) (fromBytes (0x56 ∷ 0x4D ∷ 1 ∷ 0 ∷ 16 ∷ 0 ∷ 0 ∷ 0 ∷ joined (map idle to15) ++ en 17)) (left (handled 0 Quiet) [] [] (0x56 ∷ 0x4D ∷ 1 ∷ 0 ∷ 16 ∷ 0 ∷ 0 ∷ 0 ∷ joined (map idle to15) ++ en 17) (beside On 0 (replicate 16 none)))
+    ∷ []
+
+-- ---- a full table
+-- pages i to i + n - 1 at access 1, and their records
+abbrev pub pagesFrom : ℕ → ℕ → List Page
+pagesFrom i zero = []
+pagesFrom i (suc n) = (record { view = 0; page = i; access = 1 }) ∷ pagesFrom (suc i) n
+
+abbrev pub pasFrom : ℕ → ℕ → List ℕ
+pasFrom i zero = []
+pasFrom i (suc n) = pa 0 i 1 ++ pasFrom (suc i) n
+
+-- two vCPUs, and the pages 0 to n - 1
+abbrev pub holding : ℕ → Tables
+holding n = record { events = 0; vcpus = (record { ready = false; singlestep = false; crs = 0; events = 0; pauses = 0 }) ∷ (record { ready = false; singlestep = false; crs = 0; events = 0; pauses = 0 }) ∷ []; msrs = []; pages = pagesFrom 0 n }
+
+abbrev pub fullEdges : List Edge
+fullEdges =
+    -- of 1,023 pages: a page takes the last room, the next is skipped, one that stands below rwx is changed, one at rwx is forgotten, all in one message
+    (record { settings = two; start = standing (record { tables = holding 1023; mode = On; seq = 0; awaited = nobody; closed = false }); calls = setAccess 4 0 (entry 0x1001000 3 ++ entry 0x1002000 3 ++ entry 0x3FE000 5 ++ entry 0x1002000 7) ∷ []; expected = answered 13 c12 (vm ++ idle 0 ++ idle 1 ++ pasFrom 0 1022 ++ pa 0 0x3FE 5 ++ pa 0 0x1001 3 ++ en 1027) })
+    ∷ []
+
+abbrev pub asks : ℕ → ℕ → Entry
+asks n access = record { page = n; access = access }
+
+abbrev pub stands : ℕ → ℕ → Page
+stands n access = record { view = 0; page = n; access = access }
+
+-- entries of message 13 on a table with room for two pages: pages 2 and 8 are skipped, each while two pages stand below rwx; page 3, which stands
+-- below rwx, is changed all the same, page 2 is at rwx and forgotten, and page 9 takes the room of page 1
+abbrev pub crowded : Run
+crowded =
+    takeEntries 2 0
+    (asks 3 1 ∷ asks 1 5 ∷ asks 2 1 ∷ asks 3 3 ∷ asks 2 7 ∷ asks 1 7 ∷ asks 9 0 ∷ asks 8 4 ∷ [])
+    (record { pages = []; skipped = false })
+
+abbrev pub crowdedSeen : Run
+crowdedSeen = record { pages = stands 3 3 ∷ stands 9 0 ∷ []; skipped = true }
+
+abbrev pub ofSessions : List Edge
+ofSessions = replyEdges ++ eventEdges ++ callEdges ++ fullEdges
