@@ -42,8 +42,8 @@ fn event_reply(facts: Facts, seq: u32, d: &[u8]) -> Verdict
 {
     let action = wire::byte(d, 8);
     let clean = padding::of_event_reply(d) == 0;
-    let known = (action == 0) | (action == 2);
-    if clean & is_awaited(facts, seq, wire::byte(d, 9)) & known {
+    let acts = (action == 0) | (action == 2);
+    if clean & is_awaited(facts, seq, wire::byte(d, 9)) & acts {
         let change = Change::EndWait {
             vcpu: wire::load16(d, 0),
             crash: action == 2,

@@ -20,8 +20,8 @@ load32-requires c κs = search needs
 of-register-requires : tie.Need-of-register-requires
 of-register-requires c κs = search needs
 
-cast-named : tie.Need-cast-named
-cast-named c = search needs
+cast-misnamed : tie.Need-cast-misnamed
+cast-misnamed c = search needs
 
 is-switch-requires : tie.Need-is-switch-requires
 is-switch-requires c κs = search needs
@@ -48,7 +48,7 @@ control-msr-spec =
     byte-requires
     load32-requires
     of-register-requires
-    cast-named
+    cast-misnamed
     is-switch-requires
     is-msr-requires
     new-requires

@@ -21,8 +21,8 @@ byte-requires c κs = search needs
 of-vcpu-event-requires : tie.Need-of-vcpu-event-requires
 of-vcpu-event-requires c κs = search needs
 
-cast-named : tie.Need-cast-named
-cast-named c = search needs
+cast-misnamed : tie.Need-cast-misnamed
+cast-misnamed c = search needs
 
 is-switch-requires : tie.Need-is-switch-requires
 is-switch-requires c κs = search needs
@@ -58,7 +58,7 @@ control-vcpu-events-spec =
     load16-requires-2
     byte-requires
     of-vcpu-event-requires
-    cast-named
+    cast-misnamed
     is-switch-requires
     is-vcpu-event-requires
     new-requires

@@ -17,8 +17,8 @@ byte-requires c κs = search needs
 of-vcpu-switch-requires : tie.Need-of-vcpu-switch-requires
 of-vcpu-switch-requires c κs = search needs
 
-cast-named : tie.Need-cast-named
-cast-named c = search needs
+cast-misnamed : tie.Need-cast-misnamed
+cast-misnamed c = search needs
 
 is-switch-requires : tie.Need-is-switch-requires
 is-switch-requires c κs = search needs
@@ -41,7 +41,7 @@ pause-vcpu-spec =
     load16-requires
     byte-requires
     of-vcpu-switch-requires
-    cast-named
+    cast-misnamed
     is-switch-requires
     new-requires
     decide-requires

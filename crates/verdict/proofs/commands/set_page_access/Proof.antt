@@ -17,8 +17,8 @@ load16-requires-2 c κs = search needs
 of-pages-requires : tie.Need-of-pages-requires
 of-pages-requires c κs = search needs
 
-cast-headed : tie.Need-cast-headed
-cast-headed c = search needs
+cast-malformed : tie.Need-cast-malformed
+cast-malformed c = search needs
 
 entries-fit-requires : tie.Need-entries-fit-requires
 entries-fit-requires c κs = search needs
@@ -41,7 +41,7 @@ set-page-access-spec =
     load16-requires
     load16-requires-2
     of-pages-requires
-    cast-headed
+    cast-malformed
     entries-fit-requires
     new-requires
     decide-requires
