@@ -1,8 +1,8 @@
 -- Laws of the table's rows. Assumes nothing.
-use mathlib.Core.Path.{_≡_, refl, sym, ap, _∙_}
+use mathlib.Core.Path.{_≡_, refl, ap, _∙_}
 use mathlib.Core.Logic.{⊎-elim}
 use mathlib.Core.List.{List}
-use mathlib.Core.Bool.{Bool, true, false, So, cond, not, _&&_}
+use mathlib.Core.Bool.{Bool, true, So, cond, not, _&&_}
 use Prim.Native.Nat.{ℕ, zero, suc, _≤_, _<_}
 use native.Mathlib.Omega.{arith}
 use lib.Dec.{leb, eqb}
@@ -11,12 +11,16 @@ use borrow.Author.Tests.{le-leb, lt-leb, ne-eqb, eqb-true, leb-true}
 use Rattle.wire.proofs.Laws.{le-or-lt}
 use Rattle.kvmi.specs.declared.Settings.{Settings}
 use Rattle.kvmi.specs.declared.Facts.{Facts}
+use Rattle.kvmi.specs.declared.Layout.{Layout}
 use Rattle.kvmi.specs.declared.Change.the-variants.{Nothing}
-use Rattle.kvmi.specs.declared.Verdict.the-variants.{Does}
-use Rattle.kvmi.specs.Message.{layoutOf, messages, unknown, namesVcpu, flagsAt, firstPadding, padding, firstOfRuns}
-use Rattle.kvmi.specs.Verdict.{verdict, commandVerdict, isInvalid, isUnready, isDenied, isUnsupported, isBusy, isAbsent, losesErrors, changeOf}
+use Rattle.kvmi.specs.declared.Verdict.{Verdict}
+use Rattle.kvmi.specs.declared.Verdict.the-variants.{Closes, Does}
+use Rattle.kvmi.specs.Codes.{EPERM, ENOSYS}
+use Rattle.kvmi.specs.Settings.{allowsCommand}
+use Rattle.kvmi.specs.Message.{sizeFits, carriesData, layoutOf, messages, unknown, namesVcpu, flagsAt, firstPadding, padding, firstOfRuns}
+use Rattle.kvmi.specs.Verdict.{repliesOn, refuse, verdict, commandVerdict, isInvalid, isUnready, isDenied, isUnsupported, isBusy, isAbsent, losesErrors, changeOf}
 use Rattle.laws.proofs.Bool.{test, and-l, and-r}
-use Rattle.verdict.specs.Handlers.{idOf, isKnown, handled, byRow}
+use Rattle.verdict.specs.Handlers.{idOf, isKnown, handled}
 
 -- what a test says of each number below a bound
 abbrev allBelow : (ℕ → Bool) → ℕ → Bool
@@ -57,7 +61,15 @@ row-known id =
     (λ e. let h = leb-true 1 id (and-l (leb 1 id) (leb id 16) e) in rw (e, ne-eqb id 0 (λ z. omega arith)))
     (λ e. rw e))
 
--- so the row tells all that the number does
+-- `verdict` by the table's row: so the row tells all that the number does
+unfoldable pub byRow : Settings → Facts → Layout → ℕ → ℕ → List ℕ → Verdict
+byRow s f row id seq d =
+    cond (not (isKnown (row .handler))) (refuse (f .mode) ENOSYS)
+    (cond (not (allowsCommand s id)) (refuse (f .mode) EPERM)
+    (cond (not (repliesOn (f .mode)) && carriesData (row .reply)) Closes
+    (cond (not (sizeFits (row .size) d)) Closes
+    (handled s f (idOf (row .handler)) seq d))))
+
 pub by-row : (s : Settings) (f : Facts) (id seq : ℕ) (d : List ℕ) → byRow s f (layoutOf id) id seq d ≡ verdict s f id seq d
 unfolding byRow verdict handled
 by-row s f id seq d =

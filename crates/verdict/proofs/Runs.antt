@@ -1,15 +1,15 @@
 -- Laws of the first byte of a run that is not zero. Assumes nothing.
 use mathlib.Core.Path.{_≡_, refl, sym, ap, _∙_}
 use mathlib.Core.Logic.{⊎-elim}
-use mathlib.Core.List.{List, [], _∷_}
+use mathlib.Core.List.{List}
 use mathlib.Core.Bool.{true, So, cond, _&&_}
 use Prim.Native.Nat.{ℕ, zero, suc, _+_, _*_, _-_, _/_, _%_, _^_, _≤_, _<_}
-use native.Mathlib.Nat.{add-comm, mul-comm, add-suc, zero-lt-suc, one-le-pow, pow-suc, mul-suc, one-mul, mod-eq-of-lt}
+use native.Mathlib.Nat.{add-comm, mul-comm, add-suc, pow-suc, mul-suc, one-mul, mod-eq-of-lt}
 use native.Mathlib.Numerals.{add-one}
 use native.Mathlib.Omega.{arith}
 use lib.Arith.{digits-div, digits-mod}
 use lib.Dec.{leb, eqb}
-use lib.ListN.{length, getD, take, drop, List·getD-eq-default, drop-of-length-le}
+use lib.ListN.{length, getD, take, drop, List·getD-eq-default}
 use lib.Pow.{areBytes, pow-add, pow-lt}
 use lib.Seq.{drop-cons, drop-drop, getD-take, getD-drop}
 use mir.Syntax.{w8}
@@ -17,7 +17,7 @@ use mir.Val.{Fits}
 use borrow.Author.Tests.{eq-eqb, ne-eqb, leb-true, eqb-true, eqb-false}
 use Rattle.wire.specs.Bytes.{num, load}
 use Rattle.wire.proofs.Laws.{le-or-lt, num-join, num-bound, bytes-known, bytes-drop, load-whole}
-use Rattle.kvmi.specs.Message.{firstNonZero, entryPadding, firstOfRuns}
+use Rattle.kvmi.specs.Message.{firstNonZero}
 use Rattle.laws.proofs.Bool.{test, and-l, and-r}
 
 -- ---- one byte more

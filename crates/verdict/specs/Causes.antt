@@ -1,32 +1,15 @@
--- Test 6 in two parts: what stands against a command, and the first of it that counts.
-use Prim.Native.Nat.{ℕ}
-use mathlib.Core.List.{List}
+-- Test 6 on causes that are given: the first that applies counts.
 use mathlib.Core.Bool.{Bool, false, cond}
-use Rattle.kvmi.specs.declared.Settings.{Settings}
-use Rattle.kvmi.specs.declared.Facts.{Facts}
 use Rattle.kvmi.specs.declared.Change.{Change}
 use Rattle.kvmi.specs.declared.Verdict.{Verdict}
 use Rattle.kvmi.specs.declared.Verdict.the-variants.{Closes, Fails, Does}
 use Rattle.kvmi.specs.Codes.{EPERM, ENOENT, EAGAIN, EBUSY, EINVAL, EOPNOTSUPP}
-use Rattle.kvmi.specs.Verdict.{isInvalid, isUnready, isDenied, isUnsupported, isBusy, isAbsent, losesErrors}
 use Rattle.verdict.specs.declared.causes.Causes.{Causes}
 
 -- of a command that can be invalid or name a vCPU that is not ready, and no more
 abbrev pub firstCauses : Bool → Bool → Causes
 firstCauses invalid unready =
     record { invalid = invalid; unready = unready; denied = false; unsupported = false; busy = false; absent = false; closing = false }
-
-abbrev pub causesOf : Settings → Facts → ℕ → List ℕ → Causes
-causesOf s f id d =
-    record {
-      invalid = isInvalid s id d;
-      unready = isUnready f id;
-      denied = isDenied s id d;
-      unsupported = isUnsupported s id d;
-      busy = isBusy s f id d;
-      absent = isAbsent f id d;
-      closing = losesErrors s id d;
-    }
 
 -- "errors, the first that applies"
 unfoldable pub decided : Causes → Change → Verdict

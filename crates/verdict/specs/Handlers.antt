@@ -1,7 +1,7 @@
 -- The message of each handler, and the tests that come after those of the table.
 use Prim.Native.Nat.{ℕ}
 use mathlib.Core.List.{List}
-use mathlib.Core.Bool.{Bool, true, false, cond, not, _&&_}
+use mathlib.Core.Bool.{Bool, cond, not, _&&_}
 use lib.Dec.{eqb}
 use Rattle.kvmi.specs.declared.Settings.{Settings}
 use Rattle.kvmi.specs.declared.Facts.{Facts}
@@ -9,11 +9,8 @@ use Rattle.kvmi.specs.declared.Handler.{Handler}
 use Rattle.kvmi.specs.declared.Handler.the-variants.{GetVersion, VmCheckCommand, VmCheckEvent, VmGetInfo, VmControlEvents, VmReadPhysical, VmWritePhysical, VcpuGetInfo, VcpuPause, VcpuControlEvents, VcpuControlCr, VcpuControlMsr, VmSetPageAccess, VcpuControlSinglestep, VmControlCmdResponse, EventReply, Unknown}
 use Rattle.kvmi.specs.declared.Verdict.{Verdict}
 use Rattle.kvmi.specs.declared.Verdict.the-variants.{Closes}
-use Rattle.kvmi.specs.declared.Layout.{Layout}
-use Rattle.kvmi.specs.Codes.{EPERM, ENOSYS}
-use Rattle.kvmi.specs.Settings.{allowsCommand, allowsEvent}
-use Rattle.kvmi.specs.Message.{sizeFits, carriesData}
-use Rattle.kvmi.specs.Verdict.{repliesOn, refuse, commandVerdict, eventReplyVerdict}
+use Rattle.kvmi.specs.Settings.{allowsEvent}
+use Rattle.kvmi.specs.Verdict.{commandVerdict, eventReplyVerdict}
 
 -- of a handler of no message, 0
 abbrev pub idOf : Handler → ℕ
@@ -44,12 +41,3 @@ handled s f id seq d =
     cond (eqb id 16) (eventReplyVerdict f seq d)
     (cond (eqb id 9 && not (allowsEvent s 2)) Closes
     (commandVerdict s f id d))
-
--- `verdict` by the table's row of the message
-unfoldable pub byRow : Settings → Facts → Layout → ℕ → ℕ → List ℕ → Verdict
-byRow s f row id seq d =
-    cond (not (isKnown (row .handler))) (refuse (f .mode) ENOSYS)
-    (cond (not (allowsCommand s id)) (refuse (f .mode) EPERM)
-    (cond (not (repliesOn (f .mode)) && carriesData (row .reply)) Closes
-    (cond (not (sizeFits (row .size) d)) Closes
-    (handled s f (idOf (row .handler)) seq d))))

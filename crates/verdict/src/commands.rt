@@ -10,6 +10,7 @@ use kvmi::Verdict;
 ghost use mathlib.Core.Path.{_≡_};
 ghost use Rattle.kvmi.specs.Verdict.{commandVerdict};
 
+// VM_CHECK_COMMAND: 0 where a command is allowed.
 pub fn check_command(settings: Settings, facts: Facts, d: &[u8]) -> Verdict
     ensures { λ r. ⌜ r ≡ commandVerdict settings facts 2 (now (d .entry)) ⌝ }
 {
@@ -20,6 +21,7 @@ pub fn check_command(settings: Settings, facts: Facts, d: &[u8]) -> Verdict
     c.decide(Change::Nothing)
 }
 
+// VM_CHECK_EVENT: 0 where an event is allowed.
 pub fn check_event(settings: Settings, facts: Facts, d: &[u8]) -> Verdict
     ensures { λ r. ⌜ r ≡ commandVerdict settings facts 3 (now (d .entry)) ⌝ }
 {
@@ -30,13 +32,14 @@ pub fn check_event(settings: Settings, facts: Facts, d: &[u8]) -> Verdict
     c.decide(Change::Nothing)
 }
 
+// VM_CONTROL_EVENTS.
 pub fn control_vm_events(settings: Settings, facts: Facts, d: &[u8]) -> Verdict
     ensures { λ r. ⌜ r ≡ commandVerdict settings facts 5 (now (d .entry)) ⌝ }
 {
     let event = wire::load16(d, 0);
     let enable = wire::byte(d, 2);
-    let shaped = (padding::of_switch(d) != 0) | !tests::is_switch(enable);
-    let mut c = Causes::new(shaped | !tests::is_vm_event(event), false);
+    let malformed = (padding::of_switch(d) != 0) | !tests::is_switch(enable);
+    let mut c = Causes::new(malformed | !tests::is_vm_event(event), false);
     c.denied = !tests::is_on(settings.events, event);
     c.decide(Change::SetVmEvent {
         event,
@@ -44,6 +47,7 @@ pub fn control_vm_events(settings: Settings, facts: Facts, d: &[u8]) -> Verdict
     })
 }
 
+// VM_READ_PHYSICAL.
 pub fn read_physical(settings: Settings, facts: Facts, d: &[u8]) -> Verdict
     ensures { λ r. ⌜ r ≡ commandVerdict settings facts 6 (now (d .entry)) ⌝ }
 {
@@ -53,6 +57,7 @@ pub fn read_physical(settings: Settings, facts: Facts, d: &[u8]) -> Verdict
     c.decide(Change::Nothing)
 }
 
+// VM_WRITE_PHYSICAL.
 pub fn write_physical(settings: Settings, facts: Facts, d: &[u8]) -> Verdict
     ensures { λ r. ⌜ r ≡ commandVerdict settings facts 7 (now (d .entry)) ⌝ }
 {
@@ -62,6 +67,7 @@ pub fn write_physical(settings: Settings, facts: Facts, d: &[u8]) -> Verdict
     c.decide(Change::WritePhysical { gpa })
 }
 
+// VCPU_GET_INFO.
 pub fn get_vcpu_info(settings: Settings, facts: Facts, d: &[u8]) -> Verdict
     ensures { λ r. ⌜ r ≡ commandVerdict settings facts 8 (now (d .entry)) ⌝ }
 {
@@ -70,13 +76,14 @@ pub fn get_vcpu_info(settings: Settings, facts: Facts, d: &[u8]) -> Verdict
     Causes::new(invalid, !facts.ready).decide(Change::Nothing)
 }
 
+// VCPU_PAUSE: at most 8 wait.
 pub fn pause_vcpu(settings: Settings, facts: Facts, d: &[u8]) -> Verdict
     ensures { λ r. ⌜ r ≡ commandVerdict settings facts 9 (now (d .entry)) ⌝ }
 {
     let vcpu = wire::load16(d, 0);
     let wait = wire::byte(d, 8);
-    let named = (padding::of_vcpu_switch(d) != 0) | (settings.vcpus <= vcpu as u32);
-    let mut c = Causes::new(named | !tests::is_switch(wait), !facts.ready);
+    let misnamed = (padding::of_vcpu_switch(d) != 0) | (settings.vcpus <= vcpu as u32);
+    let mut c = Causes::new(misnamed | !tests::is_switch(wait), !facts.ready);
     c.busy = 8 <= facts.pauses;
     c.decide(Change::QueuePause {
         vcpu,
@@ -84,6 +91,7 @@ pub fn pause_vcpu(settings: Settings, facts: Facts, d: &[u8]) -> Verdict
     })
 }
 
+// VCPU_CONTROL_EVENTS. Only switching an event on can be unsupported, or busy.
 pub fn control_vcpu_events(settings: Settings, facts: Facts, d: &[u8]) -> Verdict
     ensures { λ r. ⌜ r ≡ commandVerdict settings facts 10 (now (d .entry)) ⌝ }
 {
@@ -91,24 +99,25 @@ pub fn control_vcpu_events(settings: Settings, facts: Facts, d: &[u8]) -> Verdic
     let event = wire::load16(d, 8);
     let enable = wire::byte(d, 10);
     let on = enable == 1;
-    let named = (padding::of_vcpu_event(d) != 0) | (settings.vcpus <= vcpu as u32);
-    let shaped = named | !tests::is_switch(enable);
-    let mut c = Causes::new(shaped | !tests::is_vcpu_event(event), !facts.ready);
+    let misnamed = (padding::of_vcpu_event(d) != 0) | (settings.vcpus <= vcpu as u32);
+    let malformed = misnamed | !tests::is_switch(enable);
+    let mut c = Causes::new(malformed | !tests::is_vcpu_event(event), !facts.ready);
     c.denied = !tests::is_on(settings.events, event);
     c.unsupported = on & ((event == 8) & !tests::is_set(settings.descriptors));
     c.busy = on & ((event == 4) & tests::is_set(settings.breakpoints));
     c.decide(Change::SetVcpuEvent { vcpu, event, on })
 }
 
+// VCPU_CONTROL_CR.
 pub fn control_cr(settings: Settings, facts: Facts, d: &[u8]) -> Verdict
     ensures { λ r. ⌜ r ≡ commandVerdict settings facts 11 (now (d .entry)) ⌝ }
 {
     let vcpu = wire::load16(d, 0);
     let enable = wire::byte(d, 8);
     let cr = wire::load32(d, 12);
-    let named = (padding::of_register(d) != 0) | (settings.vcpus <= vcpu as u32);
-    let shaped = named | !tests::is_switch(enable);
-    let c = Causes::new(shaped | !tests::is_cr(cr), !facts.ready);
+    let misnamed = (padding::of_register(d) != 0) | (settings.vcpus <= vcpu as u32);
+    let malformed = misnamed | !tests::is_switch(enable);
+    let c = Causes::new(malformed | !tests::is_cr(cr), !facts.ready);
     c.decide(Change::SetCr {
         vcpu,
         cr,
@@ -116,15 +125,16 @@ pub fn control_cr(settings: Settings, facts: Facts, d: &[u8]) -> Verdict
     })
 }
 
+// VCPU_CONTROL_MSR.
 pub fn control_msr(settings: Settings, facts: Facts, d: &[u8]) -> Verdict
     ensures { λ r. ⌜ r ≡ commandVerdict settings facts 12 (now (d .entry)) ⌝ }
 {
     let vcpu = wire::load16(d, 0);
     let enable = wire::byte(d, 8);
     let msr = wire::load32(d, 12);
-    let named = (padding::of_register(d) != 0) | (settings.vcpus <= vcpu as u32);
-    let shaped = named | !tests::is_switch(enable);
-    let c = Causes::new(shaped | !tests::is_msr(msr), !facts.ready);
+    let misnamed = (padding::of_register(d) != 0) | (settings.vcpus <= vcpu as u32);
+    let malformed = misnamed | !tests::is_switch(enable);
+    let c = Causes::new(malformed | !tests::is_msr(msr), !facts.ready);
     c.decide(Change::SetMsr {
         vcpu,
         msr,
@@ -132,23 +142,25 @@ pub fn control_msr(settings: Settings, facts: Facts, d: &[u8]) -> Verdict
     })
 }
 
+// VM_SET_PAGE_ACCESS.
 pub fn set_page_access(settings: Settings, facts: Facts, d: &[u8]) -> Verdict
     ensures { λ r. ⌜ r ≡ commandVerdict settings facts 13 (now (d .entry)) ⌝ }
 {
     let count = wire::load16(d, 0);
     let view = wire::load16(d, 2);
-    let headed = (padding::of_pages(d) != 0) | (settings.views <= view as u32);
-    let c = Causes::new(headed | !entries::entries_fit(d), false);
+    let malformed = (padding::of_pages(d) != 0) | (settings.views <= view as u32);
+    let c = Causes::new(malformed | !entries::entries_fit(d), false);
     c.decide(Change::SetPages { view, count })
 }
 
+// VCPU_CONTROL_SINGLESTEP.
 pub fn control_singlestep(settings: Settings, facts: Facts, d: &[u8]) -> Verdict
     ensures { λ r. ⌜ r ≡ commandVerdict settings facts 14 (now (d .entry)) ⌝ }
 {
     let vcpu = wire::load16(d, 0);
     let enable = wire::byte(d, 8);
-    let named = (padding::of_vcpu_switch(d) != 0) | (settings.vcpus <= vcpu as u32);
-    let mut c = Causes::new(named | !tests::is_switch(enable), !facts.ready);
+    let misnamed = (padding::of_vcpu_switch(d) != 0) | (settings.vcpus <= vcpu as u32);
+    let mut c = Causes::new(misnamed | !tests::is_switch(enable), !facts.ready);
     c.unsupported = !tests::is_set(settings.singlestep);
     c.decide(Change::SetSinglestep {
         vcpu,
@@ -156,7 +168,7 @@ pub fn control_singlestep(settings: Settings, facts: Facts, d: &[u8]) -> Verdict
     })
 }
 
-// Errors that no reply tells go to event 13: without it they would be lost, and the session closes.
+// VM_CONTROL_CMD_RESPONSE. Errors that no reply tells go to event 13: without it they would be lost, and the session closes.
 pub fn control_replies(settings: Settings, facts: Facts, d: &[u8]) -> Verdict
     ensures { λ r. ⌜ r ≡ commandVerdict settings facts 15 (now (d .entry)) ⌝ }
 {

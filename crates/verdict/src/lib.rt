@@ -13,9 +13,7 @@ use kvmi::ReplyMode;
 use kvmi::Settings;
 use kvmi::Verdict;
 ghost use mathlib.Core.Path.{_≡_};
-ghost use mathlib.Core.Bool.{true, not, _&&_};
-ghost use mathlib.Core.Bool.{cond};
-ghost use lib.Dec.{eqb};
+ghost use mathlib.Core.Bool.{true, cond, not};
 ghost use Rattle.kvmi.specs.Settings.{allowsEvent};
 ghost use Rattle.kvmi.specs.Verdict.{refuse, isAwaited, eventReplyVerdict, commandVerdict, verdict};
 ghost use Rattle.verdict.specs.Handlers.{idOf, isKnown, handled};
@@ -44,8 +42,8 @@ fn event_reply(facts: Facts, seq: u32, d: &[u8]) -> Verdict
 {
     let action = wire::byte(d, 8);
     let clean = padding::of_event_reply(d) == 0;
-    let known = (action == 0) | (action == 2);
-    if clean & is_awaited(facts, seq, wire::byte(d, 9)) & known {
+    let acts = (action == 0) | (action == 2);
+    if clean & is_awaited(facts, seq, wire::byte(d, 9)) & acts {
         let change = Change::EndWait {
             vcpu: wire::load16(d, 0),
             crash: action == 2,

@@ -1,43 +1,31 @@
+-- One test, made of three. Assumes nothing.
 use mathlib.Core.Bool.{or-false}
 use lib.Dec.{eqb}
+use borrow.Author.Needs.{needs}
 use Rattle.kvmi.specs.Message.{vcpuOf}
 use Rattle.kvmi.specs.Verdict.{eventReplyVerdict}
-use borrow.Author.Needs.{needs}
 use Rattle.verdict.proofs.event_reply.Statement.{statement}
 use Rattle.verdict.proofs.event_reply.Tie as tie
-use Rattle.verdict.proofs.event_reply.Reads as reads
-use Rattle.verdict.proofs.event_reply.Lts as lts
-use Rattle.verdict.proofs.is_awaited.Reads as is-awaited-reads
-use Rattle.verdict.proofs.padding.of_event_reply.Reads as of-event-reply-reads
-use Rattle.wire.proofs.byte.Reads as byte-reads
-use Rattle.wire.proofs.load16.Reads as load16-reads
 
--- src/lib.rt:45:9
 byte-requires : tie.Need-byte-requires
 byte-requires c κs = search needs
 
--- src/lib.rt:46:17
 of-event-reply-requires : tie.Need-of-event-reply-requires
 of-event-reply-requires c κs = search needs
 
--- src/lib.rt:48:39
 byte-requires-2 : tie.Need-byte-requires-2
 byte-requires-2 c κs = search needs
 
--- src/lib.rt:48:16
 is-awaited-requires : tie.Need-is-awaited-requires
 is-awaited-requires c κs = search needs
 
--- src/lib.rt:50:19
 load16-requires : tie.Need-load16-requires
 load16-requires c κs = search needs
 
--- src/lib.rt:53:9
 returns : tie.Need-returns
 unfolding eventReplyVerdict vcpuOf
 returns c = rw (← c .before .before .before .before .before .byte .ensures, ← c .before .before .before .byte2 .ensures, ← c .before .before .before .before .of-event-reply .ensures, ← c .before .before .is-awaited .ensures, or-false (eqb (c .before .before .before .before .before .byte .result) 2), c .before .if1 .taken, ← c .load16 .ensures)
 
--- src/lib.rt:42:1
 returns-2 : tie.Need-returns-2
 unfolding eventReplyVerdict
 returns-2 c = rw (← c .before .before .before .before .byte .ensures, ← c .before .before .byte2 .ensures, ← c .before .before .before .of-event-reply .ensures, ← c .before .is-awaited .ensures, or-false (eqb (c .before .before .before .before .byte .result) 2), c .if1 .left)

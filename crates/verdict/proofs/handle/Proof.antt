@@ -1,234 +1,169 @@
+-- In each arm the handler is known, and with it the message's number. Assumes nothing.
 use mathlib.Core.Path.{_≡_, ap, sym, _∙_}
 use mathlib.Core.Bool.{true, false}
-use native.Mathlib.Omega.{arith}
-use Prim.Native.Nat.{ℕ}
+use borrow.Author.Needs.{needs}
 use Rattle.verdict.specs.Handlers.{handled, isKnown}
 use Rattle.verdict.proofs.Rows.{asks-nothing}
-use borrow.Author.Needs.{needs}
 use Rattle.verdict.proofs.handle.Statement.{statement}
 use Rattle.verdict.proofs.handle.Tie as tie
-use Rattle.verdict.proofs.handle.Reads as reads
-use Rattle.verdict.proofs.handle.Lts as lts
-use Rattle.verdict.proofs.commands.check_command.Reads as check-command-reads
-use Rattle.verdict.proofs.commands.check_event.Reads as check-event-reads
-use Rattle.verdict.proofs.commands.control_cr.Reads as control-cr-reads
-use Rattle.verdict.proofs.commands.control_msr.Reads as control-msr-reads
-use Rattle.verdict.proofs.commands.control_replies.Reads as control-replies-reads
-use Rattle.verdict.proofs.commands.control_singlestep.Reads as control-singlestep-reads
-use Rattle.verdict.proofs.commands.control_vcpu_events.Reads as control-vcpu-events-reads
-use Rattle.verdict.proofs.commands.control_vm_events.Reads as control-vm-events-reads
-use Rattle.verdict.proofs.commands.get_vcpu_info.Reads as get-vcpu-info-reads
-use Rattle.verdict.proofs.commands.read_physical.Reads as read-physical-reads
-use Rattle.verdict.proofs.commands.set_page_access.Reads as set-page-access-reads
-use Rattle.verdict.proofs.commands.write_physical.Reads as write-physical-reads
-use Rattle.verdict.proofs.event_reply.Reads as event-reply-reads
-use Rattle.verdict.proofs.pause.Reads as pause-reads
 
--- src/lib.rt:74:46
 enum-told : tie.Need-enum-told
 enum-told c = search needs
 
--- src/lib.rt:75:36
 enum-told-2 : tie.Need-enum-told-2
 enum-told-2 c = search needs
 
--- src/lib.rt:75:36
 check-command-requires : tie.Need-check-command-requires
 check-command-requires c κs = search needs
 
--- src/lib.rt:76:34
 enum-told-3 : tie.Need-enum-told-3
 enum-told-3 c = search needs
 
--- src/lib.rt:76:34
 check-event-requires : tie.Need-check-event-requires
 check-event-requires c κs = search needs
 
--- src/lib.rt:77:45
 enum-told-4 : tie.Need-enum-told-4
 enum-told-4 c = search needs
 
--- src/lib.rt:78:37
 enum-told-5 : tie.Need-enum-told-5
 enum-told-5 c = search needs
 
--- src/lib.rt:78:37
 control-vm-events-requires : tie.Need-control-vm-events-requires
 control-vm-events-requires c κs = search needs
 
--- src/lib.rt:79:36
 enum-told-6 : tie.Need-enum-told-6
 enum-told-6 c = search needs
 
--- src/lib.rt:79:36
 read-physical-requires : tie.Need-read-physical-requires
 read-physical-requires c κs = search needs
 
--- src/lib.rt:80:37
 enum-told-7 : tie.Need-enum-told-7
 enum-told-7 c = search needs
 
--- src/lib.rt:80:37
 write-physical-requires : tie.Need-write-physical-requires
 write-physical-requires c κs = search needs
 
--- src/lib.rt:81:33
 enum-told-8 : tie.Need-enum-told-8
 enum-told-8 c = search needs
 
--- src/lib.rt:81:33
 get-vcpu-info-requires : tie.Need-get-vcpu-info-requires
 get-vcpu-info-requires c κs = search needs
 
--- src/lib.rt:82:31
 enum-told-9 : tie.Need-enum-told-9
 enum-told-9 c = search needs
 
--- src/lib.rt:82:31
 pause-requires : tie.Need-pause-requires
 pause-requires c κs = search needs
 
--- src/lib.rt:83:39
 enum-told-10 : tie.Need-enum-told-10
 enum-told-10 c = search needs
 
--- src/lib.rt:83:39
 control-vcpu-events-requires : tie.Need-control-vcpu-events-requires
 control-vcpu-events-requires c κs = search needs
 
--- src/lib.rt:84:35
 enum-told-11 : tie.Need-enum-told-11
 enum-told-11 c = search needs
 
--- src/lib.rt:84:35
 control-cr-requires : tie.Need-control-cr-requires
 control-cr-requires c κs = search needs
 
--- src/lib.rt:85:36
 enum-told-12 : tie.Need-enum-told-12
 enum-told-12 c = search needs
 
--- src/lib.rt:85:36
 control-msr-requires : tie.Need-control-msr-requires
 control-msr-requires c κs = search needs
 
--- src/lib.rt:86:37
 enum-told-13 : tie.Need-enum-told-13
 enum-told-13 c = search needs
 
--- src/lib.rt:86:37
 set-page-access-requires : tie.Need-set-page-access-requires
 set-page-access-requires c κs = search needs
 
--- src/lib.rt:87:43
 enum-told-14 : tie.Need-enum-told-14
 enum-told-14 c = search needs
 
--- src/lib.rt:87:43
 control-singlestep-requires : tie.Need-control-singlestep-requires
 control-singlestep-requires c κs = search needs
 
--- src/lib.rt:88:42
 enum-told-15 : tie.Need-enum-told-15
 enum-told-15 c = search needs
 
--- src/lib.rt:88:42
 control-replies-requires : tie.Need-control-replies-requires
 control-replies-requires c κs = search needs
 
--- src/lib.rt:89:32
 enum-told-16 : tie.Need-enum-told-16
 enum-told-16 c = search needs
 
--- src/lib.rt:89:32
 event-reply-requires : tie.Need-event-reply-requires
 event-reply-requires c κs = search needs
 
--- src/lib.rt:90:29
 enum-told-17 : tie.Need-enum-told-17
 enum-told-17 c = search needs
 
--- src/lib.rt:69:1
 returns : tie.Need-returns
 unfolding handled
 returns c = rw (c .enum-told .given .1) (sym (asks-nothing (c .before .before .before .args .settings) (c .before .before .before .args .facts) (c .before .before .before .args .d .now) .0))
 
--- src/lib.rt:69:1
 returns-2 : tie.Need-returns-2
 unfolding handled
 returns-2 c = rw (c .before .enum-told2 .given .1) (c .check-command .ensures)
 
--- src/lib.rt:69:1
 returns-3 : tie.Need-returns-3
 unfolding handled
 returns-3 c = rw (c .before .enum-told3 .given .1) (c .check-event .ensures)
 
--- src/lib.rt:69:1
 returns-4 : tie.Need-returns-4
 unfolding handled
 returns-4 c = rw (c .enum-told4 .given .1) (sym (asks-nothing (c .before .before .before .args .settings) (c .before .before .before .args .facts) (c .before .before .before .args .d .now) .1))
 
--- src/lib.rt:69:1
 returns-5 : tie.Need-returns-5
 unfolding handled
 returns-5 c = rw (c .before .enum-told5 .given .1) (c .control-vm-events .ensures)
 
--- src/lib.rt:69:1
 returns-6 : tie.Need-returns-6
 unfolding handled
 returns-6 c = rw (c .before .enum-told6 .given .1) (c .read-physical .ensures)
 
--- src/lib.rt:69:1
 returns-7 : tie.Need-returns-7
 unfolding handled
 returns-7 c = rw (c .before .enum-told7 .given .1) (c .write-physical .ensures)
 
--- src/lib.rt:69:1
 returns-8 : tie.Need-returns-8
 unfolding handled
 returns-8 c = rw (c .before .enum-told8 .given .1) (c .get-vcpu-info .ensures)
 
--- src/lib.rt:69:1
 returns-9 : tie.Need-returns-9
 unfolding handled
 returns-9 c = rw (c .before .enum-told9 .given .1) (c .pause .ensures)
 
--- src/lib.rt:69:1
 returns-10 : tie.Need-returns-10
 unfolding handled
 returns-10 c = rw (c .before .enum-told10 .given .1) (c .control-vcpu-events .ensures)
 
--- src/lib.rt:69:1
 returns-11 : tie.Need-returns-11
 unfolding handled
 returns-11 c = rw (c .before .enum-told11 .given .1) (c .control-cr .ensures)
 
--- src/lib.rt:69:1
 returns-12 : tie.Need-returns-12
 unfolding handled
 returns-12 c = rw (c .before .enum-told12 .given .1) (c .control-msr .ensures)
 
--- src/lib.rt:69:1
 returns-13 : tie.Need-returns-13
 unfolding handled
 returns-13 c = rw (c .before .enum-told13 .given .1) (c .set-page-access .ensures)
 
--- src/lib.rt:69:1
 returns-14 : tie.Need-returns-14
 unfolding handled
 returns-14 c = rw (c .before .enum-told14 .given .1) (c .control-singlestep .ensures)
 
--- src/lib.rt:69:1
 returns-15 : tie.Need-returns-15
 unfolding handled
 returns-15 c = rw (c .before .enum-told15 .given .1) (c .control-replies .ensures)
 
--- src/lib.rt:69:1
 returns-16 : tie.Need-returns-16
 unfolding handled
 returns-16 c = rw (c .before .enum-told16 .given .1) (c .event-reply .ensures)
 
--- src/lib.rt:69:1
 returns-17 : tie.Need-returns-17
 returns-17 c = let z : false ≡ true = sym (ap isKnown (c .enum-told17 .given .1)) ∙ c .before .before .before .pre in (cc)
 

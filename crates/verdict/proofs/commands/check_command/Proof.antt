@@ -1,46 +1,32 @@
+-- At this message's number the definitions leave its own causes and change, on what the callees say. Assumes nothing.
 use mathlib.Core.Path.{_∙_}
-use mathlib.Core.Bool.{or-false, and-true}
-use Rattle.verdict.specs.Causes.{decided}
-use Rattle.kvmi.specs.Message.{namesVcpu, flagsAt}
-use Rattle.kvmi.specs.Verdict.{isInvalid, isUnready, isDenied, isUnsupported, isBusy, isAbsent, losesErrors, changeOf, commandVerdict}
-use Rattle.kvmi.specs.Settings.{allowsCommand}
+use mathlib.Core.Bool.{or-false}
 use borrow.Author.Needs.{needs}
+use Rattle.kvmi.specs.Message.{namesVcpu, flagsAt}
+use Rattle.kvmi.specs.Settings.{allowsCommand}
+use Rattle.kvmi.specs.Verdict.{isInvalid, isUnready, isDenied, isUnsupported, isBusy, isAbsent, losesErrors, changeOf, commandVerdict}
+use Rattle.verdict.specs.Causes.{decided}
 use Rattle.verdict.proofs.commands.check_command.Statement.{statement}
 use Rattle.verdict.proofs.commands.check_command.Tie as tie
-use Rattle.verdict.proofs.commands.check_command.Reads as reads
-use Rattle.verdict.proofs.commands.check_command.Lts as lts
-use Rattle.verdict.proofs.causes.Causes.decide.Reads as decide-reads
-use Rattle.verdict.proofs.causes.Causes.new.Reads as new-reads
-use Rattle.verdict.proofs.padding.of_number.Reads as of-number-reads
-use Rattle.verdict.proofs.tests.allows_command.Reads as allows-command-reads
-use Rattle.verdict.proofs.tests.is_command.Reads as is-command-reads
-use Rattle.wire.proofs.load16.Reads as load16-reads
 
--- src/commands.rt:16:9
 load16-requires : tie.Need-load16-requires
 load16-requires c κs = search needs
 
--- src/commands.rt:17:20
 of-number-requires : tie.Need-of-number-requires
 of-number-requires c κs = search needs
 
--- src/commands.rt:17:51
 is-command-requires : tie.Need-is-command-requires
 is-command-requires c κs = search needs
 
--- src/commands.rt:18:9
 new-requires : tie.Need-new-requires
 new-requires c κs = search needs
 
--- src/commands.rt:19:17
 allows-command-requires : tie.Need-allows-command-requires
 allows-command-requires c κs = search needs
 
--- src/commands.rt:20:5
 decide-requires : tie.Need-decide-requires
 decide-requires c κs = search needs
 
--- src/commands.rt:13:1
 returns : tie.Need-returns
 unfolding commandVerdict isInvalid isUnready isDenied isUnsupported isBusy isAbsent losesErrors changeOf decided namesVcpu flagsAt allowsCommand
 returns c =

@@ -1,39 +1,28 @@
+-- At this message's number the definitions leave its own causes and change, on what the callees say. Assumes nothing.
 use mathlib.Core.Path.{_∙_}
 use mathlib.Core.Bool.{or-false, and-true}
-use Rattle.verdict.specs.Causes.{decided}
+use borrow.Author.Needs.{needs}
 use Rattle.kvmi.specs.Message.{namesVcpu, flagsAt, vcpuOf, firstPadding, padding}
 use Rattle.kvmi.specs.Verdict.{isInvalid, isUnready, isDenied, isUnsupported, isBusy, isAbsent, losesErrors, changeOf, commandVerdict}
-use borrow.Author.Needs.{needs}
+use Rattle.verdict.specs.Causes.{decided}
 use Rattle.verdict.proofs.commands.get_vcpu_info.Statement.{statement}
 use Rattle.verdict.proofs.commands.get_vcpu_info.Tie as tie
-use Rattle.verdict.proofs.commands.get_vcpu_info.Reads as reads
-use Rattle.verdict.proofs.commands.get_vcpu_info.Lts as lts
-use Rattle.verdict.proofs.causes.Causes.decide.Reads as decide-reads
-use Rattle.verdict.proofs.causes.Causes.new.Reads as new-reads
-use Rattle.verdict.proofs.padding.of_number.Reads as of-number-reads
-use Rattle.wire.proofs.load16.Reads as load16-reads
 
--- src/commands.rt:68:9
 load16-requires : tie.Need-load16-requires
 load16-requires c κs = search needs
 
--- src/commands.rt:69:20
 of-number-requires : tie.Need-of-number-requires
 of-number-requires c κs = search needs
 
--- src/commands.rt:69:69
 cast-invalid : tie.Need-cast-invalid
 cast-invalid c = search needs
 
--- src/commands.rt:70:5
 new-requires : tie.Need-new-requires
 new-requires c κs = search needs
 
--- src/commands.rt:70:5
 decide-requires : tie.Need-decide-requires
 decide-requires c κs = search needs
 
--- src/commands.rt:65:1
 returns : tie.Need-returns
 unfolding commandVerdict isInvalid isUnready isDenied isUnsupported isBusy isAbsent losesErrors changeOf decided namesVcpu flagsAt vcpuOf firstPadding padding
 returns c =

@@ -1,16 +1,12 @@
-use Rattle.kvmi.specs.Message.{entryOf}
+-- The byte is the definition's. Assumes nothing.
 use borrow.Author.Needs.{needs}
+use Rattle.kvmi.specs.Message.{entryOf}
 use Rattle.verdict.proofs.entries.entry_access.Statement.{statement}
 use Rattle.verdict.proofs.entries.entry_access.Tie as tie
-use Rattle.verdict.proofs.entries.entry_access.Reads as reads
-use Rattle.verdict.proofs.entries.entry_access.Lts as lts
-use Rattle.wire.proofs.byte.Reads as byte-reads
 
--- src/entries.rt:21:5
 byte-requires : tie.Need-byte-requires
 byte-requires c κs = search needs
 
--- src/entries.rt:18:1
 returns : tie.Need-returns
 unfolding entryOf
 returns c = c .byte .ensures

@@ -1,3 +1,4 @@
+-- The loop's invariant: the bytes that are left say what all of them do. The measure is how many are left. Assumes nothing.
 use mathlib.Core.Path.{_≡_, refl, sym, ap, _∙_}
 use Prim.Native.Nat.{ℕ}
 use native.Mathlib.Omega.{arith}
@@ -5,8 +6,6 @@ use Rattle.kvmi.specs.Message.{firstNonZero}
 use Rattle.verdict.proofs.Runs.{run-past, run-found, run-step, run-none}
 use Rattle.verdict.proofs.padding.first_nonzero.Statement.{statement}
 use Rattle.verdict.proofs.padding.first_nonzero.Tie as tie
-use Rattle.verdict.proofs.padding.first_nonzero.Reads as reads
-use Rattle.verdict.proofs.padding.first_nonzero.Lts as lts
 
 abbrev Inv-loop : tie.InvT-loop
 Inv-loop d at n i₀ left₀ i left = firstNonZero d i left 0 ≡ firstNonZero d at n 0
@@ -14,43 +13,33 @@ Inv-loop d at n i₀ left₀ i left = firstNonZero d i left 0 ≡ firstNonZero d
 abbrev μ-loop : tie.MeasureT-loop
 μ-loop d at n i₀ left₀ i left = left
 
--- src/padding.rt:16:5
 loop-holds : tie.Need-loop-holds Inv-loop μ-loop
 loop-holds c = refl
 
--- src/padding.rt:18:13
 returns : tie.Need-returns Inv-loop μ-loop
 returns c = sym (run-past _ _ (c .before .before .loop .left) 0 (c .if1 .taken)) ∙ c .before .before .loop .inv
 
--- src/padding.rt:20:12
 shared-slice-read-if2 : tie.Need-shared-slice-read-if2 Inv-loop μ-loop
 shared-slice-read-if2 c = omega arith
 
--- src/padding.rt:21:20
 add-result : tie.Need-add-result Inv-loop μ-loop
 add-result c = omega arith
 
--- src/padding.rt:21:13
 returns-2 : tie.Need-returns-2 Inv-loop μ-loop
 returns-2 c = sym (run-found _ _ (c .before .before .before .before .loop .left) 0 (omega arith) (c .if2 .taken)) ∙ c .before .before .before .before .loop .inv
 
--- src/padding.rt:23:9
 add-i : tie.Need-add-i Inv-loop μ-loop
 add-i c = omega arith
 
--- src/padding.rt:24:9
 sub-left : tie.Need-sub-left Inv-loop μ-loop
 sub-left c = omega arith
 
--- src/padding.rt:16:5
 loop-less : tie.Need-loop-less Inv-loop μ-loop
 loop-less c = omega arith
 
--- src/padding.rt:16:5
 loop-again : tie.Need-loop-again Inv-loop μ-loop
 loop-again c = run-step _ _ (c .before .before .before .before .loop .left) 0 (omega arith) (c .if2 .left) ∙ c .before .before .before .before .loop .inv
 
--- src/padding.rt:11:1
 returns-3 : tie.Need-returns-3 Inv-loop μ-loop
 returns-3 c =
     let none-left : 0 ≡ c .before .loop .left = omega arith in

@@ -1,15 +1,13 @@
+-- The loop's invariant: the padding of the entries from i on says what that of all of them does. The measure is how many are left. Assumes nothing.
 use mathlib.Core.Path.{_≡_, sym, _∙_}
 use Prim.Native.Nat.{_-_, _≤_}
 use native.Mathlib.Omega.{arith}
 use borrow.Author.Needs.{needs}
 use Rattle.kvmi.specs.Message.{firstOfRuns, entryPadding}
-use Rattle.verdict.proofs.Runs.{run-bound}
 use Rattle.verdict.proofs.Parts.{entryAt, paddingFrom, padding-start, padding-clean, padding-found, padding-end}
+use Rattle.verdict.proofs.Runs.{run-bound}
 use Rattle.verdict.proofs.padding.of_entries.Statement.{statement}
 use Rattle.verdict.proofs.padding.of_entries.Tie as tie
-use Rattle.verdict.proofs.padding.of_entries.Reads as reads
-use Rattle.verdict.proofs.padding.of_entries.Lts as lts
-use Rattle.verdict.proofs.padding.of_entry.Reads as of-entry-reads
 
 abbrev Inv-loop : tie.InvT-loop
 Inv-loop d count i₀ i = (i ≤ count) × (paddingFrom d count i ≡ firstOfRuns d (entryPadding 17 count))
@@ -17,59 +15,45 @@ Inv-loop d count i₀ i = (i ≤ count) × (paddingFrom d count i ≡ firstOfRun
 abbrev μ-loop : tie.MeasureT-loop
 μ-loop d count i₀ i = count - i
 
--- src/padding.rt:104:5
 loop-holds : tie.Need-loop-holds Inv-loop μ-loop
 loop-holds c = (omega arith, padding-start (c .before .args .d .now) (c .before .args .count))
 
--- src/padding.rt:105:21
 mul-a : tie.Need-mul-a Inv-loop μ-loop
 mul-a c = omega arith
 
--- src/padding.rt:105:17
 add-a : tie.Need-add-a Inv-loop μ-loop
 add-a c = omega arith
 
--- src/padding.rt:106:17
 add-b : tie.Need-add-b Inv-loop μ-loop
 add-b c = omega arith
 
--- src/padding.rt:107:26
 sub-of-entry : tie.Need-sub-of-entry Inv-loop μ-loop
 sub-of-entry c = omega arith
 
--- src/padding.rt:107:26
 part-of-entry-start : tie.Need-part-of-entry-start Inv-loop μ-loop
 part-of-entry-start c = omega arith
 
--- src/padding.rt:107:26
 part-of-entry-end : tie.Need-part-of-entry-end Inv-loop μ-loop
 part-of-entry-end c = omega arith
 
--- src/padding.rt:107:13
 of-entry-requires : tie.Need-of-entry-requires Inv-loop μ-loop
 of-entry-requires c κs = search needs
 
--- src/padding.rt:109:20
 add-result : tie.Need-add-result Inv-loop μ-loop
 add-result c = omega (arith, c .before .of-entry .ensures, run-bound (entryAt (c .before .before .before .before .before .before .args .d .now) (c .before .before .before .before .loop .i)) 9 7)
 
--- src/padding.rt:109:13
 returns : tie.Need-returns Inv-loop μ-loop
 returns c = sym (padding-found _ _ _ (omega arith) _ (c .before .of-entry .ensures) (c .if1 .taken)) ∙ c .before .before .before .before .loop .inv .1
 
--- src/padding.rt:111:9
 add-i : tie.Need-add-i Inv-loop μ-loop
 add-i c = omega arith
 
--- src/padding.rt:104:5
 loop-less : tie.Need-loop-less Inv-loop μ-loop
 loop-less c = omega arith
 
--- src/padding.rt:104:5
 loop-again : tie.Need-loop-again Inv-loop μ-loop
 loop-again c = (omega arith, padding-clean _ _ _ (omega arith) _ (c .before .of-entry .ensures) (c .if1 .left) ∙ c .before .before .before .before .loop .inv .1)
 
--- src/padding.rt:99:1
 returns-2 : tie.Need-returns-2 Inv-loop μ-loop
 returns-2 c = sym (padding-end _ _ _ (omega arith)) ∙ c .before .loop .inv .1
 

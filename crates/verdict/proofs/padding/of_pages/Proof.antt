@@ -1,49 +1,36 @@
+-- The run in front, then the entries' runs if their count fits. Assumes nothing.
 use mathlib.Core.Path.{_∙_, sym}
+use borrow.Author.Needs.{needs}
 use borrow.Author.Tests.{eq-eqb, ne-eqb}
 use Rattle.kvmi.specs.Message.{firstPadding, padding, firstOfRuns, entryPadding, countOf}
-use Rattle.verdict.proofs.Runs.{run-then}
 use Rattle.verdict.proofs.Parts.{counted}
-use borrow.Author.Needs.{needs}
+use Rattle.verdict.proofs.Runs.{run-then}
 use Rattle.verdict.proofs.padding.of_pages.Statement.{statement}
 use Rattle.verdict.proofs.padding.of_pages.Tie as tie
-use Rattle.verdict.proofs.padding.of_pages.Reads as reads
-use Rattle.verdict.proofs.padding.of_pages.Lts as lts
-use Rattle.verdict.proofs.entries.count_fits.Reads as count-fits-reads
-use Rattle.verdict.proofs.padding.in_word.Reads as in-word-reads
-use Rattle.verdict.proofs.padding.of_entries.Reads as of-entries-reads
-use Rattle.wire.proofs.load16.Reads as load16-reads
 
--- src/padding.rt:120:9
 in-word-requires : tie.Need-in-word-requires
 in-word-requires c κs = search needs
 
--- src/padding.rt:122:9
 returns : tie.Need-returns
 unfolding firstPadding padding firstOfRuns
 returns c = rw (run-then, ← c .before .in-word .ensures, ne-eqb _ _ (c .if1 .taken))
 
--- src/padding.rt:124:8
 count-fits-requires : tie.Need-count-fits-requires
 count-fits-requires c κs = search needs
 
--- src/padding.rt:125:23
 load16-requires : tie.Need-load16-requires
 load16-requires c κs = search needs
 
--- src/padding.rt:125:23
 cast-of-entries : tie.Need-cast-of-entries
 cast-of-entries c = search needs
 
--- src/padding.rt:125:9
 of-entries-requires : tie.Need-of-entries-requires
 of-entries-requires c κs = counted _ _ (sym (c .before .before .count-fits .ensures) ∙ c .before .if2 .taken) (c .load16 .ensures)
 
--- src/padding.rt:117:1
 returns-2 : tie.Need-returns-2
 unfolding firstPadding padding firstOfRuns countOf
 returns-2 c = rw (run-then, ← c .before .before .before .before .before .in-word .ensures, eq-eqb _ _ (c .before .before .before .before .if1 .left), ← c .before .before .before .count-fits .ensures, c .before .before .if2 .taken, ← c .before .load16 .ensures) (c .of-entries .ensures)
 
--- src/padding.rt:117:1
 returns-3 : tie.Need-returns-3
 unfolding firstPadding padding firstOfRuns entryPadding
 returns-3 c = rw (run-then, ← c .before .before .before .in-word .ensures, eq-eqb _ _ (c .before .before .if1 .left), ← c .before .count-fits .ensures, c .if2 .left)

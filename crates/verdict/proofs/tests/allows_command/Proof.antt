@@ -1,16 +1,12 @@
+-- The test is the definition's. Assumes nothing.
 use mathlib.Core.Bool.{or-assoc, or-false}
 use borrow.Author.Needs.{needs}
 use Rattle.verdict.proofs.tests.allows_command.Statement.{statement}
 use Rattle.verdict.proofs.tests.allows_command.Tie as tie
-use Rattle.verdict.proofs.tests.allows_command.Reads as reads
-use Rattle.verdict.proofs.tests.allows_command.Lts as lts
-use Rattle.verdict.proofs.tests.is_on.Reads as is-on-reads
 
--- src/tests.rt:44:54
 is-on-requires : tie.Need-is-on-requires
 is-on-requires c κs = search needs
 
--- src/tests.rt:41:1
 returns : tie.Need-returns
 returns c = simp (or-assoc, or-false, c .is-on .ensures)
 

@@ -1,25 +1,21 @@
-use Rattle.kvmi.specs.Verdict.{inOnePage}
+-- A size above a page's is refused before the sum, which then fits. Assumes nothing.
 use mathlib.Core.Path.{refl}
 use mathlib.Core.Bool.{and-false}
-use borrow.Author.Tests.{lt-leb}
-use native.Mathlib.Omega.{arith}
 use Prim.Native.Nat.{_+_, _%_}
+use native.Mathlib.Omega.{arith}
 use borrow.Author.Needs.{needs}
+use borrow.Author.Tests.{lt-leb}
+use Rattle.kvmi.specs.Verdict.{inOnePage}
 use Rattle.verdict.proofs.tests.in_one_page.Statement.{statement}
 use Rattle.verdict.proofs.tests.in_one_page.Tie as tie
-use Rattle.verdict.proofs.tests.in_one_page.Reads as reads
-use Rattle.verdict.proofs.tests.in_one_page.Lts as lts
 
--- src/tests.rt:104:24
 add-result : tie.Need-add-result
 add-result c = search needs
 
--- src/tests.rt:98:1
 returns : tie.Need-returns
 unfolding inOnePage
 returns c = simp (lt-leb (c .before .args .gpa % 4096 + c .before .args .size) 4096 (omega arith), and-false)
 
--- src/tests.rt:98:1
 returns-2 : tie.Need-returns-2
 unfolding inOnePage
 returns-2 c = refl

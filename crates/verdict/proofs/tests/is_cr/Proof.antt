@@ -1,11 +1,9 @@
+-- The test is the definition's. Assumes nothing.
 use mathlib.Core.Bool.{or-assoc, or-false}
 use Rattle.kvmi.specs.Tables.{isCr}
 use Rattle.verdict.proofs.tests.is_cr.Statement.{statement}
 use Rattle.verdict.proofs.tests.is_cr.Tie as tie
-use Rattle.verdict.proofs.tests.is_cr.Reads as reads
-use Rattle.verdict.proofs.tests.is_cr.Lts as lts
 
--- src/tests.rt:76:1
 returns : tie.Need-returns
 unfolding isCr
 returns c = simp (or-assoc, or-false)

@@ -1,19 +1,17 @@
+-- Every handler but the last is of a message. Assumes nothing.
+use mathlib.Core.Path.{_≡_, refl}
 use mathlib.Core.List.{List, [], _∷_}
 use mathlib.Core.Bool.{true}
-use mathlib.Core.Path.{_≡_, refl}
+use Prim.Native.Nat.{ℕ}
 use denote.Enum.Declared.{tagOf}
 use types.Run.{OneOf, miss}
-use Prim.Native.Nat.{ℕ}
+use borrow.Author.Needs.{needs}
 use Rattle.kvmi.proofs.Handler.{the-type}
 use Rattle.kvmi.specs.declared.Handler.{Handler}
 use Rattle.kvmi.specs.declared.Handler.the-variants.{GetVersion, VmCheckCommand, VmCheckEvent, VmGetInfo, VmControlEvents, VmReadPhysical, VmWritePhysical, VcpuGetInfo, VcpuPause, VcpuControlEvents, VcpuControlCr, VcpuControlMsr, VmSetPageAccess, VcpuControlSinglestep, VmControlCmdResponse, EventReply, Unknown}
 use Rattle.verdict.specs.Handlers.{isKnown}
-use mathlib.Core.Path.{refl}
-use borrow.Author.Needs.{needs}
 use Rattle.verdict.proofs.tests.is_known.Statement.{statement}
 use Rattle.verdict.proofs.tests.is_known.Tie as tie
-use Rattle.verdict.proofs.tests.is_known.Reads as reads
-use Rattle.verdict.proofs.tests.is_known.Lts as lts
 
 -- the tags of the messages' handlers
 abbrev tags : List ℕ
@@ -38,15 +36,12 @@ known VmControlCmdResponse k = refl
 known EventReply k = refl
 known Unknown k = absurd (miss tags 16 tt k)
 
--- src/tests.rt:146:29
 enum-told : tie.Need-enum-told
 enum-told c = search needs
 
--- src/tests.rt:142:1
 returns : tie.Need-returns
 returns c = rw (c .enum-told .given .1)
 
--- src/tests.rt:142:1
 returns-2 : tie.Need-returns-2
 returns-2 c = known (c .before .args .handler) (c .match .keys2)
 

@@ -1,11 +1,9 @@
+-- The test is the definition's. Assumes nothing.
 use mathlib.Core.Path.{refl}
 use Rattle.kvmi.specs.Tables.{isMsr}
 use Rattle.verdict.proofs.tests.is_msr.Statement.{statement}
 use Rattle.verdict.proofs.tests.is_msr.Tie as tie
-use Rattle.verdict.proofs.tests.is_msr.Reads as reads
-use Rattle.verdict.proofs.tests.is_msr.Lts as lts
 
--- src/tests.rt:82:1
 returns : tie.Need-returns
 unfolding isMsr
 returns c = refl

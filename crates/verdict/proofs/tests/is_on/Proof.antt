@@ -1,23 +1,19 @@
+-- A number of 32 bits has no bit past 31. Assumes nothing.
 use mathlib.Core.Path.{refl, sym}
-use Rattle.kvmi.specs.Bits.{isOn, bitOf}
-use Rattle.verdict.proofs.Alike.{on-past}
 use native.Mathlib.Omega.{arith}
 use borrow.Author.Needs.{needs}
+use Rattle.kvmi.specs.Bits.{isOn, bitOf}
+use Rattle.verdict.proofs.Alike.{on-past}
 use Rattle.verdict.proofs.tests.is_on.Statement.{statement}
 use Rattle.verdict.proofs.tests.is_on.Tie as tie
-use Rattle.verdict.proofs.tests.is_on.Reads as reads
-use Rattle.verdict.proofs.tests.is_on.Lts as lts
 
--- src/tests.rt:23:18
 shr-result : tie.Need-shr-result
 shr-result c = search needs
 
--- src/tests.rt:20:1
 returns : tie.Need-returns
 unfolding isOn bitOf
 returns c = refl
 
--- src/tests.rt:20:1
 returns-2 : tie.Need-returns-2
 returns-2 c = sym (on-past _ _ (omega arith) (c .if1 .left))
 

@@ -1,11 +1,9 @@
+-- The test is the definition's. Assumes nothing.
 use mathlib.Core.Path.{refl}
 use Rattle.kvmi.specs.Settings.{isSet}
 use Rattle.verdict.proofs.tests.is_set.Statement.{statement}
 use Rattle.verdict.proofs.tests.is_set.Tie as tie
-use Rattle.verdict.proofs.tests.is_set.Reads as reads
-use Rattle.verdict.proofs.tests.is_set.Lts as lts
 
--- src/tests.rt:27:1
 returns : tie.Need-returns
 unfolding isSet
 returns c = refl

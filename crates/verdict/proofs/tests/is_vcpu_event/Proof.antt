@@ -1,11 +1,9 @@
+-- The test is the definition's. Assumes nothing.
 use mathlib.Core.Bool.{or-assoc, or-false}
 use Rattle.kvmi.specs.Message.{isVcpuEvent}
 use Rattle.verdict.proofs.tests.is_vcpu_event.Statement.{statement}
 use Rattle.verdict.proofs.tests.is_vcpu_event.Tie as tie
-use Rattle.verdict.proofs.tests.is_vcpu_event.Reads as reads
-use Rattle.verdict.proofs.tests.is_vcpu_event.Lts as lts
 
--- src/tests.rt:69:1
 returns : tie.Need-returns
 unfolding isVcpuEvent
 returns c = simp (or-assoc, or-false)

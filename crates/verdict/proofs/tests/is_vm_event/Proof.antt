@@ -1,11 +1,9 @@
+-- The test is the definition's. Assumes nothing.
 use mathlib.Core.Bool.{or-false}
 use Rattle.kvmi.specs.Message.{isVmEvent}
 use Rattle.verdict.proofs.tests.is_vm_event.Statement.{statement}
 use Rattle.verdict.proofs.tests.is_vm_event.Tie as tie
-use Rattle.verdict.proofs.tests.is_vm_event.Reads as reads
-use Rattle.verdict.proofs.tests.is_vm_event.Lts as lts
 
--- src/tests.rt:62:1
 returns : tie.Need-returns
 unfolding isVmEvent
 returns c = simp (or-false)

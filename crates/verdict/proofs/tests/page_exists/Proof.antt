@@ -1,13 +1,11 @@
+-- The end of a page is inside exactly where its number is below that of whole pages. Assumes nothing.
 use Prim.Native.Nat.{suc, _+_, _*_, _/_}
+use native.Mathlib.Omega.{arith}
 use Rattle.kvmi.specs.Verdict.{pageExists}
 use Rattle.verdict.proofs.Alike.{leb-alike}
-use native.Mathlib.Omega.{arith}
 use Rattle.verdict.proofs.tests.page_exists.Statement.{statement}
 use Rattle.verdict.proofs.tests.page_exists.Tie as tie
-use Rattle.verdict.proofs.tests.page_exists.Reads as reads
-use Rattle.verdict.proofs.tests.page_exists.Lts as lts
 
--- src/tests.rt:109:1
 returns : tie.Need-returns
 unfolding pageExists
 returns c =

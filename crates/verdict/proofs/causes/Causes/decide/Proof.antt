@@ -1,45 +1,36 @@
+-- One test after the other, as in the definition. Assumes nothing.
 use Rattle.verdict.specs.Causes.{decided}
 use Rattle.verdict.proofs.causes.Causes.decide.Statement.{statement}
 use Rattle.verdict.proofs.causes.Causes.decide.Tie as tie
-use Rattle.verdict.proofs.causes.Causes.decide.Reads as reads
-use Rattle.verdict.proofs.causes.Causes.decide.Lts as lts
 
--- src/causes.rt:52:13
 returns : tie.Need-returns
 unfolding decided
 returns c = rw (c .if1 .taken)
 
--- src/causes.rt:55:13
 returns-2 : tie.Need-returns-2
 unfolding decided
 returns-2 c = rw (c .before .if1 .left, c .if2 .taken)
 
--- src/causes.rt:58:13
 returns-3 : tie.Need-returns-3
 unfolding decided
 returns-3 c = rw (c .before .before .if1 .left, c .before .if2 .left, c .if3 .taken)
 
--- src/causes.rt:61:13
 returns-4 : tie.Need-returns-4
 unfolding decided
 returns-4 c = rw (c .before .before .before .if1 .left, c .before .before .if2 .left, c .before .if3 .left, c .if4 .taken)
 
--- src/causes.rt:64:13
 returns-5 : tie.Need-returns-5
 unfolding decided
 returns-5 c = rw (c .before .before .before .before .if1 .left, c .before .before .before .if2 .left, c .before .before .if3 .left, c .before .if4 .left, c .if5 .taken)
 
--- src/causes.rt:67:13
 returns-6 : tie.Need-returns-6
 unfolding decided
 returns-6 c = rw (c .before .before .before .before .before .if1 .left, c .before .before .before .before .if2 .left, c .before .before .before .if3 .left, c .before .before .if4 .left, c .before .if5 .left, c .if6 .taken)
 
--- src/causes.rt:70:13
 returns-7 : tie.Need-returns-7
 unfolding decided
 returns-7 c = rw (c .before .before .before .before .before .before .if1 .left, c .before .before .before .before .before .if2 .left, c .before .before .before .before .if3 .left, c .before .before .before .if4 .left, c .before .before .if5 .left, c .before .if6 .left, c .if7 .taken)
 
--- src/causes.rt:48:5
 returns-8 : tie.Need-returns-8
 unfolding decided
 returns-8 c = rw (c .before .before .before .before .before .before .if1 .left, c .before .before .before .before .before .if2 .left, c .before .before .before .before .if3 .left, c .before .before .before .if4 .left, c .before .before .if5 .left, c .before .if6 .left, c .if7 .left)
