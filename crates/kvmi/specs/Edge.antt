@@ -157,7 +157,10 @@ c95 = 0xA1 ∷ 0xFF ∷ 0xFF ∷ 0xFF ∷ []
 abbrev pub c1000 : List ℕ
 c1000 = 0x18 ∷ 0xFC ∷ 0xFF ∷ 0xFF ∷ []
 
--- records of an image of two vCPUs: VM with event bits; VC of a vCPU with all off; MS; PA with view, page number and access
+-- records of an image: VM by its count, or of two vCPUs by its event bits; VC of a vCPU with all off; MS; PA with view, page number and access
+abbrev pub vmOf : ℕ → List ℕ
+vmOf count = 0x56 ∷ 0x4D ∷ 1 ∷ 0 ∷ count ∷ 0 ∷ 0 ∷ 0 ∷ []
+
 abbrev pub vmHas : ℕ → List ℕ
 vmHas events = 0x56 ∷ 0x4D ∷ 1 ∷ 0 ∷ 2 ∷ 0 ∷ le 2 events
 
@@ -169,6 +172,10 @@ ms vcpu msr = 0x4D ∷ 0x53 ∷ vcpu ∷ 0 ∷ le 4 msr
 
 abbrev pub pa : ℕ → ℕ → ℕ → List ℕ
 pa view n access = 0x50 ∷ 0x41 ∷ view ∷ 0 ∷ access ∷ 0 ∷ le 8 n
+
+abbrev pub joined : List (List ℕ) → List ℕ
+joined [] = []
+joined (l ∷ ls) = l ++ joined ls
 
 -- the event bytes of a pause (552), with the event's seq, and of a command with seq 8 that failed (568), with the event's seq, code and id
 abbrev pub pauseBytes : ℕ → ℕ → List ℕ

@@ -2,9 +2,10 @@
 use Prim.Native.Nat.{ℕ, _+_, _-_, _*_, _^_}
 use mathlib.Core.List.{List, [], _∷_, _++_, map}
 use mathlib.Core.Bool.{true, false}
+use mathlib.Core.Option.{none}
 use lib.ListN.{length, take, drop, set, replicate}
 use Rattle.kvmi.specs.declared.ReplyMode.{ReplyMode}
-use Rattle.kvmi.specs.declared.ReplyMode.the-variants.{Off, ErrorsOnly}
+use Rattle.kvmi.specs.declared.ReplyMode.the-variants.{On, Off, ErrorsOnly}
 use Rattle.kvmi.specs.declared.Signal.{Signal}
 use Rattle.kvmi.specs.declared.Signal.the-variants.{Quiet, Kick}
 use Rattle.kvmi.specs.Answer.{handled}
@@ -12,7 +13,7 @@ use Rattle.kvmi.specs.Message.{firstPadding}
 use Rattle.kvmi.specs.Reply.{messageBytes}
 use Rattle.kvmi.specs.Call.{message, ready}
 use Rattle.kvmi.specs.Case.{two, out, page, send, vcpuHeader, physical, flagData, registerData, entry, accessData, pause, controlMsr, setAccess, reply, c0, c16, c22, vm, vc, en, freshImage, readyImage}
-use Rattle.kvmi.specs.Edge.{Edge, left, all, commanding, eventful, equipped, sized, without, few, naming, eventData, modeData, controlVmEvent, controlEvent, controlCr, singlestep, responses, to15, c1, c2, c11, c95, c1000, vmHas, idle, ms, pa, beside, nobody, quiet, over, told, answered, closing, row, taken, fails, closes, under, behind}
+use Rattle.kvmi.specs.Edge.{Edge, left, given, all, commanding, eventful, equipped, sized, without, few, naming, eventData, modeData, controlVmEvent, controlEvent, controlCr, singlestep, responses, to15, c1, c2, c11, c95, c1000, vmOf, vmHas, idle, ms, pa, joined, beside, nobody, quiet, over, told, answered, closing, row, taken, fails, closes, under, behind}
 
 -- ---- each message once as it is taken
 -- its data; in the session of `two` with vCPU 0 ready, its reply's data, its signal, and guest memory and image after it
@@ -148,6 +149,9 @@ switchEdges =
     ∷ fails 5 (eventData 0x10C 1) c22
     ∷ row two (controlVmEvent 1 1 ∷ controlVmEvent 12 1 ∷ controlVmEvent 1 0 ∷ []) (answered 5 c0 (vmHas 0x1000 ++ idle 0 ++ idle 1 ++ en 3))
     ∷ taken 5 (eventData 1 0) readyImage
+    -- messages 2 and 3 only ask
+    ∷ row two (controlVmEvent 12 1 ∷ send 2 (naming 12) ∷ []) (answered 2 c0 (vmHas 0x1000 ++ idle 0 ++ idle 1 ++ en 3))
+    ∷ row two (controlVmEvent 12 1 ∷ send 3 (naming 12) ∷ []) (answered 3 c0 (vmHas 0x1000 ++ idle 0 ++ idle 1 ++ en 3))
     -- message 10 takes nine; 0x109 is not 9; off again, and off where it is off
     ∷ row two (ready 0 ∷ map (λ e. controlEvent 0 e 1) to15) (answered 10 c22 (vm ++ vc 0 1 0 0x4FB8 0 ++ idle 1 ++ en 3))
     ∷ fails 10 (vcpuHeader 0 ++ eventData 0x109 1) c22
@@ -166,6 +170,9 @@ switchEdges =
     ∷ taken 12 (registerData 0 0x10 0) readyImage
     -- message 14, off again
     ∷ row two (ready 0 ∷ singlestep 0 1 ∷ singlestep 0 0 ∷ []) (answered 14 c0 readyImage)
+    -- message 8 only asks
+    ∷ row (sized 4 1) (ready 3 ∷ controlEvent 3 3 1 ∷ controlCr 3 0 1 ∷ singlestep 3 1 ∷ send 8 (vcpuHeader 3) ∷ [])
+    (told (handled 24 Quiet) (8 ∷ 0 ∷ 16 ∷ 0 ∷ 8 ∷ 0 ∷ 0 ∷ 0 ∷ replicate 16 0) (vmOf 4 ++ idle 0 ++ idle 1 ++ idle 2 ++ vc 3 3 1 8 0 ++ en 5) (beside On 0 (replicate 4 none)))
     -- all of them of vCPU 1, and none of vCPU 0
     ∷ row two (ready 1 ∷ controlEvent 1 4 1 ∷ controlCr 1 3 1 ∷ controlMsr 1 0x10 1 ∷ singlestep 1 1 ∷ pause 1 ∷ [])
     (told (handled 16 (Kick 1 true)) (reply 9 c0) (vm ++ idle 0 ++ vc 1 3 2 0x10 1 ++ ms 1 0x10 ++ en 4) quiet)
@@ -244,6 +251,7 @@ memoryEdges =
     ∷ lending half 7 (physical 4096 1 ++ (1 ∷ [])) (reply 7 c2) half
     ∷ lending [] 6 (physical 0 1) (reply 6 c2) []
     -- the last byte of the second page, read and written; the first byte of all
+    ∷ lending page 6 (physical 0 1) (6 ∷ 0 ∷ 9 ∷ 0 ∷ 8 ∷ 0 ∷ 0 ∷ 0 ∷ replicate 9 0) page
     ∷ lending pages 6 (physical 8191 1) (6 ∷ 0 ∷ 9 ∷ 0 ∷ 8 ∷ 0 ∷ 0 ∷ 0 ∷ c0 ++ c0 ++ (0xAB ∷ [])) pages
     ∷ lending pages 7 (physical 8191 1 ++ (5 ∷ [])) (reply 7 c0) (page ++ replicate 4095 0 ++ (5 ∷ []))
     ∷ lending half 7 (physical 0 2 ++ (5 ∷ 6 ∷ [])) (reply 7 c0) (5 ∷ 6 ∷ drop 2 half)
@@ -279,6 +287,8 @@ testEdges =
     ∷ under (without 2) (closes 9 (flagData 0 1))
     ∷ under (without 2) (closes 9 (flagData 2 2))
     ∷ under (without 2) (closes 9 (flagData 1 1))
+    ∷ under (without 2) (taken 2 (naming 5) readyImage)
+    ∷ under (without 2) (taken 14 (flagData 0 0) readyImage)
     ∷ under (eventful 4) (row two (ready 0 ∷ pause 0 ∷ []) (told (handled 16 (Kick 0 true)) (reply 9 c0) (vm ++ vc 0 1 0 0 1 ++ idle 1 ++ en 3) quiet))
     -- test 5: enable 0 with the flag while event 13 is not allowed, whatever now says; not with enable 1, without the flag, or with -22
     ∷ under (without 13) (closes 15 (modeData 0 0 1))
@@ -288,6 +298,7 @@ testEdges =
     ∷ under (without 13) (fails 15 (modeData 0 2 1) c22)
     ∷ under (without 13) (fails 15 (modeData 0 0 3) c22)
     ∷ under (without 13) (fails 15 (set (modeData 0 0 1) 7 1) c22)
+    ∷ row (given 2 2 all (all - 2 ^ 13) 1 1 0) (setAccess 1 1 (entry 0x5000 1) ∷ []) (answered 13 c0 (vm ++ idle 0 ++ idle 1 ++ pa 1 5 1 ++ en 4))
     ∷ row (eventful 0x2000) (responses 0 0 1 ∷ []) (told (handled 16 Quiet) (reply 15 c0) freshImage (beside ErrorsOnly 0 nobody))
     -- -11: vCPU 1 is not ready
     ∷ fails 8 (vcpuHeader 1) c11
@@ -326,6 +337,14 @@ testEdges =
     ∷ under (equipped 1 1 0x80) (fails 10 (vcpuHeader 0 ++ eventData 4 1) c16)
     ∷ under (equipped 1 1 1) (taken 10 (vcpuHeader 0 ++ eventData 4 0) readyImage)
     ∷ under (equipped 1 1 1) (taken 10 (vcpuHeader 0 ++ eventData 5 1) (vm ++ vc 0 1 0 0x20 0 ++ idle 1 ++ en 3))
+    -- what the settings lack, and a full queue, is no matter to the other messages, nor is a vCPU's number an event's
+    ∷ under few (taken 10 (vcpuHeader 0 ++ eventData 9 1) (vm ++ vc 0 1 0 0x200 0 ++ idle 1 ++ en 3))
+    ∷ under few (taken 15 (modeData 1 0 0) readyImage)
+    ∷ row two (ready 0 ∷ replicate 8 (pause 0) ++ (send 8 (vcpuHeader 0) ∷ []))
+    (told (handled 24 Quiet) (8 ∷ 0 ∷ 16 ∷ 0 ∷ 8 ∷ 0 ∷ 0 ∷ 0 ∷ replicate 16 0) (vm ++ vc 0 1 0 0 8 ++ idle 1 ++ en 3) quiet)
+    ∷ row two (ready 0 ∷ replicate 8 (pause 0) ++ (controlCr 0 3 1 ∷ [])) (answered 11 c0 (vm ++ vc 0 1 2 0 8 ++ idle 1 ++ en 3))
+    ∷ row (given 16 1 all all 1 0 1) (ready 4 ∷ ready 8 ∷ pause 4 ∷ pause 8 ∷ controlCr 4 3 1 ∷ controlCr 8 3 1 ∷ controlMsr 4 0x10 1 ∷ controlMsr 8 0x10 1 ∷ singlestep 4 1 ∷ singlestep 8 1 ∷ [])
+    (told (handled 16 Quiet) (reply 14 c0) (vmOf 16 ++ joined (map idle (take 4 to15)) ++ vc 4 3 2 0 1 ++ idle 5 ++ idle 6 ++ idle 7 ++ vc 8 3 2 0 1 ++ joined (map idle (drop 9 to15)) ++ ms 4 0x10 ++ ms 8 0x10 ++ en 19) (beside On 0 (replicate 16 none)))
     -- the first code that applies: -22 before -11, -1, -95, -16 and -2; -11 before -1, -95 and -16; -1 before -95 and -16
     ∷ fails 10 (vcpuHeader 1 ++ eventData 6 1) c22
     ∷ under few (fails 5 (set (eventData 12 1) 7 1) c22)
@@ -342,7 +361,8 @@ testEdges =
 abbrev pub ofMessages : List Edge
 ofMessages = messageEdges ++ fieldEdges ++ switchEdges ++ accessEdges ++ memoryEdges ++ testEdges
 
--- the message offset of the first padding byte that is not zero: in the vCPU header, behind it in two places, in the second entry, nowhere
+-- the message offset of the first padding byte that is not zero: in the vCPU header, behind it in two places, in the second entry, nowhere, in an
+-- entry whose count does not fit, where there are no bytes
 abbrev pub paddings : List ℕ
 paddings =
     firstPadding 9 (set (flagData 0 1) 2 1)
@@ -350,7 +370,9 @@ paddings =
     ∷ firstPadding 9 (set (flagData 0 1) 15 1)
     ∷ firstPadding 13 (set (accessData 2 0 (entry 0x5000 1 ++ entry 0x6000 1)) 39 1)
     ∷ firstPadding 13 (accessData 2 0 (entry 0x5000 1 ++ entry 0x6000 1))
+    ∷ firstPadding 13 (set (accessData 2 0 (entry 0x5000 1)) 17 1)
+    ∷ firstPadding 9 []
     ∷ []
 
 abbrev pub paddingsSeen : List ℕ
-paddingsSeen = 10 ∷ 17 ∷ 23 ∷ 47 ∷ 0 ∷ []
+paddingsSeen = 10 ∷ 17 ∷ 23 ∷ 47 ∷ 0 ∷ 0 ∷ 0 ∷ []

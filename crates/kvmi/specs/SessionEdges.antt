@@ -14,18 +14,18 @@ use Rattle.kvmi.specs.Change.{Run, takeEntries}
 use Rattle.kvmi.specs.Reply.{messageBytes}
 use Rattle.kvmi.specs.Call.{Call, message, ready, enter, writeImage}
 use Rattle.kvmi.specs.Case.{anew, fromBytes, standing, two, out, page, send, vcpuHeader, physical, entry, pause, controlMsr, setAccess, reply, c0, c22, vm, vc, en, freshImage, readyImage}
-use Rattle.kvmi.specs.Edge.{Edge, nothing, left, commanding, sized, odd, lent, state, naming, eventData, modeData, answerData, controlVmEvent, controlEvent, controlCr, singlestep, responses, sendAs, eventReply, to15, c11, c12, idle, pa, pauseBytes, failBytes, beside, nobody, awaits, quiet, shut, over, told, gave, answered, closing, begun, row}
+use Rattle.kvmi.specs.Edge.{Edge, nothing, left, commanding, sized, odd, lent, state, naming, eventData, modeData, answerData, controlVmEvent, controlEvent, controlCr, singlestep, responses, sendAs, eventReply, to15, c11, c12, idle, pa, joined, vmOf, pauseBytes, failBytes, beside, nobody, awaits, quiet, shut, over, told, gave, answered, closing, begun, row}
 
 -- ---- replies and reply mode
 abbrev pub replyEdges : List Edge
 replyEdges =
     -- what the settings say, before any vCPU is ready, and a command's seq echoed; VCPU_GET_INFO of the last vCPU
     row odd (sendAs 0x04030201 1 [] ∷ [])
-    (told (handled 32 Quiet) (1 ∷ 0 ∷ 24 ∷ 0 ∷ 1 ∷ 2 ∷ 3 ∷ 4 ∷ c0 ++ c0 ++ (1 ∷ 0 ∷ 0 ∷ 0 ∷ 0 ∷ 0 ∷ 0 ∷ 0 ∷ 0xF1 ∷ 0xF2 ∷ 0xF3 ∷ 0xF4 ∷ 0xF5 ∷ 0 ∷ 0 ∷ 0 ∷ [])) (0x56 ∷ 0x4D ∷ 1 ∷ 0 ∷ 3 ∷ 0 ∷ 0 ∷ 0 ∷ idle 0 ++ idle 1 ++ idle 2 ++ en 4) (beside On 0 (none ∷ none ∷ none ∷ [])))
+    (told (handled 32 Quiet) (1 ∷ 0 ∷ 24 ∷ 0 ∷ 1 ∷ 2 ∷ 3 ∷ 4 ∷ c0 ++ c0 ++ (1 ∷ 0 ∷ 0 ∷ 0 ∷ 0 ∷ 0 ∷ 0 ∷ 0 ∷ 0xF1 ∷ 0xF2 ∷ 0xF3 ∷ 0xF4 ∷ 0xF5 ∷ 0 ∷ 0 ∷ 0 ∷ [])) (vmOf 3 ++ idle 0 ++ idle 1 ++ idle 2 ++ en 4) (beside On 0 (none ∷ none ∷ none ∷ [])))
     ∷ row odd (send 4 [] ∷ [])
-    (told (handled 32 Quiet) (4 ∷ 0 ∷ 24 ∷ 0 ∷ 8 ∷ 0 ∷ 0 ∷ 0 ∷ c0 ++ c0 ++ (3 ∷ replicate 15 0)) (0x56 ∷ 0x4D ∷ 1 ∷ 0 ∷ 3 ∷ 0 ∷ 0 ∷ 0 ∷ idle 0 ++ idle 1 ++ idle 2 ++ en 4) (beside On 0 (none ∷ none ∷ none ∷ [])))
+    (told (handled 32 Quiet) (4 ∷ 0 ∷ 24 ∷ 0 ∷ 8 ∷ 0 ∷ 0 ∷ 0 ∷ c0 ++ c0 ++ (3 ∷ replicate 15 0)) (vmOf 3 ++ idle 0 ++ idle 1 ++ idle 2 ++ en 4) (beside On 0 (none ∷ none ∷ none ∷ [])))
     ∷ row odd (ready 2 ∷ send 8 (vcpuHeader 2) ∷ [])
-    (told (handled 24 Quiet) (8 ∷ 0 ∷ 16 ∷ 0 ∷ 8 ∷ 0 ∷ 0 ∷ 0 ∷ c0 ++ c0 ++ (0x88 ∷ 0x77 ∷ 0x66 ∷ 0x55 ∷ 0x44 ∷ 0x33 ∷ 0x22 ∷ 0x11 ∷ [])) (0x56 ∷ 0x4D ∷ 1 ∷ 0 ∷ 3 ∷ 0 ∷ 0 ∷ 0 ∷ idle 0 ++ idle 1 ++ vc 2 1 0 0 0 ++ en 4) (beside On 0 (none ∷ none ∷ none ∷ [])))
+    (told (handled 24 Quiet) (8 ∷ 0 ∷ 16 ∷ 0 ∷ 8 ∷ 0 ∷ 0 ∷ 0 ∷ c0 ++ c0 ++ (0x88 ∷ 0x77 ∷ 0x66 ∷ 0x55 ∷ 0x44 ∷ 0x33 ∷ 0x22 ∷ 0x11 ∷ [])) (vmOf 3 ++ idle 0 ++ idle 1 ++ vc 2 1 0 0 0 ++ en 4) (beside On 0 (none ∷ none ∷ none ∷ [])))
     -- from replies on: now 0 is replied to and now 1 is not; the flag is kept with enable 0
     ∷ row two (responses 0 0 0 ∷ []) (told (handled 16 Quiet) (reply 15 c0) freshImage (beside Off 0 nobody))
     ∷ row two (responses 0 0 1 ∷ []) (told (handled 16 Quiet) (reply 15 c0) freshImage (beside ErrorsOnly 0 nobody))
@@ -87,6 +87,7 @@ eventEdges =
     ∷ row two (responses 0 1 1 ∷ send 2 (naming 0) ∷ sent) (gave (handled 552 Quiet) (pauseBytes 1 0) (lent 552) readyImage (beside ErrorsOnly 2 (awaits 1 ∷ none ∷ [])))
     -- refused in the order 4, 5, 3, 6
     ∷ row two (enter 2 [] [] ∷ []) (gave (plain 4) [] [] freshImage quiet)
+    ∷ row two (enter 3 state (lent 552) ∷ []) (gave (plain 4) [] (lent 552) freshImage quiet)
     ∷ row two (sent ++ (enter 0 (drop 1 state) (lent 551) ∷ [])) (gave (plain 5) [] (lent 551) readyImage (beside On 1 (awaits 0 ∷ none ∷ [])))
     ∷ row two (enter 0 (0 ∷ state) (lent 552) ∷ []) (gave (plain 5) [] (lent 552) freshImage quiet)
     ∷ row two (sent ++ (enter 0 state (lent 551) ∷ [])) (gave (plain 3) [] (lent 551) readyImage (beside On 1 (awaits 0 ∷ none ∷ [])))
@@ -125,8 +126,9 @@ eventEdges =
     ∷ wrong 0 (set (answerData 0 0 2) 15 1)
     ∷ wrong 0 (answerData 0 0 2 ++ (0 ∷ []))
     ∷ wrong 0 (take 15 (answerData 0 0 2))
-    -- none is awaited, and event 0 is no event
+    -- none is awaited, whatever event is named
     ∷ row two (eventReply 0 0 0 2 ∷ []) closing
+    ∷ row two (eventReply 0 0 0 1 ∷ []) closing
     ∷ row two (eventReply 0 0 0 0 ∷ []) closing
     -- the seq goes from 4,294,967,295 to 0
     ∷ (record { settings = two; start = standing (pausedAt 0xFFFFFFFF); calls = enter 0 state (lent 552) ∷ []; expected = gave (handled 552 Quiet) (pauseBytes 0xFFFFFFFF 0) (lent 552) readyImage (beside On 0 (awaits 0xFFFFFFFF ∷ none ∷ [])) })
@@ -138,18 +140,15 @@ eventEdges =
 abbrev pub ruined : List Call
 ruined = controlVmEvent 12 1 ∷ setAccess 1 0 (entry 0x5000 1) ∷ sent ++ (controlMsr 0 0x10 1 ∷ controlCr 0 3 1 ∷ responses 0 1 1 ∷ message [] out page ∷ [])
 
-abbrev pub joined : List (List ℕ) → List ℕ
-joined [] = []
-joined (l ∷ ls) = l ++ joined ls
-
 abbrev pub callEdges : List Edge
 callEdges =
     -- ready marks: of the last vCPU, a second time, of none
     row two (ready 1 ∷ []) (gave (handled 0 Quiet) [] [] (vm ++ idle 0 ++ vc 1 1 0 0 0 ++ en 3) quiet)
     ∷ row two (ready 0 ∷ controlEvent 0 4 1 ∷ controlCr 0 3 1 ∷ singlestep 0 1 ∷ pause 0 ∷ ready 0 ∷ []) (gave (handled 0 Quiet) [] [] (vm ++ vc 0 3 2 0x10 1 ++ idle 1 ++ en 3) quiet)
     ∷ row two (ready 2 ∷ []) (gave (plain 4) [] [] freshImage quiet)
+    ∷ row two (ready 3 ∷ []) (gave (plain 4) [] [] freshImage quiet)
     ∷ row (sized 16 1) (ready 16 ∷ ready 15 ∷ [])
-    (gave (handled 0 Quiet) [] [] (0x56 ∷ 0x4D ∷ 1 ∷ 0 ∷ 16 ∷ 0 ∷ 0 ∷ 0 ∷ joined (map idle (take 15 to15)) ++ vc 15 1 0 0 0 ++ en 17) (beside On 0 (replicate 16 none)))
+    (gave (handled 0 Quiet) [] [] (vmOf 16 ++ joined (map idle (take 15 to15)) ++ vc 15 1 0 0 0 ++ en 17) (beside On 0 (replicate 16 none)))
     -- image writing: as long as the image, one byte short, one byte more; 10 comes before 3
     ∷ row two (writeImage (lent 34) ∷ []) (gave (handled 34 Quiet) freshImage (lent 34) freshImage quiet)
     ∷ row two (writeImage (lent 33) ∷ []) (gave (plain 3) [] (lent 33) freshImage quiet)
@@ -182,9 +181,9 @@ callEdges =
     ∷ begun (sized 17 1) (fromBytes freshImage) (nothing (plain 7))
     ∷ begun (sized 2 0) (fromBytes freshImage) (nothing (plain 7))
     ∷ begun (sized 2 9) (fromBytes freshImage) (nothing (plain 7))
-    ∷ begun (sized 1 1) anew (left (handled 0 Quiet) [] [] (0x56 ∷ 0x4D ∷ 1 ∷ 0 ∷ 1 ∷ 0 ∷ 0 ∷ 0 ∷ idle 0 ++ en 2) (beside On 0 (none ∷ [])))
-    ∷ begun (sized 16 8) anew (left (handled 0 Quiet) [] [] (0x56 ∷ 0x4D ∷ 1 ∷ 0 ∷ 16 ∷ 0 ∷ 0 ∷ 0 ∷ joined (map idle to15) ++ en 17) (beside On 0 (replicate 16 none)))
-    ∷ begun (sized 16 8) (fromBytes (0x56 ∷ 0x4D ∷ 1 ∷ 0 ∷ 16 ∷ 0 ∷ 0 ∷ 0 ∷ joined (map idle to15) ++ en 17)) (left (handled 0 Quiet) [] [] (0x56 ∷ 0x4D ∷ 1 ∷ 0 ∷ 16 ∷ 0 ∷ 0 ∷ 0 ∷ joined (map idle to15) ++ en 17) (beside On 0 (replicate 16 none)))
+    ∷ begun (sized 1 1) anew (left (handled 0 Quiet) [] [] (vmOf 1 ++ idle 0 ++ en 2) (beside On 0 (none ∷ [])))
+    ∷ begun (sized 16 8) anew (left (handled 0 Quiet) [] [] (vmOf 16 ++ joined (map idle to15) ++ en 17) (beside On 0 (replicate 16 none)))
+    ∷ begun (sized 16 8) (fromBytes (vmOf 16 ++ joined (map idle to15) ++ en 17)) (left (handled 0 Quiet) [] [] (vmOf 16 ++ joined (map idle to15) ++ en 17) (beside On 0 (replicate 16 none)))
     ∷ []
 
 -- ---- a full table
@@ -203,8 +202,10 @@ holding n = record { events = 0; vcpus = (record { ready = false; singlestep = f
 
 abbrev pub fullEdges : List Edge
 fullEdges =
-    -- of 1,023 pages: a page takes the last room, the next is skipped, one that stands below rwx is changed, one at rwx is forgotten, all in one message
-    (record { settings = two; start = standing (record { tables = holding 1023; mode = On; seq = 0; awaited = nobody; closed = false }); calls = setAccess 4 0 (entry 0x1001000 3 ++ entry 0x1002000 3 ++ entry 0x3FE000 5 ++ entry 0x1002000 7) ∷ []; expected = answered 13 c12 (vm ++ idle 0 ++ idle 1 ++ pasFrom 0 1022 ++ pa 0 0x3FE 5 ++ pa 0 0x1001 3 ++ en 1027) })
+    -- a page takes the last room, the next is skipped, one that stands below rwx is changed
+    (record { settings = two; start = standing (record { tables = holding 1023; mode = On; seq = 0; awaited = nobody; closed = false }); calls = setAccess 3 0 (entry 0x1001000 3 ++ entry 0x1002000 3 ++ entry 0x3FE000 5) ∷ []; expected = answered 13 c12 (vm ++ idle 0 ++ idle 1 ++ pasFrom 0 1022 ++ pa 0 0x3FE 5 ++ pa 0 0x1001 3 ++ en 1027) })
+    -- one at rwx is forgotten without need of room, and one that is below rwx makes room
+    ∷ (record { settings = two; start = standing (record { tables = holding 1024; mode = On; seq = 0; awaited = nobody; closed = false }); calls = setAccess 3 0 (entry 0x1001000 7 ++ entry 0x3FF000 7 ++ entry 0x1002000 0) ∷ []; expected = answered 13 c0 (vm ++ idle 0 ++ idle 1 ++ pasFrom 0 1023 ++ pa 0 0x1002 0 ++ en 1027) })
     ∷ []
 
 abbrev pub asks : ℕ → ℕ → Entry
