@@ -9,6 +9,7 @@ use kvmi::Settings;
 use kvmi::Verdict;
 ghost use mathlib.Core.Path.{_≡_};
 ghost use Rattle.kvmi.specs.Verdict.{commandVerdict};
+ghost use Rattle.verdict.specs.Causes.{physicalCauses};
 
 // VM_CHECK_COMMAND: 0 where a command is allowed.
 pub fn check_command(settings: Settings, facts: Facts, d: &[u8]) -> Verdict
@@ -47,13 +48,20 @@ pub fn control_vm_events(settings: Settings, facts: Facts, d: &[u8]) -> Verdict
     })
 }
 
+// What stands against reading or writing guest memory.
+fn physical(guest: usize, gpa: u64, size: u64) -> Causes
+    ensures { λ r. ⌜ r ≡ physicalCauses guest gpa size ⌝ }
+{
+    let mut c = Causes::new(!tests::in_one_page(gpa, size), false);
+    c.absent = !tests::page_exists(guest, gpa);
+    c
+}
+
 // VM_READ_PHYSICAL.
 pub fn read_physical(settings: Settings, facts: Facts, d: &[u8]) -> Verdict
     ensures { λ r. ⌜ r ≡ commandVerdict settings facts 6 (now (d .entry)) ⌝ }
 {
-    let gpa = wire::load64(d, 0);
-    let mut c = Causes::new(!tests::in_one_page(gpa, wire::load64(d, 8)), false);
-    c.absent = !tests::page_exists(facts.guest, gpa);
+    let c = physical(facts.guest, wire::load64(d, 0), wire::load64(d, 8));
     c.decide(Change::Nothing)
 }
 
@@ -62,8 +70,7 @@ pub fn write_physical(settings: Settings, facts: Facts, d: &[u8]) -> Verdict
     ensures { λ r. ⌜ r ≡ commandVerdict settings facts 7 (now (d .entry)) ⌝ }
 {
     let gpa = wire::load64(d, 0);
-    let mut c = Causes::new(!tests::in_one_page(gpa, wire::load64(d, 8)), false);
-    c.absent = !tests::page_exists(facts.guest, gpa);
+    let c = physical(facts.guest, gpa, wire::load64(d, 8));
     c.decide(Change::WritePhysical { gpa })
 }
 
@@ -82,8 +89,8 @@ pub fn pause_vcpu(settings: Settings, facts: Facts, d: &[u8]) -> Verdict
 {
     let vcpu = wire::load16(d, 0);
     let wait = wire::byte(d, 8);
-    let misnamed = (padding::of_vcpu_switch(d) != 0) | (settings.vcpus <= vcpu as u32);
-    let mut c = Causes::new(misnamed | !tests::is_switch(wait), !facts.ready);
+    let malformed = tests::is_malformed(padding::of_vcpu_switch(d), settings.vcpus, vcpu, wait);
+    let mut c = Causes::new(malformed, !facts.ready);
     c.busy = 8 <= facts.pauses;
     c.decide(Change::QueuePause {
         vcpu,
@@ -99,8 +106,7 @@ pub fn control_vcpu_events(settings: Settings, facts: Facts, d: &[u8]) -> Verdic
     let event = wire::load16(d, 8);
     let enable = wire::byte(d, 10);
     let on = enable == 1;
-    let misnamed = (padding::of_vcpu_event(d) != 0) | (settings.vcpus <= vcpu as u32);
-    let malformed = misnamed | !tests::is_switch(enable);
+    let malformed = tests::is_malformed(padding::of_vcpu_event(d), settings.vcpus, vcpu, enable);
     let mut c = Causes::new(malformed | !tests::is_vcpu_event(event), !facts.ready);
     c.denied = !tests::is_on(settings.events, event);
     c.unsupported = on & ((event == 8) & !tests::is_set(settings.descriptors));
@@ -115,8 +121,7 @@ pub fn control_cr(settings: Settings, facts: Facts, d: &[u8]) -> Verdict
     let vcpu = wire::load16(d, 0);
     let enable = wire::byte(d, 8);
     let cr = wire::load32(d, 12);
-    let misnamed = (padding::of_register(d) != 0) | (settings.vcpus <= vcpu as u32);
-    let malformed = misnamed | !tests::is_switch(enable);
+    let malformed = tests::is_malformed(padding::of_register(d), settings.vcpus, vcpu, enable);
     let c = Causes::new(malformed | !tests::is_cr(cr), !facts.ready);
     c.decide(Change::SetCr {
         vcpu,
@@ -132,8 +137,7 @@ pub fn control_msr(settings: Settings, facts: Facts, d: &[u8]) -> Verdict
     let vcpu = wire::load16(d, 0);
     let enable = wire::byte(d, 8);
     let msr = wire::load32(d, 12);
-    let misnamed = (padding::of_register(d) != 0) | (settings.vcpus <= vcpu as u32);
-    let malformed = misnamed | !tests::is_switch(enable);
+    let malformed = tests::is_malformed(padding::of_register(d), settings.vcpus, vcpu, enable);
     let c = Causes::new(malformed | !tests::is_msr(msr), !facts.ready);
     c.decide(Change::SetMsr {
         vcpu,
@@ -159,8 +163,8 @@ pub fn control_singlestep(settings: Settings, facts: Facts, d: &[u8]) -> Verdict
 {
     let vcpu = wire::load16(d, 0);
     let enable = wire::byte(d, 8);
-    let misnamed = (padding::of_vcpu_switch(d) != 0) | (settings.vcpus <= vcpu as u32);
-    let mut c = Causes::new(misnamed | !tests::is_switch(enable), !facts.ready);
+    let malformed = tests::is_malformed(padding::of_vcpu_switch(d), settings.vcpus, vcpu, enable);
+    let mut c = Causes::new(malformed, !facts.ready);
     c.unsupported = !tests::is_set(settings.singlestep);
     c.decide(Change::SetSinglestep {
         vcpu,

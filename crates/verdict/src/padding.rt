@@ -1,9 +1,7 @@
 // Padding: bytes of a layout that are to be zero. Each function finds the first that is not, as its offset in the message, whose
 // header is 8 bytes long; 0 says that there is none. Clean padding is seen by whole loads, with no loop over bytes.
 ghost use mathlib.Core.Path.{_≡_};
-ghost use mathlib.Core.Bool.{cond};
 ghost use Prim.Native.Nat.{_+_, _*_, _≤_};
-ghost use lib.Dec.{eqb};
 ghost use lib.ListN.{length};
 ghost use Rattle.kvmi.specs.Message.{firstNonZero, firstOfRuns, entryPadding, firstPadding};
 
@@ -39,11 +37,16 @@ fn in_word(d: &[u8], at: usize, skip: usize, n: usize) -> usize
     first_nonzero(d, at + skip, n)
 }
 
-// Of two runs, the first in front.
-fn first_of(a: usize, b: usize) -> usize
-    ensures { λ r. ⌜ r ≡ cond (eqb a 0) b a ⌝ }
+// Of what stands behind a vCPU's number, and then of the n bytes that stand `skip` bytes into the 8 bytes after that header.
+fn behind_vcpu(d: &[u8], skip: usize, n: usize) -> usize
+    requires { ⌜ (skip + n ≤ 8) × ((1 ≤ skip) × (1 ≤ n)) ⌝ }
+    ensures { λ r. ⌜ r ≡ firstNonZero (now (d .entry)) 2 6 (firstNonZero (now (d .entry)) (8 + skip) n 0) ⌝ }
 {
-    if a == 0 { b } else { a }
+    let head = in_word(d, 0, 2, 6);
+    if head != 0 {
+        return head;
+    }
+    in_word(d, 8, skip, n)
 }
 
 // Of VM_CHECK_COMMAND, VM_CHECK_EVENT and VCPU_GET_INFO: a number, then padding.
@@ -64,28 +67,28 @@ pub fn of_switch(d: &[u8]) -> usize
 pub fn of_vcpu_switch(d: &[u8]) -> usize
     ensures { λ r. ⌜ r ≡ firstPadding 9 (now (d .entry)) ⌝ }
 {
-    first_of(in_word(d, 0, 2, 6), in_word(d, 8, 1, 7))
+    behind_vcpu(d, 1, 7)
 }
 
 // Of VCPU_CONTROL_EVENTS.
 pub fn of_vcpu_event(d: &[u8]) -> usize
     ensures { λ r. ⌜ r ≡ firstPadding 10 (now (d .entry)) ⌝ }
 {
-    first_of(in_word(d, 0, 2, 6), in_word(d, 8, 3, 5))
+    behind_vcpu(d, 3, 5)
 }
 
 // Of VCPU_CONTROL_CR and VCPU_CONTROL_MSR.
 pub fn of_register(d: &[u8]) -> usize
     ensures { λ r. ⌜ r ≡ firstPadding 11 (now (d .entry)) ⌝ }
 {
-    first_of(in_word(d, 0, 2, 6), in_word(d, 8, 1, 3))
+    behind_vcpu(d, 1, 3)
 }
 
 // Of EVENT_REPLY.
 pub fn of_event_reply(d: &[u8]) -> usize
     ensures { λ r. ⌜ r ≡ firstPadding 16 (now (d .entry)) ⌝ }
 {
-    first_of(in_word(d, 0, 2, 6), in_word(d, 8, 2, 6))
+    behind_vcpu(d, 2, 6)
 }
 
 // Of one entry of VM_SET_PAGE_ACCESS, as if the entry were the data.

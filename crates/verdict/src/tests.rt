@@ -5,8 +5,8 @@ use kvmi::ReplyMode;
 use kvmi::SizeRule;
 ghost use mathlib.Core.Path.{_≡_};
 ghost use mathlib.Core.List.{[], _∷_};
-ghost use mathlib.Core.Bool.{_&&_, _||_};
-ghost use lib.Dec.{leb};
+ghost use mathlib.Core.Bool.{not, _&&_, _||_};
+ghost use lib.Dec.{leb, eqb};
 ghost use Rattle.kvmi.specs.Bits.{isOn, among};
 ghost use Rattle.kvmi.specs.Settings.{isSet};
 ghost use Rattle.kvmi.specs.Tables.{isCr, isMsr};
@@ -35,6 +35,14 @@ pub fn is_switch(b: u8) -> bool
     ensures { λ r. ⌜ r ≡ leb b 1 ⌝ }
 {
     b <= 1
+}
+
+// Whether a command on a vCPU is malformed: padding that is not clean (its offset is not 0), a vCPU not below the count, or a
+// switch that is none.
+pub fn is_malformed(padding: usize, vcpus: u32, vcpu: u16, switch: u8) -> bool
+    ensures { λ r. ⌜ r ≡ (not (eqb padding 0) || leb vcpus vcpu || not (leb switch 1)) ⌝ }
+{
+    (padding != 0) | (vcpus <= vcpu as u32) | !is_switch(switch)
 }
 
 // Whether a command is allowed: 1, 2, 3 and 16 always.

@@ -20,11 +20,8 @@ load32-requires c κs = search needs
 of-register-requires : tie.Need-of-register-requires
 of-register-requires c κs = search needs
 
-cast-misnamed : tie.Need-cast-misnamed
-cast-misnamed c = search needs
-
-is-switch-requires : tie.Need-is-switch-requires
-is-switch-requires c κs = search needs
+is-malformed-requires : tie.Need-is-malformed-requires
+is-malformed-requires c κs = search needs
 
 is-msr-requires : tie.Need-is-msr-requires
 is-msr-requires c κs = search needs
@@ -38,7 +35,7 @@ decide-requires c κs = search needs
 returns : tie.Need-returns
 unfolding commandVerdict isInvalid isUnready isDenied isUnsupported isBusy isAbsent losesErrors changeOf decided namesVcpu flagsAt vcpuOf registerOf enables enableAt firstPadding padding
 returns c =
-    c .decide .ensures ∙ rw (c .before .new .ensures, ← c .before .before .before .before .before .before .before .before .before .load16 .ensures, ← c .before .before .before .before .before .before .before .before .byte .ensures, ← c .before .before .before .before .before .before .before .load32 .ensures, ← c .before .before .before .before .before .before .of-register .ensures, ← c .before .before .before .before .is-switch .ensures, ← c .before .before .before .is-msr .ensures) (simp (or-false, and-true))
+    c .decide .ensures ∙ rw (c .before .new .ensures, ← c .before .before .before .before .before .before .before .before .load16 .ensures, ← c .before .before .before .before .before .before .before .byte .ensures, ← c .before .before .before .before .before .before .load32 .ensures, ← c .before .before .before .before .before .of-register .ensures, and-true, ← c .before .before .before .before .is-malformed .ensures, ← c .before .before .before .is-msr .ensures) (simp or-false)
 
 pub control-msr-spec : {M : Type 1} → statement M
 control-msr-spec =
@@ -48,8 +45,7 @@ control-msr-spec =
     byte-requires
     load32-requires
     of-register-requires
-    cast-misnamed
-    is-switch-requires
+    is-malformed-requires
     is-msr-requires
     new-requires
     decide-requires

@@ -21,11 +21,8 @@ byte-requires c κs = search needs
 of-vcpu-event-requires : tie.Need-of-vcpu-event-requires
 of-vcpu-event-requires c κs = search needs
 
-cast-misnamed : tie.Need-cast-misnamed
-cast-misnamed c = search needs
-
-is-switch-requires : tie.Need-is-switch-requires
-is-switch-requires c κs = search needs
+is-malformed-requires : tie.Need-is-malformed-requires
+is-malformed-requires c κs = search needs
 
 is-vcpu-event-requires : tie.Need-is-vcpu-event-requires
 is-vcpu-event-requires c κs = search needs
@@ -48,7 +45,7 @@ decide-requires c κs = search needs
 returns : tie.Need-returns
 unfolding commandVerdict isInvalid isUnready isDenied isUnsupported isBusy isAbsent losesErrors changeOf decided namesVcpu flagsAt vcpuOf eventOf takesEvent enables enableAt allowsEvent uncatchable taken
 returns c =
-    c .decide .ensures ∙ rw (c .before .before .before .before .new .ensures, ← c .before .before .before .before .before .before .before .before .before .before .before .before .load16 .ensures, ← c .before .before .before .before .before .before .before .before .before .before .before .load162 .ensures, ← c .before .before .before .before .before .before .before .before .before .before .byte .ensures, ← c .before .before .before .before .before .before .before .before .before .of-vcpu-event .ensures, ← c .before .before .before .before .before .before .before .is-switch .ensures, ← c .before .before .before .before .before .before .is-vcpu-event .ensures, ← c .before .before .before .is-on .ensures, ← c .before .before .is-set .ensures, ← c .before .is-set2 .ensures) (simp (or-false, and-true))
+    c .decide .ensures ∙ rw (c .before .before .before .before .new .ensures, ← c .before .before .before .before .before .before .before .before .before .before .before .load16 .ensures, ← c .before .before .before .before .before .before .before .before .before .before .load162 .ensures, ← c .before .before .before .before .before .before .before .before .before .byte .ensures, ← c .before .before .before .before .before .before .before .before .of-vcpu-event .ensures, and-true, ← c .before .before .before .before .before .before .before .is-malformed .ensures, ← c .before .before .before .before .before .before .is-vcpu-event .ensures, ← c .before .before .before .is-on .ensures, ← c .before .before .is-set .ensures, ← c .before .is-set2 .ensures) (simp or-false)
 
 pub control-vcpu-events-spec : {M : Type 1} → statement M
 control-vcpu-events-spec =
@@ -58,8 +55,7 @@ control-vcpu-events-spec =
     load16-requires-2
     byte-requires
     of-vcpu-event-requires
-    cast-misnamed
-    is-switch-requires
+    is-malformed-requires
     is-vcpu-event-requires
     new-requires
     is-on-requires

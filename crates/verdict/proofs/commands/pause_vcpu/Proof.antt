@@ -17,11 +17,8 @@ byte-requires c κs = search needs
 of-vcpu-switch-requires : tie.Need-of-vcpu-switch-requires
 of-vcpu-switch-requires c κs = search needs
 
-cast-misnamed : tie.Need-cast-misnamed
-cast-misnamed c = search needs
-
-is-switch-requires : tie.Need-is-switch-requires
-is-switch-requires c κs = search needs
+is-malformed-requires : tie.Need-is-malformed-requires
+is-malformed-requires c κs = search needs
 
 new-requires : tie.Need-new-requires
 new-requires c κs = search needs
@@ -32,7 +29,7 @@ decide-requires c κs = search needs
 returns : tie.Need-returns
 unfolding commandVerdict isInvalid isUnready isDenied isUnsupported isBusy isAbsent losesErrors changeOf decided namesVcpu flagsAt vcpuOf enables enableAt
 returns c =
-    c .decide .ensures ∙ rw (c .before .before .new .ensures, ← c .before .before .before .before .before .before .before .byte .ensures, ← c .before .before .before .before .before .before .before .before .load16 .ensures, ← c .before .before .before .before .is-switch .ensures, ← c .before .before .before .before .before .before .of-vcpu-switch .ensures) (simp (or-false, and-true))
+    c .decide .ensures ∙ rw (c .before .before .new .ensures, ← c .before .before .before .before .before .before .byte .ensures, ← c .before .before .before .before .before .before .before .load16 .ensures, ← c .before .before .before .before .before .of-vcpu-switch .ensures, and-true, ← c .before .before .before .before .is-malformed .ensures) (simp or-false)
 
 pub pause-vcpu-spec : {M : Type 1} → statement M
 pause-vcpu-spec =
@@ -41,8 +38,7 @@ pause-vcpu-spec =
     load16-requires
     byte-requires
     of-vcpu-switch-requires
-    cast-misnamed
-    is-switch-requires
+    is-malformed-requires
     new-requires
     decide-requires
     returns)

@@ -13,14 +13,8 @@ load64-requires c κs = search needs
 load64-requires-2 : tie.Need-load64-requires-2
 load64-requires-2 c κs = search needs
 
-in-one-page-requires : tie.Need-in-one-page-requires
-in-one-page-requires c κs = search needs
-
-new-requires : tie.Need-new-requires
-new-requires c κs = search needs
-
-page-exists-requires : tie.Need-page-exists-requires
-page-exists-requires c κs = search needs
+physical-requires : tie.Need-physical-requires
+physical-requires c κs = search needs
 
 decide-requires : tie.Need-decide-requires
 decide-requires c κs = search needs
@@ -28,16 +22,9 @@ decide-requires c κs = search needs
 returns : tie.Need-returns
 unfolding commandVerdict isInvalid isUnready isDenied isUnsupported isBusy isAbsent losesErrors changeOf decided namesVcpu flagsAt gpaOf sizeOf firstPadding padding firstOfRuns
 returns c =
-    c .decide .ensures ∙ rw (c .before .before .new .ensures, ← c .before .before .before .before .before .load64 .ensures, ← c .before .before .before .before .load642 .ensures, ← c .before .before .before .in-one-page .ensures, ← c .before .page-exists .ensures)
+    c .decide .ensures ∙ rw (c .before .physical .ensures, ← c .before .before .before .load64 .ensures, ← c .before .before .load642 .ensures)
 
 pub read-physical-spec : {M : Type 1} → statement M
 read-physical-spec =
     tie.close
-    (tie.spec
-    load64-requires
-    load64-requires-2
-    in-one-page-requires
-    new-requires
-    page-exists-requires
-    decide-requires
-    returns)
+    (tie.spec load64-requires load64-requires-2 physical-requires decide-requires returns)
