@@ -433,7 +433,16 @@ pub fn begin(settings: Settings, vcpus: &mut [u64; 4352], pages: &mut [u64; 1024
 fn in_range(vcpus: u32, views: u32) -> bool
     ensures { λ r. ⌜ r ≡ countsFit vcpus views ⌝ }
 {
-    1 <= vcpus && vcpus <= 16 && 1 <= views && views <= 8
+    if vcpus < 1 {
+        return false;
+    }
+    if 16 < vcpus {
+        return false;
+    }
+    if views < 1 {
+        return false;
+    }
+    views <= 8
 }
 
 impl Session {

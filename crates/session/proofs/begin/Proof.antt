@@ -1,0 +1,44 @@
+-- Settings in range or not. Assumes nothing.
+use mathlib.Core.Path.{sym, _∙_}
+use borrow.Author.Tests.{not-true, not-false}
+use Rattle.session.specs.Calls.{freshOf}
+use Rattle.session.specs.Code.{countsFit}
+use Rattle.kvmi.specs.Settings.{inRange}
+use borrow.Author.Needs.{needs}
+use Rattle.session.proofs.begin.Statement.{statement}
+use Rattle.session.proofs.begin.Tie as tie
+
+in-range-requires : tie.Need-in-range-requires
+in-range-requires c κs = search needs
+
+shut-requires : tie.Need-shut-requires
+shut-requires c κs = search needs
+
+returns : tie.Need-returns
+unfolding freshOf inRange countsFit
+returns c = simp (sym (c .before .before .in-range .ensures) ∙ not-true _ (c .before .if1 .taken), c .shut .ensures)
+
+clear-requires : tie.Need-clear-requires
+clear-requires c κs = search needs
+
+clear-requires-2 : tie.Need-clear-requires-2
+clear-requires-2 c κs = search needs
+
+fresh-requires : tie.Need-fresh-requires
+fresh-requires c κs = search needs
+
+returns-2 : tie.Need-returns-2
+unfolding freshOf inRange countsFit
+returns-2 c = simp (sym (c .before .before .before .before .before .before .in-range .ensures) ∙ not-false _ (c .before .before .before .before .before .if1 .left), c .before .before .before .clear .ensures, c .before .clear2 .ensures, c .fresh .ensures)
+
+pub begin-spec : {M : Type 1} → statement M
+begin-spec =
+    tie.close
+    (tie.spec
+    in-range-requires
+    shut-requires
+    returns
+    clear-requires
+    clear-requires-2
+    fresh-requires
+    returns-2)
