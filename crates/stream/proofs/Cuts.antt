@@ -1,0 +1,26 @@
+-- What is known of a message that a stream's next bytes begin. Assumes nothing.
+use mathlib.Core.Path.{_≡_, refl}
+use mathlib.Core.List.{List}
+use mathlib.Core.Bool.{Bool, true, false, cond}
+use Prim.Native.Nat.{ℕ, _+_, _≤_}
+use native.Mathlib.Omega.{arith}
+use lib.ListN.{length}
+use lib.Dec.{ltb, eqb}
+use borrow.Author.Tests.{ltb-false}
+use Rattle.stream.specs.declared.Cut.{Cut}
+use Rattle.stream.specs.declared.Cut.the-variants.{End, Tail, Long, Message}
+use Rattle.stream.specs.Cut.{cutOf, totalOf}
+
+last : (a b d : Bool) (t u : ℕ) → cond a End (cond b Tail (cond d Long (Message u))) ≡ Message t → (t ≡ u) × (d ≡ false)
+last true b d t u e = let z : _≡_ {A = ℕ} 0 1 = cc in absurd (omega arith)
+last false true d t u e = let z : _≡_ {A = ℕ} 0 1 = cc in absurd (omega arith)
+last false false true t u e = let z : _≡_ {A = ℕ} 0 1 = cc in absurd (omega arith)
+last false false false t u e = (cc, refl)
+
+-- it has its header, and no more than 65,536 bytes
+pub message-total : (head : List ℕ) (t : ℕ) → cutOf head ≡ Message t → (8 ≤ t) × (t ≤ 65536)
+unfolding cutOf totalOf
+message-total head t e =
+    let f = last (eqb (length head) 0) (ltb (length head) 8) (ltb 65536 (totalOf head)) t (totalOf head) e in
+    let g = ltb-false 65536 (totalOf head) (f .1) in
+    (omega (arith, f .0), omega (arith, f .0, g))

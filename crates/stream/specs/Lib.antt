@@ -1,0 +1,3 @@
+pub mod Cut
+pub mod Signed
+pub mod Line
