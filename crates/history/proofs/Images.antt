@@ -44,7 +44,7 @@ stated-count : (st : State) → WellFormed st → statedVcpus st ≡ st .session
 unfolding statedVcpus
 stated-count st f = let few = few-vcpus (st .session .settings) (f .settings) in omega arith
 
-stated-same : (st : State) → WellFormed st → statedTables st ≡ tablesOf st
+pub stated-same : (st : State) → WellFormed st → statedTables st ≡ tablesOf st
 unfolding statedTables
 stated-same st f =
     let n = stated-count st f in
