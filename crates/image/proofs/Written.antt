@@ -304,12 +304,12 @@ module _ (st : State) (n : ℕ) (e : n ≡ min (st .session .settings .vcpus) 16
     unfolding imageOf statedVcpus
     image-whole l = rw (eq-eqb (st .session .tool .closed) 0 live, ← e, h, le-ltb (length out) (length (image (statedTables st))) l)
 
-module _ (st : State) (n on used count : ℕ) (en : n ≡ min (st .session .settings .vcpus) 16) (eu : used ≡ min (st .session .tool .pages) (length (st .pages))) where
+module _ (st : State) (n used : ℕ) (en : n ≡ min (st .session .settings .vcpus) 16) (eu : used ≡ min (st .session .tool .pages) (length (st .pages))) where
   pub stated-tables : tables (st .session .tool .events) (st .session .ready) n used (st .vcpus) (st .pages) ≡ statedTables st
   unfolding statedTables statedVcpus
   stated-tables = rw (en, eu)
 
-  pub stated-length : on ≡ length (switchesFrom (st .vcpus) 0 (n * 16384)) → count ≡ 14 + 10 * n + 8 * on + 14 * used → count ≡ length (image (statedTables st))
-  stated-length eo ec =
+  pub stated-length : (on count : ℕ) → on ≡ length (switchesFrom (st .vcpus) 0 (n * 16384)) → count ≡ 14 + 10 * n + 8 * on + 14 * used → count ≡ length (image (statedTables st))
+  stated-length on count eo ec =
       ec ∙ sym (length-tables (st .session .tool .events) (st .session .ready) n on used (st .vcpus) (st .pages) eo (omega arith))
       ∙ ap (λ (t : Tables). length (image t)) stated-tables

@@ -28,7 +28,7 @@ size-of-requires c κs = let b = from-bound (c .before .before .before .before .
 returns : tie.Need-returns
 returns c =
     let a = c .before .before .before .before .before .before .args in
-    stated-length (state (a .s) (a .vcpus .now) (a .pages .now)) _ _ _ _ (c .before .before .before .stated .ensures) (c .before .before .smaller .ensures) (c .before .count-on .ensures) (c .size-of .ensures)
+    stated-length (state (a .s) (a .vcpus .now) (a .pages .now)) _ _ (c .before .before .before .stated .ensures) (c .before .before .smaller .ensures) _ _ (c .before .count-on .ensures) (c .size-of .ensures)
 
 pub image-size-spec : {M : Type 1} → statement M
 image-size-spec =

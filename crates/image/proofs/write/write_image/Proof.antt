@@ -49,7 +49,7 @@ returns-3 : tie.Need-returns-3
 returns-3 c =
     let a = c .before .before .before .before .before .before .before .before .before .before .before .before .args in
     let st = state (a .s) (a .vcpus .now) (a .pages .now) in
-    let size = stated-length st _ _ _ _ (c .before .before .before .before .before .before .stated .ensures) (c .before .before .before .smaller .ensures) (c .before .before .count-on .ensures) (c .before .size-of .ensures) in
+    let size = stated-length st _ _ (c .before .before .before .before .before .before .stated .ensures) (c .before .before .before .smaller .ensures) _ _ (c .before .before .count-on .ensures) (c .before .size-of .ensures) in
     let short : length (a .out .now) < length (image (statedTables st)) = rw size at (c .if3 .taken) in
     image-short st _ (c .before .before .before .before .before .before .stated .ensures) (c .before .before .before .before .before .before .before .if1 .left) _ (sym (c .before .before .before .before .before .awaits .ensures) ∙ c .before .before .before .before .if2 .left) short
 
@@ -63,8 +63,8 @@ returns-4 : tie.Need-returns-4
 returns-4 c =
     let a = c .before .before .before .before .before .before .before .before .before .before .before .before .before .before .before .before .args in
     let st = state (a .s) (a .vcpus .now) (a .pages .now) in
-    let size = stated-length st _ _ _ _ (c .before .before .before .before .before .before .before .before .before .before .stated .ensures) (c .before .before .before .before .before .before .before .smaller .ensures) (c .before .before .before .before .before .before .count-on .ensures) (c .before .before .before .before .before .size-of .ensures) in
-    let same = stated-tables st _ 0 _ 0 (c .before .before .before .before .before .before .before .before .before .before .stated .ensures) (c .before .before .before .before .before .before .before .smaller .ensures) in
+    let size = stated-length st _ _ (c .before .before .before .before .before .before .before .before .before .before .stated .ensures) (c .before .before .before .before .before .before .before .smaller .ensures) _ _ (c .before .before .before .before .before .before .count-on .ensures) (c .before .before .before .before .before .size-of .ensures) in
+    let same = stated-tables st _ _ (c .before .before .before .before .before .before .before .before .before .before .stated .ensures) (c .before .before .before .before .before .before .before .smaller .ensures) in
     let room : length (image (statedTables st)) ≤ length (a .out .now) = rw size at (c .before .before .before .before .if3 .left) in
     let there = c .before .before .put-image .ensures ∙ ap (λ (t : Tables). store (a .out .now) 0 (image t)) same in
     rw (there, size) (image-whole st _ (c .before .before .before .before .before .before .before .before .before .before .stated .ensures) (c .before .before .before .before .before .before .before .before .before .before .before .if1 .left) _ (sym (c .before .before .before .before .before .before .before .before .before .awaits .ensures) ∙ c .before .before .before .before .before .before .before .before .if2 .left) room)
