@@ -1,1 +1,2 @@
 // The table image of a session: written, and read.
+pub mod read;
