@@ -155,23 +155,25 @@ module _ (s : Settings) (l : List ℕ) (o : Outcome) where
         let i : f .0 ≡ p .count = eqb-true (f .0) (p .count) (search (and-l, and-r) depth 8) in
         let w : f .0 < s .vcpus = ltb-true (f .0) (s .vcpus) (search (and-l, and-r) depth 8) in
         let small : p .count < 64 = omega (arith, st .few) in
-        let len = length-snoc (t .vcpus) (vcpuOfRow f) in
-        (record {
-          tables = withRecord VC t f;
-          least = suc (orderOf VC f);
-          stands = record {
-            few = st .few;
-            inside = room;
-            count = omega (arith, len, st .count);
-            ready = ready-snoc 0 0 (t .vcpus) (vcpuOfRow f) ∙ rw (zero-add, st .ready, st .count, lt-ltb (p .count) 64 small);
-            pages = st .pages;
-            events = st .events;
-            records = omega (arith, len, st .records);
-            bound = omega (arith, st .bound);
-            order = refl;
-          };
-          goes = d;
-        }, omega arith))
+        let len = length-snoc (t .vcpus) (vcpuOfRow f) in (
+          record {
+            tables = withRecord VC t f;
+            least = suc (orderOf VC f);
+            stands = record {
+              few = st .few;
+              inside = room;
+              count = omega (arith, len, st .count);
+              ready = ready-snoc 0 0 (t .vcpus) (vcpuOfRow f) ∙ rw (zero-add, st .ready, st .count, lt-ltb (p .count) 64 small);
+              pages = st .pages;
+              events = st .events;
+              records = omega (arith, len, st .records);
+              bound = omega (arith, st .bound);
+              order = refl;
+            };
+            goes = d;
+          },
+          omega arith,
+        ))
 
     ms-same : (j : ℕ) (b : Bool) → (ltb j (length (t .vcpus)) && b && getD (t .vcpus) j resting .ready) ≡ (ltb j (p .count) && b && isOn (p .ready) j)
     ms-same j b = rw (← st .count, ← st .ready) (⊎-elim
@@ -189,23 +191,25 @@ module _ (s : Settings) (l : List ℕ) (o : Outcome) where
         let g : outcome (judge (fitsIn MS (s .vcpus) lo t f) true (p .at) next) ≡ o = rw (rest-whole l (p .at) MS m) at e in
         judge-goes (p .at) (isAfter p 2 (f .0) (f .1 .0) && eqb (p .count) (s .vcpus) && msFits p f) true (p .at) next (pastMs p f) (rw same at g)
         (λ a b d.
-        let len = length-snoc (t .msrs) (msrOfRow f) in
-        (record {
-          tables = withRecord MS t f;
-          least = suc (orderOf MS f);
-          stands = record {
-            few = st .few;
-            inside = room;
-            count = st .count;
-            ready = st .ready;
-            pages = st .pages;
-            events = st .events;
-            records = omega (arith, len, st .records);
-            bound = omega (arith, st .bound);
-            order = refl;
-          };
-          goes = d;
-        }, omega arith))
+        let len = length-snoc (t .msrs) (msrOfRow f) in (
+          record {
+            tables = withRecord MS t f;
+            least = suc (orderOf MS f);
+            stands = record {
+              few = st .few;
+              inside = room;
+              count = st .count;
+              ready = st .ready;
+              pages = st .pages;
+              events = st .events;
+              records = omega (arith, len, st .records);
+              bound = omega (arith, st .bound);
+              order = refl;
+            };
+            goes = d;
+          },
+          omega arith,
+        ))
 
     pa-goes : markAt l (p .at) ≡ Pa → outcome (loadRest s (s .vcpus) (p .at) lo t (recordsAt l (p .at))) ≡ o → Goes (p .at) (paStep s p (rowAt PA l (p .at)))
     unfolding paStep paFits isAfter
@@ -217,23 +221,25 @@ module _ (s : Settings) (l : List ℕ) (o : Outcome) where
         let g : outcome (judge (fitsIn PA (s .vcpus) lo t f) (mayOf PA s f) (p .at) next) ≡ o = rw (rest-whole l (p .at) PA m) at e in
         judge-goes (p .at) (isAfter p 3 (f .0) (f .1 .1 .1 .0) && eqb (p .count) (s .vcpus) && paFits p f) (mayOf PA s f) (p .at) next (pastPa p f) (rw same at g)
         (λ a b d.
-        let len = length-snoc (t .pages) (pageOfRow f) in
-        (record {
-          tables = withRecord PA t f;
-          least = suc (orderOf PA f);
-          stands = record {
-            few = st .few;
-            inside = room;
-            count = st .count;
-            ready = st .ready;
-            pages = omega (arith, len, st .pages);
-            events = st .events;
-            records = omega (arith, len, st .records);
-            bound = omega (arith, st .bound);
-            order = refl;
-          };
-          goes = d;
-        }, omega arith))
+        let len = length-snoc (t .pages) (pageOfRow f) in (
+          record {
+            tables = withRecord PA t f;
+            least = suc (orderOf PA f);
+            stands = record {
+              few = st .few;
+              inside = room;
+              count = st .count;
+              ready = st .ready;
+              pages = omega (arith, len, st .pages);
+              events = st .events;
+              records = omega (arith, len, st .records);
+              bound = omega (arith, st .bound);
+              order = refl;
+            };
+            goes = d;
+          },
+          omega arith,
+        ))
 
     en-goes : markAt l (p .at) ≡ En → outcome (loadRest s (s .vcpus) (p .at) lo t (recordsAt l (p .at))) ≡ o → Goes (p .at) (enStep s (length l) p (rowAt EN l (p .at)))
     unfolding enStep isAfter
@@ -276,23 +282,25 @@ module _ (s : Settings) (l : List ℕ) (o : Outcome) where
       judge-goes 0 (eqb (f .0) 1 && vmForm (f .1 .0) (f .1 .1 .0)) (vmMay s (f .1 .0) (f .1 .1 .0)) 0 next (firstProgress (f .1 .1 .0)) g
       (λ a b d.
       let n : f .1 .0 ≡ s .vcpus = eqb-true (f .1 .0) (s .vcpus) (search (and-l, and-r) depth 8) in
-      let w : f .1 .0 ≤ 16 = leb-true (f .1 .0) 16 (search (and-l, and-r) depth 8) in
-      (record {
-        tables = stated (f .1 .1 .0);
-        least = suc (place 0 0 0);
-        stands = record {
-          few = omega arith;
-          inside = omega arith;
-          count = refl;
-          ready = refl;
-          pages = refl;
-          events = refl;
-          records = refl;
-          bound = omega arith;
-          order = refl;
-        };
-        goes = rw n at d;
-      }, omega arith))
+      let w : f .1 .0 ≤ 16 = leb-true (f .1 .0) 16 (search (and-l, and-r) depth 8) in (
+        record {
+          tables = stated (f .1 .1 .0);
+          least = suc (place 0 0 0);
+          stands = record {
+            few = omega arith;
+            inside = omega arith;
+            count = refl;
+            ready = refl;
+            pages = refl;
+            events = refl;
+            records = refl;
+            bound = omega arith;
+            order = refl;
+          };
+          goes = rw n at d;
+        },
+        omega arith,
+      ))
 
   first-by : (m : Mark) → markAt l 0 ≡ m → outcome (loadRecords s (recordsAt l 0)) ≡ o → Goes 0 (firstBy s l m)
   unfolding firstBy outcome recordsAt

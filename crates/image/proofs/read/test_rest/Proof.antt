@@ -35,7 +35,7 @@ enum-known-step c = search needs
 
 -- src/read.rt:515:17
 returns : tie.Need-returns Inv-loop μ-loop
-returns c = stopped (c .before .before .before .before .before .before .args .s) (now (c .before .before .before .before .before .before .args .l)) _ (c .before .before .before .before .loop .p .at) (c .before .before .before .next-step .result) _ (c .before .step .given .1) (rw (c .before .before .before .next-step .ensures) (next-goes _ _ _ (c .before .before .before .before .loop .p) (c .before .before .before .before .loop .inv)))
+returns c = stopped (c .before .before .before .before .before .before .args .s) (now (c .before .before .before .before .before .before .args .l)) (outcome (loadImage (c .before .before .before .before .before .before .args .s) (now (c .before .before .before .before .before .before .args .l)))) (c .before .before .before .before .loop .p .at) (c .before .before .before .next-step .result) _ (c .before .step .given .1) (rw (c .before .before .before .next-step .ensures) (next-goes (c .before .before .before .before .before .before .args .s) (now (c .before .before .before .before .before .before .args .l)) (outcome (loadImage (c .before .before .before .before .before .before .args .s) (now (c .before .before .before .before .before .before .args .l)))) (c .before .before .before .before .loop .p) (c .before .before .before .before .loop .inv)))
 
 -- src/read.rt:517:26
 enum-known-step-2 : tie.Need-enum-known-step-2 Inv-loop μ-loop
@@ -43,11 +43,11 @@ enum-known-step-2 c = search needs
 
 -- src/read.rt:511:5
 loop-less : tie.Need-loop-less Inv-loop μ-loop
-loop-less c = let w = went (c .before .before .before .before .before .before .args .s) (now (c .before .before .before .before .before .before .args .l)) _ (c .before .before .before .before .loop .p .at) (c .before .before .before .next-step .result) _ (c .before .step2 .given .1) (rw (c .before .before .before .next-step .ensures) (next-goes _ _ _ (c .before .before .before .before .loop .p) (c .before .before .before .before .loop .inv))) in omega (arith, w .1, w .0 .stands .inside)
+loop-less c = let w = went (c .before .before .before .before .before .before .args .s) (now (c .before .before .before .before .before .before .args .l)) (outcome (loadImage (c .before .before .before .before .before .before .args .s) (now (c .before .before .before .before .before .before .args .l)))) (c .before .before .before .before .loop .p .at) (c .before .before .before .next-step .result) _ (c .before .step2 .given .1) (rw (c .before .before .before .next-step .ensures) (next-goes (c .before .before .before .before .before .before .args .s) (now (c .before .before .before .before .before .before .args .l)) (outcome (loadImage (c .before .before .before .before .before .before .args .s) (now (c .before .before .before .before .before .before .args .l)))) (c .before .before .before .before .loop .p) (c .before .before .before .before .loop .inv))) in omega (arith, w .1, w .0 .stands .inside)
 
 -- src/read.rt:511:5
 loop-again : tie.Need-loop-again Inv-loop μ-loop
-loop-again c = went (c .before .before .before .before .before .before .args .s) (now (c .before .before .before .before .before .before .args .l)) _ (c .before .before .before .before .loop .p .at) (c .before .before .before .next-step .result) _ (c .before .step2 .given .1) (rw (c .before .before .before .next-step .ensures) (next-goes _ _ _ (c .before .before .before .before .loop .p) (c .before .before .before .before .loop .inv))) .0
+loop-again c = went (c .before .before .before .before .before .before .args .s) (now (c .before .before .before .before .before .before .args .l)) (outcome (loadImage (c .before .before .before .before .before .before .args .s) (now (c .before .before .before .before .before .before .args .l)))) (c .before .before .before .before .loop .p .at) (c .before .before .before .next-step .result) _ (c .before .step2 .given .1) (rw (c .before .before .before .next-step .ensures) (next-goes (c .before .before .before .before .before .before .args .s) (now (c .before .before .before .before .before .before .args .l)) (outcome (loadImage (c .before .before .before .before .before .before .args .s) (now (c .before .before .before .before .before .before .args .l)))) (c .before .before .before .before .loop .p) (c .before .before .before .before .loop .inv))) .0
 
 pub test-rest-spec : {M : Type 1} → statement M
 test-rest-spec =
