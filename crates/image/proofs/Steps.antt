@@ -36,7 +36,7 @@ use Rattle.image.specs.Test.{named, markAt, rowAt, judgeStep, isAfter, v
 use Rattle.image.proofs.Tests.{size-least, mark-kind, mark-cut, mark-room}
 
 -- ---- the numbers of a record
-row-there : (k : Kind) (l : List ℕ) (at : ℕ) → at + size k ≤ length l → readRow (2 ∷ widths k) (drop at l) .1 ≡ rowAt k l at
+pub row-there : (k : Kind) (l : List ℕ) (at : ℕ) → at + size k ≤ length l → readRow (2 ∷ widths k) (drop at l) .1 ≡ rowAt k l at
 unfolding readRow
 row-there VM l at h =
     simp (drop-drop, add-assoc, load-whole 2 l (at + 2) (omega arith), load-whole 2 l (at + 4) (omega arith), load-whole 2 l (at + 6) (omega arith))
@@ -66,20 +66,20 @@ row-there PA l at h =
 row-there EN l at h = simp (drop-drop, add-assoc, load-whole 4 l (at + 2) (omega arith))
 
 -- ---- the records from a place on
-cut-none : (s : Settings) (n off lo : ℕ) (t : Tables) (r : List ℕ) → kindAt r ≡ none → loadRest s n off lo t (parse (length r) r) ≡ badForm off
+pub cut-none : (s : Settings) (n off lo : ℕ) (t : Tables) (r : List ℕ) → kindAt r ≡ none → loadRest s n off lo t (parse (length r) r) ≡ badForm off
 cut-none s n off lo t [] e = refl
 cut-none s n off lo t (b ∷ r) e = ap (loadRest s n off lo t) (parse-next b r ∙ ap (from (λ x. parse (length x) x) (b ∷ r)) e)
 
-first-none : (s : Settings) (r : List ℕ) → kindAt r ≡ none → loadRecords s (parse (length r) r) ≡ badForm 0
+pub first-none : (s : Settings) (r : List ℕ) → kindAt r ≡ none → loadRecords s (parse (length r) r) ≡ badForm 0
 first-none s [] e = refl
 first-none s (b ∷ r) e = ap (loadRecords s) (parse-next b r ∙ ap (from (λ x. parse (length x) x) (b ∷ r)) e)
 
-whole-some : (r : List ℕ) (k : Kind) → kindAt r ≡ some k → size k ≤ length r
+pub whole-some : (r : List ℕ) (k : Kind) → kindAt r ≡ some k → size k ≤ length r
     → parse (length r) r ≡ whole k (readRow (2 ∷ widths k) r .1) ∷ parse (length (drop (size k) r)) (drop (size k) r)
 whole-some [] k e h = let w = size-least k in absurd (omega arith)
 whole-some (b ∷ r) k e h = parse-next b r ∙ ap (from (λ x. parse (length x) x) (b ∷ r)) e
 
-rest-whole : (l : List ℕ) (at : ℕ) (k : Kind) → markAt l at ≡ named k → recordsAt l at ≡ whole k (rowAt k l at) ∷ recordsAt l (at + size k)
+pub rest-whole : (l : List ℕ) (at : ℕ) (k : Kind) → markAt l at ≡ named k → recordsAt l at ≡ whole k (rowAt k l at) ∷ recordsAt l (at + size k)
 unfolding recordsAt
 rest-whole l at k e =
     let o = mark-kind l at k e in

@@ -1,3 +1,4 @@
 pub mod Write
 pub mod Read
 pub mod Test
+pub mod Load

@@ -1,5 +1,10 @@
 // The image reader: one pass tests every record and changes nothing, and one loads what an accepted image states.
+use kvmi::Answer;
 use kvmi::Settings;
+use kvmi::Signal;
+use session::Done;
+use session::Session;
+use session::Tool;
 ghost use mathlib.Core.Path.{_≡_};
 ghost use mathlib.Core.Bool.{_||_};
 ghost use Prim.Native.Nat.{_+_, _-_, _≤_, _%_};
@@ -10,6 +15,19 @@ ghost use Rattle.kvmi.specs.Record.{VM, VC, MS, PA, EN};
 ghost use Rattle.kvmi.specs.Settings.{allowsEvent};
 ghost use Rattle.kvmi.specs.Tables.{isMsr};
 ghost use Rattle.kvmi.specs.Image.{vcpuOfRow, vmForm, vmMay, mayEnable, vcMay, paForm, loadImage};
+ghost use mathlib.Core.Bool.{true};
+ghost use lib.ListN.{set};
+ghost use Rattle.kvmi.specs.declared.Settings.{Settings};
+ghost use Rattle.kvmi.specs.Bits.{bit};
+ghost use Rattle.kvmi.specs.Tables.{Tables};
+ghost use Rattle.kvmi.specs.Image.{loaded};
+ghost use Rattle.store.specs.Words.{setMsrBit};
+ghost use Rattle.image.specs.Read.{vcpuLoaded, vcpusLoaded, msrsLoaded, pagesLoaded, readOf};
+ghost use mathlib.Core.List.{[]};
+ghost use Rattle.session.specs.State.{closedSession};
+ghost use Rattle.session.specs.Calls.{told};
+ghost use Rattle.session.specs.Code.{countsFit};
+ghost use Rattle.image.specs.Load.{openedSession, sizeBy, pageBy, wordOf, vcpusBy, pagesBy};
 ghost use Rattle.image.specs.declared.read.Outcome.the-variants.{BadForm, Forbidden};
 ghost use Rattle.image.specs.declared.read.Step.the-variants.{Stop};
 ghost use Rattle.image.specs.Test.{markIn, markAt, rowAt, isAfter, vcFits, msFits, paFits, vmStep, vcStep, msStep, paStep, enStep, stepOf, firstBy, outcome, Rest};
@@ -529,5 +547,215 @@ fn test(s: Settings, l: &[u8]) -> Outcome
     match first {
         Step::Stop { outcome } => outcome,
         Step::Next { progress } => test_rest(s, l, progress),
+    }
+}
+
+// The bytes of a record that loads words.
+fn size_of(mark: Mark) -> usize
+    ensures { λ r. ⌜ r ≡ sizeBy mark ⌝ }
+{
+    match mark {
+        Mark::Vc => 10,
+        Mark::Ms => 8,
+        Mark::Pa => 14,
+        Mark::Vm => 0,
+        Mark::En => 0,
+        Mark::Cut => 0,
+    }
+}
+
+// How many page words it loads.
+fn pages_of(mark: Mark) -> usize
+    ensures { λ r. ⌜ r ≡ pageBy mark ⌝ }
+{
+    match mark {
+        Mark::Pa => 1,
+        Mark::Vc => 0,
+        Mark::Ms => 0,
+        Mark::Vm => 0,
+        Mark::En => 0,
+        Mark::Cut => 0,
+    }
+}
+
+fn bit_of(on: bool) -> u64
+    ensures { λ r. ⌜ r ≡ bit on ⌝ }
+{
+    if on { 1 } else { 0 }
+}
+
+// The word of a page.
+fn word_of(view: u16, page: u64, access: u8) -> u64
+    ensures { λ r. ⌜ r ≡ wordOf view page access ⌝ }
+{
+    (view % 8) as u64 * 36028797018963968 + (page % PAGES) * 8 + access as u64
+}
+
+fn load_vc(vcpus: &mut [u64], l: &[u8], at: usize)
+    requires { ⌜ at + 10 ≤ length (now l) ⌝ }
+    ensures { λ _. ⌜ now (vcpus .exit) ≡ vcpuLoaded (now (vcpus .entry)) (rowAt VC (now (l .entry)) at .0) (vcpuOfRow (rowAt VC (now (l .entry)) at)) ⌝ }
+{
+    let i = wire::load16(l, at + 2);
+    let step = bit_of(wire::byte(l, at + 4) / 2 == 1);
+    let crs = wire::byte(l, at + 5);
+    let events = wire::load16(l, at + 6);
+    let pauses = wire::byte(l, at + 8);
+    store::words::write_field(vcpus, i, store::words::SINGLESTEP, step);
+    store::words::write_field(vcpus, i, store::words::CRS, crs as u64);
+    store::words::write_field(vcpus, i, store::words::EVENTS, events as u64);
+    store::words::write_field(vcpus, i, store::words::PAUSES, pauses as u64);
+}
+
+fn load_ms(vcpus: &mut [u64], l: &[u8], at: usize)
+    requires { ⌜ at + 8 ≤ length (now l) ⌝ }
+    ensures { λ _. ⌜ now (vcpus .exit) ≡ setMsrBit (now (vcpus .entry)) (rowAt MS (now (l .entry)) at .0) (rowAt MS (now (l .entry)) at .1 .0) true ⌝ }
+{
+    store::words::write_msr(
+        vcpus,
+        wire::load16(l, at + 2),
+        wire::load32(l, at + 4),
+        true,
+    );
+}
+
+fn load_pa(pages: &mut [u64], l: &[u8], at: usize, i: usize)
+    requires { ⌜ at + 14 ≤ length (now l) ⌝ }
+    ensures { λ _. ⌜ now (pages .exit) ≡ set (now (pages .entry)) i (wordOf (rowAt PA (now (l .entry)) at .0) (rowAt PA (now (l .entry)) at .1 .1 .1 .0) (rowAt PA (now (l .entry)) at .1 .0)) ⌝ }
+{
+    let word = word_of(
+        wire::load16(l, at + 2),
+        wire::load64(l, at + 6),
+        wire::byte(l, at + 4),
+    );
+    if i < pages.len() {
+        pages[i] = word;
+    }
+}
+
+fn load_record(mark: Mark, vcpus: &mut [u64], pages: &mut [u64], l: &[u8], at: usize, i: usize)
+    requires { ⌜ mark ≡ markAt (now l) at ⌝ }
+    ensures { λ _. ⌜ (now (vcpus .exit) ≡ vcpusBy mark (now (l .entry)) at (now (vcpus .entry))) × (now (pages .exit) ≡ pagesBy mark (now (l .entry)) at i (now (pages .entry))) ⌝ }
+{
+    match mark {
+        Mark::Vc => load_vc(vcpus, l, at),
+        Mark::Ms => load_ms(vcpus, l, at),
+        Mark::Pa => load_pa(pages, l, at, i),
+        Mark::Vm => {}
+        Mark::En => {}
+        Mark::Cut => {}
+    }
+}
+
+// What an accepted image states, onto cleared words.
+fn load(l: &[u8], vcpus: &mut [u64], pages: &mut [u64])
+    ensures { λ _. ⌜ ((s : Settings) (u : Tables) → loadImage s (now (l .entry)) ≡ loaded u → (now (vcpus .exit) ≡ msrsLoaded (vcpusLoaded (now (vcpus .entry)) 0 (u .vcpus)) (u .msrs)) × (now (pages .exit) ≡ pagesLoaded (now (pages .entry)) 0 (u .pages))) ⌝ }
+{
+    let mut at: usize = 8;
+    let mut i: usize = 0;
+    loop {
+        let mark = mark_at(l, at);
+        let size = size_of(mark);
+        if size == 0 {
+            return;
+        }
+        load_record(mark, vcpus, pages, l, at, i);
+        i += pages_of(mark);
+        at += size;
+    }
+}
+
+// Fresh, but closed.
+fn shut(settings: Settings) -> Session
+    ensures { λ r. ⌜ r ≡ closedSession settings ⌝ }
+{
+    let tool = Tool {
+        events: 0,
+        pages: 0,
+        closed: 1,
+        mode: 0,
+        seq: 0,
+    };
+    Session {
+        settings,
+        tool,
+        ready: 0,
+    }
+}
+
+// Open, with what an image states beside the words.
+fn opened(settings: Settings, events: u64, pages: u64, ready: u64) -> Session
+    ensures { λ r. ⌜ r ≡ openedSession settings events pages ready ⌝ }
+{
+    let tool = Tool {
+        events,
+        pages,
+        closed: 0,
+        mode: 0,
+        seq: 0,
+    };
+    Session {
+        settings,
+        tool,
+        ready,
+    }
+}
+
+fn in_range(vcpus: u32, views: u32) -> bool
+    ensures { λ r. ⌜ r ≡ countsFit vcpus views ⌝ }
+{
+    if vcpus < 1 {
+        return false;
+    }
+    if 16 < vcpus {
+        return false;
+    }
+    if views < 1 {
+        return false;
+    }
+    views <= 8
+}
+
+// A session begins as an image states, on whatever words are lent. Settings out of range and an image that is not accepted
+// are refused: no word changes, and the session that is handed back is closed.
+pub fn read_image(
+    settings: Settings,
+    l: &[u8],
+    vcpus: &mut [u64; 4352],
+    pages: &mut [u64; 1024],
+) -> Done
+    ensures { λ r. ⌜ told r (now (vcpus .exit)) (now (pages .exit)) [] [] ≡ readOf settings (now (l .entry)) (now (vcpus .entry)) (now (pages .entry)) ⌝ }
+{
+    if !in_range(settings.vcpus, settings.views) {
+        return Done {
+            answer: Answer::BadSettings,
+            session: shut(settings),
+        };
+    }
+    let tested = test(settings, l);
+    match tested {
+        Outcome::BadForm { offset } => Done {
+            answer: Answer::BadForm { offset },
+            session: shut(settings),
+        },
+        Outcome::Forbidden { offset } => Done {
+            answer: Answer::Forbidden { offset },
+            session: shut(settings),
+        },
+        Outcome::Accepted {
+            events,
+            pages: count,
+            ready,
+        } => {
+            store::words::clear(vcpus);
+            store::words::clear(pages);
+            load(l, vcpus, pages);
+            Done {
+                answer: Answer::Handled {
+                    count: 0,
+                    signal: Signal::Quiet,
+                },
+                session: opened(settings, events, count as u64, ready),
+            }
+        }
     }
 }
