@@ -1,19 +1,18 @@
 -- One record more of an accepted image: the words hold what the records before it state. Assumes nothing.
-use mathlib.Core.Path.{_≡_, refl, sym, ap, _∙_}
+use mathlib.Core.Path.{_≡_, refl, sym, _∙_}
 use mathlib.Core.Logic.{_⊎_, inl, inr, ⊎-elim}
-use Prim.Native.Nat.{ℕ, zero, suc, _+_, _-_, _*_, _%_, _^_, _≤_, _<_}
+use Prim.Native.Nat.{ℕ, zero, suc, _+_, _-_, _%_, _^_, _≤_, _<_}
 use native.Mathlib.Nat.{add-zero, zero-add, suc-add, add-suc}
 use native.Mathlib.Omega.{arith}
 use mathlib.Core.List.{List, [], _∷_, _++_}
-use mathlib.Core.Bool.{Bool, true, false, _&&_, So}
+use mathlib.Core.Bool.{true, _&&_, So}
 use lib.ListN.{length, set, drop}
-use lib.Dec.{eqb, leb, ltb}
+use lib.Dec.{eqb}
 use borrow.Author.Tests.{leb-true, eqb-true, ltb-true}
 use Rattle.kvmi.specs.declared.Settings.{Settings}
-use Rattle.kvmi.specs.Row.{Row}
-use Rattle.kvmi.specs.Record.{Kind, VM, VC, MS, PA, EN, widths, size, Rec, whole, cut, place, orderOf, parse}
+use Rattle.kvmi.specs.Record.{VM, VC, MS, PA, EN, Rec, place, orderOf}
 use Rattle.kvmi.specs.Tables.{Vcpu, Msr, Page, Tables}
-use Rattle.kvmi.specs.Image.{vcpuOfRow, msrOfRow, pageOfRow, withRecord, vmForm, vmMay, paForm, Loaded, loaded, badForm, forbidden, judge, ending, fitsIn, mayOf, loadRest, stated, loadRecords, loadImage}
+use Rattle.kvmi.specs.Image.{vcpuOfRow, pageOfRow, withRecord, vmForm, vmMay, paForm, Loaded, loaded, badForm, forbidden, judge, ending, fitsIn, mayOf, loadRest, stated, loadRecords, loadImage}
 use Rattle.store.specs.Words.{setMsrBit, cleared}
 use Rattle.laws.proofs.Bool.{and-l, and-r, length-snoc}
 use Rattle.laws.proofs.Load.{judged, refused}
@@ -25,9 +24,9 @@ use Rattle.image.specs.declared.read.Outcome.the-variants.{Accepted, Bad
 use Rattle.image.specs.Read.{vcpuLoaded, vcpusLoaded, msrsLoaded, readyLoaded, pageWord, pagesLoaded, loadedState, toldRefused, toldLoaded}
 use Rattle.image.specs.declared.read.Mark.{Mark}
 use Rattle.image.specs.declared.read.Mark.the-variants.{Vm, Vc, Ms, Pa, En, Cut}
-use Rattle.image.specs.Test.{named, markAt, rowAt, recordsAt, outcome}
+use Rattle.image.specs.Test.{markAt, rowAt, recordsAt, outcome}
 use Rattle.image.specs.Load.{sizeBy, pageBy, wordOf, vcpusBy, pagesBy, openedSession}
-use Rattle.image.proofs.Tests.{mark-kind, mark-cut, mark-room}
+use Rattle.image.proofs.Tests.{mark-cut, mark-room}
 use Rattle.image.proofs.Steps.{rest-whole, cut-none, first-none}
 
 -- ---- one element more

@@ -2,24 +2,22 @@
 use mathlib.Core.Path.{_≡_, refl, sym, ap, _∙_}
 use Prim.Native.Nat.{ℕ, zero, suc, _+_, _-_, _≤_, _<_}
 use native.Mathlib.Nat.{add-assoc, add-zero, zero-add, suc-add, add-suc, not-suc-le-zero, le-refl, le-of-suc-le-suc}
-use native.Mathlib.Numerals.{add-one}
 use native.Mathlib.Omega.{arith}
 use mathlib.Core.List.{List, [], _∷_, _++_}
 use mathlib.Core.Bool.{Bool, true, false, cond, _&&_, So}
 use mathlib.Core.Option.{Option, none, some}
 use lib.ListN.{length, getD, drop, length-drop}
 use lib.Seq.{drop-drop}
-use lib.Dec.{eqb, leb, ltb}
-use mathlib.Core.Logic.{_⊎_, inl, inr, ⊎-elim}
-use borrow.Author.Tests.{leb-true, eqb-true, ltb-true, lt-ltb, le-ltb, eq-eqb, ne-eqb, le-leb}
-use Rattle.wire.specs.Bytes.{num, load}
+use lib.Dec.{eqb, ltb}
+use mathlib.Core.Logic.{_⊎_, ⊎-elim}
+use borrow.Author.Tests.{leb-true, eqb-true, ltb-true, lt-ltb, le-ltb, eq-eqb, ne-eqb}
 use Rattle.wire.proofs.Laws.{le-or-lt, load-whole, load-byte}
 use Rattle.kvmi.specs.declared.Settings.{Settings}
 use Rattle.kvmi.specs.Bits.{isOn, putBit}
-use Rattle.kvmi.specs.Row.{Row, readRow}
-use Rattle.kvmi.specs.Record.{Kind, VM, VC, MS, PA, EN, widths, size, Rec, whole, cut, place, orderOf, kindAt, from, parse}
+use Rattle.kvmi.specs.Row.{readRow}
+use Rattle.kvmi.specs.Record.{Kind, VM, VC, MS, PA, EN, widths, size, Rec, whole, place, orderOf, kindAt, from, parse}
 use Rattle.kvmi.specs.Tables.{Vcpu, Tables, resting, isMsr}
-use Rattle.kvmi.specs.Image.{recordCount, vcpuOfRow, msrOfRow, pageOfRow, withRecord, vmForm, vmMay, msForm, Loaded, loaded, badForm, forbidden, judge, ending, fitsIn, mayOf, loadRest, stated, loadRecords, loadImage}
+use Rattle.kvmi.specs.Image.{vcpuOfRow, msrOfRow, pageOfRow, withRecord, vmForm, vmMay, msForm, Loaded, loaded, badForm, judge, ending, fitsIn, mayOf, loadRest, stated, loadRecords, loadImage}
 use Rattle.laws.proofs.Bool.{and-l, and-r, length-snoc, test}
 use Rattle.laws.proofs.Bits.{on-put, on-put-other}
 use Rattle.laws.proofs.Record.{parse-next, kind-found}
@@ -29,7 +27,6 @@ use Rattle.image.specs.declared.read.Mark.{Mark}
 use Rattle.image.specs.declared.read.Mark.the-variants.{Vm, Vc, Ms, Pa, En, Cut}
 use Rattle.image.specs.declared.read.Progress.{Progress}
 use Rattle.image.specs.declared.read.Outcome.{Outcome}
-use Rattle.image.specs.declared.read.Outcome.the-variants.{Accepted, BadForm, Forbidden}
 use Rattle.image.specs.declared.read.Step.{Step}
 use Rattle.image.specs.declared.read.Step.the-variants.{Next, Stop}
 use Rattle.image.specs.Test.{named, markAt, rowAt, judgeStep, isAfter, vcFits, msFits, paFits, firstProgress, pastVc, pastMs, pastPa, vmStep, vcStep, msStep, paStep, endStep, enStep, stepBy, stepOf, firstBy, outcome, Stands, recordsAt, Rest}

@@ -1,25 +1,19 @@
 --  Assumes nothing.
 use Rattle.image.proofs.Tests.{after-kind, after-major, after-minor}
 -- By kind, then major, then minor. Assumes nothing.
-use borrow.Author.Tests.{lt-ltb, le-ltb, le-leb, lt-leb, eq-eqb, ne-eqb, not-true, not-false}
 use native.Mathlib.Omega.{arith}
 use Rattle.image.specs.Test.{isAfter}
 use Rattle.image.proofs.read.is_after.Statement.{statement}
 use Rattle.image.proofs.read.is_after.Tie as tie
-use Rattle.image.proofs.read.is_after.Reads as reads
-use Rattle.image.proofs.read.is_after.Lts as lts
 
--- src/read.rt:159:9
 returns : tie.Need-returns
 unfolding isAfter
 returns c = after-kind _ (c .before .before .before .args .p .major) (c .before .before .before .args .p .minor) _ (c .before .before .before .args .major) (c .before .before .before .args .minor) (c .before .if1 .taken) (omega arith) (omega arith) (omega arith) (omega arith)
 
--- src/read.rt:162:9
 returns-2 : tie.Need-returns-2
 unfolding isAfter
 returns-2 c = after-major (c .before .before .before .before .before .args .p .kind) _ (c .before .before .before .before .before .args .p .minor) (c .before .before .before .before .before .args .kind) _ (c .before .before .before .before .before .args .minor) (c .before .before .before .if1 .left) (c .before .if2 .taken) (omega arith) (omega arith)
 
--- src/read.rt:155:1
 returns-3 : tie.Need-returns-3
 unfolding isAfter
 returns-3 c = after-minor (c .before .before .before .before .before .args .p .kind) (c .before .before .before .before .before .args .p .major) _ (c .before .before .before .before .before .args .kind) (c .before .before .before .before .before .args .major) _ (c .before .before .before .if1 .left) (c .before .if2 .left)

@@ -1,22 +1,17 @@
 -- Each range by itself. Assumes nothing.
-use borrow.Author.Tests.{lt-ltb, le-ltb, le-leb, lt-leb, eq-eqb, ne-eqb, not-true, not-false}
+use borrow.Author.Tests.{le-leb, lt-leb}
 use Rattle.kvmi.specs.Tables.{isMsr}
 use Rattle.image.proofs.read.is_msr.Statement.{statement}
 use Rattle.image.proofs.read.is_msr.Tie as tie
-use Rattle.image.proofs.read.is_msr.Reads as reads
-use Rattle.image.proofs.read.is_msr.Lts as lts
 
--- src/read.rt:171:9
 returns : tie.Need-returns
 unfolding isMsr
 returns c = rw (le-leb _ _ (c .if1 .taken))
 
--- src/read.rt:174:9
 returns-2 : tie.Need-returns-2
 unfolding isMsr
 returns-2 c = rw (lt-leb _ _ (c .before .if1 .left), lt-leb _ _ (c .if2 .taken))
 
--- src/read.rt:167:1
 returns-3 : tie.Need-returns-3
 unfolding isMsr
 returns-3 c = rw (lt-leb _ _ (c .before .if1 .left), le-leb _ _ (c .if2 .left))

@@ -3,8 +3,8 @@ use mathlib.Core.Path.{_≡_, refl, sym, ap, _∙_}
 use native.Mathlib.Omega.{arith}
 use borrow.Author.Needs.{needs}
 use denote.Ref.{now}
-use Rattle.image.specs.Load.{sizeBy, pageBy, wordOf, vcpusBy, pagesBy}
-use Prim.Native.Nat.{ℕ, _-_, _≤_, _<_}
+use Rattle.image.specs.Load.{sizeBy, pageBy}
+use Prim.Native.Nat.{_-_, _≤_, _<_}
 use lib.ListN.{length}
 use Rattle.kvmi.specs.declared.Settings.{Settings}
 use Rattle.kvmi.specs.Tables.{Tables}
@@ -13,12 +13,6 @@ use Rattle.image.specs.Test.{markAt}
 use Rattle.image.proofs.Loads.{Loading, load-begins, load-ended, load-more, load-room, page-small, some-size}
 use Rattle.image.proofs.read.load.Statement.{statement}
 use Rattle.image.proofs.read.load.Tie as tie
-use Rattle.image.proofs.read.load.Reads as reads
-use Rattle.image.proofs.read.load.Lts as lts
-use Rattle.image.proofs.read.load_record.Reads as load-record-reads
-use Rattle.image.proofs.read.mark_at.Reads as mark-at-reads
-use Rattle.image.proofs.read.pages_of.Reads as pages-of-reads
-use Rattle.image.proofs.read.size_of.Reads as size-of-reads
 
 abbrev Inv-loop : tie.InvT-loop
 Inv-loop l vcpus₀ pages₀ at₀ i₀ vcpus pages at i = (i ≤ at) × (length vcpus ≡ length vcpus₀) × (length pages ≡ length pages₀) × ((s : Settings) (u : Tables) → loadImage s l ≡ loaded u → Loading s l u vcpus₀ pages₀ at i vcpus pages)
@@ -26,51 +20,39 @@ Inv-loop l vcpus₀ pages₀ at₀ i₀ vcpus pages at i = (i ≤ at) × (length
 abbrev μ-loop : tie.MeasureT-loop
 μ-loop l vcpus₀ pages₀ at₀ i₀ vcpus pages at i = length l - at
 
--- src/read.rt:637:5
 loop-holds : tie.Need-loop-holds Inv-loop μ-loop
 loop-holds c = (omega arith, refl, refl, λ s u e. load-begins s (now (c .before .before .before .args .l)) u _ _ e)
 
--- src/read.rt:638:13
 mark-at-requires : tie.Need-mark-at-requires Inv-loop μ-loop
 mark-at-requires c κs = search needs
 
--- src/read.rt:639:13
 size-of-requires : tie.Need-size-of-requires Inv-loop μ-loop
 size-of-requires c κs = search needs
 
--- src/read.rt:641:13
 same-length : tie.Need-same-length Inv-loop μ-loop
 same-length c = c .before .before .before .loop .inv .1
 
--- src/read.rt:641:13
 same-length-2 : tie.Need-same-length-2 Inv-loop μ-loop
 same-length-2 c = c .before .before .before .loop .inv .2
 
--- src/read.rt:641:13
 returns : tie.Need-returns Inv-loop μ-loop
 returns c = λ s u e. load-ended s (now (c .before .before .before .before .before .before .before .args .l)) u _ _ _ _ _ _ (c .before .before .before .loop .inv .3 s u e) (sym (c .before .size-of .ensures ∙ ap sizeBy (c .before .before .mark-at .ensures)) ∙ c .if1 .taken)
 
--- src/read.rt:643:9
 load-record-requires : tie.Need-load-record-requires Inv-loop μ-loop
 load-record-requires c κs = c .before .before .before .before .mark-at .ensures
 
--- src/read.rt:644:14
 pages-of-requires : tie.Need-pages-of-requires Inv-loop μ-loop
 pages-of-requires c κs = search needs
 
--- src/read.rt:644:9
 add-i : tie.Need-add-i Inv-loop μ-loop
 add-i c = let q : c .before .before .before .before .before .before .before .before .before .size-of .result ≡ sizeBy (markAt (now (c .before .before .before .before .before .before .before .before .before .before .before .before .before .before .before .args .l)) (c .before .before .before .before .before .before .before .before .before .before .before .loop .at)) = c .before .before .before .before .before .before .before .before .before .size-of .ensures ∙ ap sizeBy (c .before .before .before .before .before .before .before .before .before .before .mark-at .ensures) in let some : 0 < sizeBy (markAt (now (c .before .before .before .before .before .before .before .before .before .before .before .before .before .before .before .args .l)) (c .before .before .before .before .before .before .before .before .before .before .before .loop .at)) = some-size _ _ q (c .before .before .before .before .before .before .before .before .if1 .left) in let r = load-room (now (c .before .before .before .before .before .before .before .before .before .before .before .before .before .before .before .args .l)) (c .before .before .before .before .before .before .before .before .before .before .before .loop .at) some in let g = page-small (markAt (now (c .before .before .before .before .before .before .before .before .before .before .before .before .before .before .before .args .l)) (c .before .before .before .before .before .before .before .before .before .before .before .loop .at)) in let w : c .pages-of .result ≡ pageBy (markAt (now (c .before .before .before .before .before .before .before .before .before .before .before .before .before .before .before .args .l)) (c .before .before .before .before .before .before .before .before .before .before .before .loop .at)) = c .pages-of .ensures ∙ ap pageBy (c .before .before .before .before .before .before .before .before .before .before .mark-at .ensures) in omega (arith, q, r, g, w, c .before .before .before .before .before .before .before .before .before .before .before .loop .inv .0, c .before .before .before .before .before .before .before .before .before .before .before .before .before .before .before .good .0 .0)
 
--- src/read.rt:645:9
 add-at : tie.Need-add-at Inv-loop μ-loop
 add-at c = let q : c .before .before .before .before .before .before .before .before .before .size-of .result ≡ sizeBy (markAt (now (c .before .before .before .before .before .before .before .before .before .before .before .before .before .before .before .args .l)) (c .before .before .before .before .before .before .before .before .before .before .before .loop .at)) = c .before .before .before .before .before .before .before .before .before .size-of .ensures ∙ ap sizeBy (c .before .before .before .before .before .before .before .before .before .before .mark-at .ensures) in let some : 0 < sizeBy (markAt (now (c .before .before .before .before .before .before .before .before .before .before .before .before .before .before .before .args .l)) (c .before .before .before .before .before .before .before .before .before .before .before .loop .at)) = some-size _ _ q (c .before .before .before .before .before .before .before .before .if1 .left) in let r = load-room (now (c .before .before .before .before .before .before .before .before .before .before .before .before .before .before .before .args .l)) (c .before .before .before .before .before .before .before .before .before .before .before .loop .at) some in omega (arith, q, r, c .before .before .before .before .before .before .before .before .before .before .before .before .before .before .before .good .0 .0)
 
--- src/read.rt:637:5
 loop-less : tie.Need-loop-less Inv-loop μ-loop
 loop-less c = let q : c .before .before .before .before .before .before .before .before .before .size-of .result ≡ sizeBy (markAt (now (c .before .before .before .before .before .before .before .before .before .before .before .before .before .before .before .args .l)) (c .before .before .before .before .before .before .before .before .before .before .before .loop .at)) = c .before .before .before .before .before .before .before .before .before .size-of .ensures ∙ ap sizeBy (c .before .before .before .before .before .before .before .before .before .before .mark-at .ensures) in let some : 0 < sizeBy (markAt (now (c .before .before .before .before .before .before .before .before .before .before .before .before .before .before .before .args .l)) (c .before .before .before .before .before .before .before .before .before .before .before .loop .at)) = some-size _ _ q (c .before .before .before .before .before .before .before .before .if1 .left) in let r = load-room (now (c .before .before .before .before .before .before .before .before .before .before .before .before .before .before .before .args .l)) (c .before .before .before .before .before .before .before .before .before .before .before .loop .at) some in omega (arith, q, r, some)
 
--- src/read.rt:637:5
 loop-again : tie.Need-loop-again Inv-loop μ-loop
 loop-again c = let q : c .before .before .before .before .before .before .before .before .before .size-of .result ≡ sizeBy (markAt (now (c .before .before .before .before .before .before .before .before .before .before .before .before .before .before .before .args .l)) (c .before .before .before .before .before .before .before .before .before .before .before .loop .at)) = c .before .before .before .before .before .before .before .before .before .size-of .ensures ∙ ap sizeBy (c .before .before .before .before .before .before .before .before .before .before .mark-at .ensures) in let some : 0 < sizeBy (markAt (now (c .before .before .before .before .before .before .before .before .before .before .before .before .before .before .before .args .l)) (c .before .before .before .before .before .before .before .before .before .before .before .loop .at)) = some-size _ _ q (c .before .before .before .before .before .before .before .before .if1 .left) in let r = load-room (now (c .before .before .before .before .before .before .before .before .before .before .before .before .before .before .before .args .l)) (c .before .before .before .before .before .before .before .before .before .before .before .loop .at) some in let g = page-small (markAt (now (c .before .before .before .before .before .before .before .before .before .before .before .before .before .before .before .args .l)) (c .before .before .before .before .before .before .before .before .before .before .before .loop .at)) in let w : c .pages-of .result ≡ pageBy (markAt (now (c .before .before .before .before .before .before .before .before .before .before .before .before .before .before .before .args .l)) (c .before .before .before .before .before .before .before .before .before .before .before .loop .at)) = c .pages-of .ensures ∙ ap pageBy (c .before .before .before .before .before .before .before .before .before .before .mark-at .ensures) in (omega (arith, q, g, w, c .before .before .before .before .before .before .before .before .before .before .before .loop .inv .0), c .before .before .before .before .before .load-record .kept .1 .0 ∙ c .before .before .before .before .before .before .before .before .before .before .before .loop .inv .1, c .before .before .before .before .before .load-record .kept .1 .1 .0 ∙ c .before .before .before .before .before .before .before .before .before .before .before .loop .inv .2, λ s u e. rw (c .before .before .before .before .before .load-record .ensures .0, c .before .before .before .before .before .load-record .ensures .1, c .before .before .before .before .before .before .before .before .before .size-of .ensures, c .pages-of .ensures, c .before .before .before .before .before .before .before .before .before .before .mark-at .ensures) (load-more s (now (c .before .before .before .before .before .before .before .before .before .before .before .before .before .before .before .args .l)) u _ _ _ _ _ _ (c .before .before .before .before .before .before .before .before .before .before .before .loop .inv .3 s u e) some))
 

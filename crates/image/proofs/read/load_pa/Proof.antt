@@ -1,61 +1,43 @@
 -- A place past the end has no word to store. Assumes nothing.
-use mathlib.Core.Path.{_≡_, refl, sym, ap, _∙_}
+use mathlib.Core.Path.{sym}
 use lib.Seq.{set-out}
 use borrow.Author.Needs.{needs}
 use Rattle.image.proofs.read.load_pa.Statement.{statement}
 use Rattle.image.proofs.read.load_pa.Tie as tie
-use Rattle.image.proofs.read.load_pa.Reads as reads
-use Rattle.image.proofs.read.load_pa.Lts as lts
-use Rattle.image.proofs.read.word_of.Reads as word-of-reads
-use Rattle.wire.proofs.byte.Reads as byte-reads
-use Rattle.wire.proofs.load16.Reads as load16-reads
-use Rattle.wire.proofs.load64.Reads as load64-reads
 
--- src/read.rt:611:40
 add-load16 : tie.Need-add-load16
 add-load16 c = search needs
 
--- src/read.rt:611:24
 load16-requires : tie.Need-load16-requires
 load16-requires c κs = search needs
 
--- src/read.rt:611:65
 add-load64 : tie.Need-add-load64
 add-load64 c = search needs
 
--- src/read.rt:611:49
 load64-requires : tie.Need-load64-requires
 load64-requires c κs = search needs
 
--- src/read.rt:611:88
 add-byte : tie.Need-add-byte
 add-byte c = search needs
 
--- src/read.rt:611:74
 byte-requires : tie.Need-byte-requires
 byte-requires c κs = search needs
 
--- src/read.rt:611:9
 word-of-requires : tie.Need-word-of-requires
 word-of-requires c κs = search needs
 
--- src/read.rt:613:9
 mul-pages : tie.Need-mul-pages
 mul-pages c = search needs
 
--- src/read.rt:613:9
 slice-write-pages : tie.Need-slice-write-pages
 slice-write-pages c = search needs
 
--- src/read.rt:607:1
 same-length : tie.Need-same-length
 same-length c = search needs
 
--- src/read.rt:607:1
 returns : tie.Need-returns
 returns c = simp (c .before .word-of .ensures, c .before .before .before .before .load16 .ensures, c .before .before .before .load64 .ensures, c .before .before .byte .ensures)
 
--- src/read.rt:607:1
 returns-2 : tie.Need-returns-2
 returns-2 c = sym (set-out _ _ _ (c .if1 .left))
 

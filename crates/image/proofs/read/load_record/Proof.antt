@@ -1,39 +1,28 @@
 -- Each kind by itself. Assumes nothing.
-use mathlib.Core.Path.{_≡_, refl, sym, ap, _∙_}
+use mathlib.Core.Path.{refl, sym, _∙_}
 use denote.Ref.{now}
-use Rattle.image.specs.Load.{sizeBy, pageBy, wordOf, vcpusBy, pagesBy}
+use Rattle.image.specs.Load.{vcpusBy, pagesBy}
 use Rattle.kvmi.specs.Record.{VC, MS, PA}
 use Rattle.image.proofs.Tests.{mark-room}
 use borrow.Author.Needs.{needs}
 use Rattle.image.proofs.read.load_record.Statement.{statement}
 use Rattle.image.proofs.read.load_record.Tie as tie
-use Rattle.image.proofs.read.load_record.Reads as reads
-use Rattle.image.proofs.read.load_record.Lts as lts
-use Rattle.image.proofs.read.load_ms.Reads as load-ms-reads
-use Rattle.image.proofs.read.load_pa.Reads as load-pa-reads
-use Rattle.image.proofs.read.load_vc.Reads as load-vc-reads
 
--- src/read.rt:622:29
 enum-told : tie.Need-enum-told
 enum-told c = search needs
 
--- src/read.rt:622:21
 load-vc-requires : tie.Need-load-vc-requires
 load-vc-requires c κs = mark-room (now (c .before .before .before .before .before .before .args .l)) (c .before .before .before .before .before .before .args .at) VC (sym (c .before .before .before .before .before .before .pre) ∙ c .before .enum-told .given .1)
 
--- src/read.rt:623:29
 enum-told-2 : tie.Need-enum-told-2
 enum-told-2 c = search needs
 
--- src/read.rt:623:21
 load-ms-requires : tie.Need-load-ms-requires
 load-ms-requires c κs = mark-room (now (c .before .before .before .before .before .before .args .l)) (c .before .before .before .before .before .before .args .at) MS (sym (c .before .before .before .before .before .before .pre) ∙ c .before .enum-told2 .given .1)
 
--- src/read.rt:624:29
 enum-told-3 : tie.Need-enum-told-3
 enum-told-3 c = search needs
 
--- src/read.rt:624:21
 load-pa-requires : tie.Need-load-pa-requires
 load-pa-requires c κs = mark-room (now (c .before .before .before .before .before .before .args .l)) (c .before .before .before .before .before .before .args .at) PA (sym (c .before .before .before .before .before .before .pre) ∙ c .before .enum-told3 .given .1)
 
@@ -46,44 +35,35 @@ enum-told-5 c = search needs
 enum-told-6 : tie.Need-enum-told-6
 enum-told-6 c = search needs
 
--- src/read.rt:617:1
 same-length : tie.Need-same-length
 same-length c = search needs
 
--- src/read.rt:617:1
 returns : tie.Need-returns
 unfolding vcpusBy pagesBy
 returns c = rw (c .before .before .before .before .enum-told .given .1) (c .before .before .load-vc .ensures, refl)
 
--- src/read.rt:617:1
 same-length-2 : tie.Need-same-length-2
 same-length-2 c = search needs
 
--- src/read.rt:617:1
 returns-2 : tie.Need-returns-2
 unfolding vcpusBy pagesBy
 returns-2 c = rw (c .before .before .before .before .enum-told2 .given .1) (c .before .before .load-ms .ensures, refl)
 
--- src/read.rt:617:1
 same-length-3 : tie.Need-same-length-3
 same-length-3 c = search needs
 
--- src/read.rt:617:1
 returns-3 : tie.Need-returns-3
 unfolding vcpusBy pagesBy
 returns-3 c = rw (c .before .before .before .before .enum-told3 .given .1) (refl, c .before .before .load-pa .ensures)
 
--- src/read.rt:617:1
 returns-4 : tie.Need-returns-4
 unfolding vcpusBy pagesBy
 returns-4 c = rw (c .enum-told4 .given .1) (refl, refl)
 
--- src/read.rt:617:1
 returns-5 : tie.Need-returns-5
 unfolding vcpusBy pagesBy
 returns-5 c = rw (c .enum-told5 .given .1) (refl, refl)
 
--- src/read.rt:617:1
 returns-6 : tie.Need-returns-6
 unfolding vcpusBy pagesBy
 returns-6 c = rw (c .enum-told6 .given .1) (refl, refl)

@@ -5,90 +5,64 @@ use Rattle.image.specs.Read.{vcpuLoaded}
 use borrow.Author.Needs.{needs}
 use Rattle.image.proofs.read.load_vc.Statement.{statement}
 use Rattle.image.proofs.read.load_vc.Tie as tie
-use Rattle.image.proofs.read.load_vc.Reads as reads
-use Rattle.image.proofs.read.load_vc.Lts as lts
-use Rattle.image.proofs.read.bit_of.Reads as bit-of-reads
-use Rattle.store.proofs.words.write_field.Reads as write-field-reads
-use Rattle.wire.proofs.byte.Reads as byte-reads
-use Rattle.wire.proofs.load16.Reads as load16-reads
 
--- src/read.rt:589:29
 add-load16 : tie.Need-add-load16
 add-load16 c = search needs
 
--- src/read.rt:589:9
 load16-requires : tie.Need-load16-requires
 load16-requires c κs = search needs
 
--- src/read.rt:590:37
 add-byte : tie.Need-add-byte
 add-byte c = search needs
 
--- src/read.rt:590:23
 byte-requires : tie.Need-byte-requires
 byte-requires c κs = search needs
 
--- src/read.rt:590:9
 bit-of-requires : tie.Need-bit-of-requires
 bit-of-requires c κs = search needs
 
--- src/read.rt:591:29
 add-byte-2 : tie.Need-add-byte-2
 add-byte-2 c = search needs
 
--- src/read.rt:591:9
 byte-requires-2 : tie.Need-byte-requires-2
 byte-requires-2 c κs = search needs
 
--- src/read.rt:592:34
 add-load16-2 : tie.Need-add-load16-2
 add-load16-2 c = search needs
 
--- src/read.rt:592:9
 load16-requires-2 : tie.Need-load16-requires-2
 load16-requires-2 c κs = search needs
 
--- src/read.rt:593:32
 add-byte-3 : tie.Need-add-byte-3
 add-byte-3 c = search needs
 
--- src/read.rt:593:9
 byte-requires-3 : tie.Need-byte-requires-3
 byte-requires-3 c κs = search needs
 
--- src/read.rt:594:5
 write-field-requires : tie.Need-write-field-requires
 write-field-requires c κs = search needs
 
--- src/read.rt:595:60
 cast-write-field : tie.Need-cast-write-field
 cast-write-field c = search needs
 
--- src/read.rt:595:5
 write-field-requires-2 : tie.Need-write-field-requires-2
 write-field-requires-2 c κs = search needs
 
--- src/read.rt:596:63
 cast-write-field-2 : tie.Need-cast-write-field-2
 cast-write-field-2 c = search needs
 
--- src/read.rt:596:5
 write-field-requires-3 : tie.Need-write-field-requires-3
 write-field-requires-3 c κs = search needs
 
--- src/read.rt:597:63
 cast-write-field-3 : tie.Need-cast-write-field-3
 cast-write-field-3 c = search needs
 
--- src/read.rt:597:5
 write-field-requires-4 : tie.Need-write-field-requires-4
 write-field-requires-4 c κs = search needs
 
--- src/read.rt:585:1
 same-length : tie.Need-same-length
 same-length c = search needs
 
--- src/read.rt:585:1
 returns : tie.Need-returns
 unfolding vcpuLoaded
 returns c = c .before .before .write-field4 .ensures ∙ rw (c .before .before .before .before .before .before .write-field3 .ensures, c .before .before .before .before .before .before .before .before .before .before .write-field2 .ensures, c .before .before .before .before .before .before .before .before .before .before .before .before .before .before .write-field .ensures, c .before .before .before .before .before .before .before .before .before .before .before .before .before .before .before .before .before .before .before .bit-of .ensures, c .before .before .before .before .before .before .before .before .before .before .before .before .before .before .before .before .before .before .before .before .byte .ensures, c .before .before .before .before .before .before .before .before .before .before .before .before .before .before .before .before .before .before .byte2 .ensures, c .before .before .before .before .before .before .before .before .before .before .before .before .before .before .before .before .before .load162 .ensures, c .before .before .before .before .before .before .before .before .before .before .before .before .before .before .before .before .byte3 .ensures, c .before .before .before .before .before .before .before .before .before .before .before .before .before .before .before .before .before .before .before .before .before .load16 .ensures)

@@ -1,29 +1,20 @@
 -- The mark at the place, and the bytes from it on. Assumes nothing.
-use mathlib.Core.Path.{_≡_, sym, ap, _∙_}
+use mathlib.Core.Path.{sym, _∙_}
 use denote.Ref.{now}
 use Rattle.image.proofs.Tests.{mark-there}
 use borrow.Author.Needs.{needs}
 use Rattle.image.proofs.read.mark_at.Statement.{statement}
 use Rattle.image.proofs.read.mark_at.Tie as tie
-use Rattle.image.proofs.read.mark_at.Reads as reads
-use Rattle.image.proofs.read.mark_at.Lts as lts
-use Rattle.image.proofs.read.bytes_left.Reads as bytes-left-reads
-use Rattle.image.proofs.read.mark_in.Reads as mark-in-reads
-use Rattle.wire.proofs.load16.Reads as load16-reads
 
--- src/read.rt:96:13
 load16-requires : tie.Need-load16-requires
 load16-requires c κs = search needs
 
--- src/read.rt:96:34
 bytes-left-requires : tie.Need-bytes-left-requires
 bytes-left-requires c κs = search needs
 
--- src/read.rt:96:5
 mark-in-requires : tie.Need-mark-in-requires
 mark-in-requires c κs = search needs
 
--- src/read.rt:93:1
 returns : tie.Need-returns
 returns c = c .mark-in .ensures ∙ rw (c .before .before .load16 .ensures, c .before .bytes-left .ensures) (sym (mark-there (now (c .before .before .before .before .args .l)) (c .before .before .before .before .args .at)))
 

@@ -1,40 +1,31 @@
 --  Assumes nothing.
 use Rattle.image.proofs.Tests.{flag-off, flag-on}
 -- Each event by itself. Assumes nothing.
-use borrow.Author.Tests.{lt-ltb, le-ltb, le-leb, lt-leb, eq-eqb, ne-eqb, not-true, not-false}
+use borrow.Author.Tests.{ne-eqb, not-true, not-false}
 use Rattle.kvmi.specs.Image.{mayEnable}
 use Rattle.kvmi.specs.Settings.{allowsEvent, taken, uncatchable, isSet}
 use borrow.Author.Needs.{needs}
 use Rattle.image.proofs.read.may_enable.Statement.{statement}
 use Rattle.image.proofs.read.may_enable.Tie as tie
-use Rattle.image.proofs.read.may_enable.Reads as reads
-use Rattle.image.proofs.read.may_enable.Lts as lts
-use Rattle.store.proofs.bits.bit_on.Reads as bit-on-reads
 
--- src/read.rt:126:29
 cast-bit-on : tie.Need-cast-bit-on
 cast-bit-on c = search needs
 
--- src/read.rt:126:9
 bit-on-requires : tie.Need-bit-on-requires
 bit-on-requires c κs = search needs
 
--- src/read.rt:127:9
 returns : tie.Need-returns
 unfolding mayEnable allowsEvent
 returns c = rw (← c .before .bit-on .ensures, not-true (c .before .bit-on .result) (c .if1 .taken))
 
--- src/read.rt:130:9
 returns-2 : tie.Need-returns-2
 unfolding mayEnable allowsEvent taken uncatchable
 returns-2 c = rw (← c .before .before .before .bit-on .ensures, not-false (c .before .before .before .bit-on .result) (c .before .before .if1 .left), c .before .if2 .taken) (flag-off _)
 
--- src/read.rt:133:9
 returns-3 : tie.Need-returns-3
 unfolding mayEnable allowsEvent taken uncatchable
 returns-3 c = rw (← c .before .before .before .before .bit-on .ensures, not-false (c .before .before .before .before .bit-on .result) (c .before .before .before .if1 .left), c .before .if3 .taken) (flag-on _)
 
--- src/read.rt:123:1
 returns-4 : tie.Need-returns-4
 unfolding mayEnable allowsEvent taken uncatchable isSet
 returns-4 c = rw (← c .before .before .before .bit-on .ensures, not-false (c .before .before .before .bit-on .result) (c .before .before .if1 .left), ne-eqb _ _ (c .before .if2 .left), ne-eqb _ _ (c .if3 .left))

@@ -1,18 +1,14 @@
 -- The loop's invariant: the bits that are left say the same as all of them. The measure is how many are left. Assumes nothing.
 use mathlib.Core.Path.{_≡_, refl, sym, _∙_}
 use Prim.Native.Nat.{_-_}
-use borrow.Author.Tests.{lt-ltb, le-ltb, le-leb, lt-leb, eq-eqb, ne-eqb, not-true, not-false}
+use borrow.Author.Tests.{not-true, not-false}
 use borrow.Author.Needs.{needs}
 use native.Mathlib.Omega.{arith}
-use Rattle.kvmi.specs.Bits.{bitsHave, isOn}
+use Rattle.kvmi.specs.Bits.{bitsHave}
 use Rattle.kvmi.specs.Image.{mayEnable}
 use Rattle.image.proofs.Tests.{bits-step, bits-stop, bits-end}
 use Rattle.image.proofs.read.may_enable_all.Statement.{statement}
 use Rattle.image.proofs.read.may_enable_all.Tie as tie
-use Rattle.image.proofs.read.may_enable_all.Reads as reads
-use Rattle.image.proofs.read.may_enable_all.Lts as lts
-use Rattle.image.proofs.read.bit_fits.Reads as bit-fits-reads
-use Rattle.image.proofs.read.may_enable.Reads as may-enable-reads
 
 abbrev Inv-loop : tie.InvT-loop
 Inv-loop s w x₀ i₀ x i = bitsHave (mayEnable s) i (16 - i) x ≡ bitsHave (mayEnable s) 0 16 w
@@ -20,35 +16,27 @@ Inv-loop s w x₀ i₀ x i = bitsHave (mayEnable s) i (16 - i) x ≡ bitsHave (m
 abbrev μ-loop : tie.MeasureT-loop
 μ-loop s w x₀ i₀ x i = 16 - i
 
--- src/read.rt:144:5
 loop-holds : tie.Need-loop-holds Inv-loop μ-loop
 loop-holds c = refl
 
--- src/read.rt:145:25
 may-enable-requires : tie.Need-may-enable-requires Inv-loop μ-loop
 may-enable-requires c κs = search needs
 
--- src/read.rt:145:13
 bit-fits-requires : tie.Need-bit-fits-requires Inv-loop μ-loop
 bit-fits-requires c κs = search needs
 
--- src/read.rt:146:13
 returns : tie.Need-returns Inv-loop μ-loop
 returns c = sym (bits-stop (mayEnable (c .before .before .before .before .before .args .s)) (c .before .before .before .before .loop .i) (c .before .before .before .before .loop .x) (omega arith) (rw (← c .before .before .may-enable .ensures) (sym (c .before .bit-fits .ensures) ∙ not-true _ (c .if1 .taken)))) ∙ c .before .before .before .before .loop .inv
 
--- src/read.rt:149:9
 add-i : tie.Need-add-i Inv-loop μ-loop
 add-i c = omega arith
 
--- src/read.rt:144:5
 loop-less : tie.Need-loop-less Inv-loop μ-loop
 loop-less c = omega arith
 
--- src/read.rt:144:5
 loop-again : tie.Need-loop-again Inv-loop μ-loop
 loop-again c = sym (bits-step (mayEnable (c .before .before .before .before .before .args .s)) (c .before .before .before .before .loop .i) (c .before .before .before .before .loop .x) (omega arith) (rw (← c .before .before .may-enable .ensures) (sym (c .before .bit-fits .ensures) ∙ not-false _ (c .if1 .left)))) ∙ c .before .before .before .before .loop .inv
 
--- src/read.rt:139:1
 returns-2 : tie.Need-returns-2 Inv-loop μ-loop
 returns-2 c = sym (bits-end (mayEnable (c .before .before .args .s)) (c .before .loop .i) (c .before .loop .x) (omega arith)) ∙ c .before .loop .inv
 

@@ -1,99 +1,72 @@
 -- Each kind by itself. Assumes nothing.
 use mathlib.Core.Path.{sym, _∙_}
-use Rattle.image.specs.Test.{isAfter, vcFits, msFits, paFits, vmStep, vcStep, msStep, paStep, enStep, stepBy, stepOf, firstBy, markAt}
-use Rattle.kvmi.specs.Record.{VM, VC, MS, PA, EN}
+use Rattle.image.specs.Test.{stepBy, stepOf}
+use Rattle.kvmi.specs.Record.{VC, MS, PA, EN}
 use denote.Ref.{now}
 use Rattle.image.proofs.Tests.{mark-room}
 use borrow.Author.Needs.{needs}
 use Rattle.image.proofs.read.next_step.Statement.{statement}
 use Rattle.image.proofs.read.next_step.Tie as tie
-use Rattle.image.proofs.read.next_step.Reads as reads
-use Rattle.image.proofs.read.next_step.Lts as lts
-use Rattle.image.proofs.read.mark_at.Reads as mark-at-reads
-use Rattle.image.proofs.read.refuse.Reads as refuse-reads
-use Rattle.image.proofs.read.step_en.Reads as step-en-reads
-use Rattle.image.proofs.read.step_ms.Reads as step-ms-reads
-use Rattle.image.proofs.read.step_pa.Reads as step-pa-reads
-use Rattle.image.proofs.read.step_vc.Reads as step-vc-reads
 
--- src/read.rt:479:9
 mark-at-requires : tie.Need-mark-at-requires
 mark-at-requires c κs = search needs
 
--- src/read.rt:481:21
 enum-told : tie.Need-enum-told
 enum-told c = search needs
 
--- src/read.rt:481:21
 step-vc-requires : tie.Need-step-vc-requires
 step-vc-requires c κs = (mark-room (now (c .before .before .before .before .args .l)) (c .before .before .before .before .args .p .at) VC (sym (c .before .before .mark-at .ensures) ∙ c .enum-told .given .1), c .before .before .before .before .pre .1)
 
--- src/read.rt:482:21
 enum-told-2 : tie.Need-enum-told-2
 enum-told-2 c = search needs
 
--- src/read.rt:482:21
 step-ms-requires : tie.Need-step-ms-requires
 step-ms-requires c κs = (mark-room (now (c .before .before .before .before .args .l)) (c .before .before .before .before .args .p .at) MS (sym (c .before .before .mark-at .ensures) ∙ c .enum-told2 .given .1), c .before .before .before .before .pre .1)
 
--- src/read.rt:483:21
 enum-told-3 : tie.Need-enum-told-3
 enum-told-3 c = search needs
 
--- src/read.rt:483:21
 step-pa-requires : tie.Need-step-pa-requires
 step-pa-requires c κs = (mark-room (now (c .before .before .before .before .args .l)) (c .before .before .before .before .args .p .at) PA (sym (c .before .before .mark-at .ensures) ∙ c .enum-told3 .given .1), c .before .before .before .before .pre .1, c .before .before .before .before .pre .2)
 
--- src/read.rt:484:21
 enum-told-4 : tie.Need-enum-told-4
 enum-told-4 c = search needs
 
--- src/read.rt:484:21
 step-en-requires : tie.Need-step-en-requires
 step-en-requires c κs = mark-room (now (c .before .before .before .before .args .l)) (c .before .before .before .before .args .p .at) EN (sym (c .before .before .mark-at .ensures) ∙ c .enum-told4 .given .1)
 
--- src/read.rt:485:21
 enum-told-5 : tie.Need-enum-told-5
 enum-told-5 c = search needs
 
--- src/read.rt:485:21
 refuse-requires : tie.Need-refuse-requires
 refuse-requires c κs = search needs
 
--- src/read.rt:486:22
 enum-told-6 : tie.Need-enum-told-6
 enum-told-6 c = search needs
 
--- src/read.rt:486:22
 refuse-requires-2 : tie.Need-refuse-requires-2
 refuse-requires-2 c κs = search needs
 
--- src/read.rt:475:1
 returns : tie.Need-returns
 unfolding stepOf stepBy
 returns c = rw (← c .before .before .before .mark-at .ensures, c .before .enum-told .given .1) (c .step-vc .ensures)
 
--- src/read.rt:475:1
 returns-2 : tie.Need-returns-2
 unfolding stepOf stepBy
 returns-2 c = rw (← c .before .before .before .mark-at .ensures, c .before .enum-told2 .given .1) (c .step-ms .ensures)
 
--- src/read.rt:475:1
 returns-3 : tie.Need-returns-3
 unfolding stepOf stepBy
 returns-3 c = rw (← c .before .before .before .mark-at .ensures, c .before .enum-told3 .given .1) (c .step-pa .ensures)
 
--- src/read.rt:475:1
 returns-4 : tie.Need-returns-4
 unfolding stepOf stepBy
 returns-4 c = rw (← c .before .before .before .mark-at .ensures, c .before .enum-told4 .given .1) (c .step-en .ensures)
 
--- src/read.rt:475:1
 returns-5 : tie.Need-returns-5
 unfolding stepOf stepBy
 returns-5 c = rw (← c .before .before .before .mark-at .ensures, c .before .enum-told5 .given .1) (c .refuse .ensures)
 
--- src/read.rt:475:1
 returns-6 : tie.Need-returns-6
 unfolding stepOf stepBy
 returns-6 c = rw (← c .before .before .before .mark-at .ensures, c .before .enum-told6 .given .1) (c .refuse2 .ensures)

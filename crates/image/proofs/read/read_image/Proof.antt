@@ -10,79 +10,55 @@ use Rattle.image.proofs.Loads.{told-bad, told-forbidden, told-accepted}
 use borrow.Author.Needs.{needs}
 use Rattle.image.proofs.read.read_image.Statement.{statement}
 use Rattle.image.proofs.read.read_image.Tie as tie
-use Rattle.image.proofs.read.read_image.Reads as reads
-use Rattle.image.proofs.read.read_image.Lts as lts
-use Rattle.image.proofs.read.in_range.Reads as in-range-reads
-use Rattle.image.proofs.read.load.Reads as load-reads
-use Rattle.image.proofs.read.opened.Reads as opened-reads
-use Rattle.image.proofs.read.shut.Reads as shut-reads
-use Rattle.image.proofs.read.test.Reads as test-reads
-use Rattle.store.proofs.words.clear.Reads as clear-reads
 
--- src/read.rt:719:9
 in-range-requires : tie.Need-in-range-requires
 in-range-requires c κs = search needs
 
--- src/read.rt:722:22
 shut-requires : tie.Need-shut-requires
 shut-requires c κs = search needs
 
--- src/read.rt:720:9
 returns : tie.Need-returns
 unfolding readOf inRange countsFit
 returns c = simp (sym (c .before .before .in-range .ensures) ∙ not-true _ (c .before .if1 .taken), c .shut .ensures)
 
--- src/read.rt:725:9
 test-requires : tie.Need-test-requires
 test-requires c κs = search needs
 
--- src/read.rt:727:28
 enum-known-tested : tie.Need-enum-known-tested
 enum-known-tested c = search needs
 
--- src/read.rt:729:22
 shut-requires-2 : tie.Need-shut-requires-2
 shut-requires-2 c κs = search needs
 
--- src/read.rt:731:30
 enum-known-tested-2 : tie.Need-enum-known-tested-2
 enum-known-tested-2 c = search needs
 
--- src/read.rt:733:22
 shut-requires-3 : tie.Need-shut-requires-3
 shut-requires-3 c κs = search needs
 
--- src/read.rt:736:13
 enum-known-tested-3 : tie.Need-enum-known-tested-3
 enum-known-tested-3 c = search needs
 
--- src/read.rt:740:13
 clear-requires : tie.Need-clear-requires
 clear-requires c κs = search needs
 
--- src/read.rt:741:13
 clear-requires-2 : tie.Need-clear-requires-2
 clear-requires-2 c κs = search needs
 
--- src/read.rt:742:13
 load-requires : tie.Need-load-requires
 load-requires c κs = search needs
 
--- src/read.rt:748:26
 opened-requires : tie.Need-opened-requires
 opened-requires c κs = search needs
 
--- src/read.rt:711:1
 returns-2 : tie.Need-returns-2
 unfolding readOf inRange countsFit
 returns-2 c = simp (sym (c .before .before .before .before .before .before .in-range .ensures) ∙ not-false _ (c .before .before .before .before .before .if1 .left), c .shut2 .ensures) (told-bad (c .before .before .before .before .before .before .before .before .args .settings) _ _ (loadImage (c .before .before .before .before .before .before .before .before .args .settings) (now (c .before .before .before .before .before .before .before .before .args .l))) _ (sym (c .before .before .before .before .test .ensures) ∙ c .before .before .tested .given .1))
 
--- src/read.rt:711:1
 returns-3 : tie.Need-returns-3
 unfolding readOf inRange countsFit
 returns-3 c = simp (sym (c .before .before .before .before .before .before .in-range .ensures) ∙ not-false _ (c .before .before .before .before .before .if1 .left), c .shut3 .ensures) (told-forbidden (c .before .before .before .before .before .before .before .before .args .settings) _ _ (loadImage (c .before .before .before .before .before .before .before .before .args .settings) (now (c .before .before .before .before .before .before .before .before .args .l))) _ (sym (c .before .before .before .before .test .ensures) ∙ c .before .before .tested2 .given .1))
 
--- src/read.rt:711:1
 returns-4 : tie.Need-returns-4
 unfolding readOf inRange countsFit
 returns-4 c = simp (sym (c .before .before .before .before .before .before .before .before .before .before .before .before .before .in-range .ensures) ∙ not-false _ (c .before .before .before .before .before .before .before .before .before .before .before .before .if1 .left), c .opened .ensures) (told-accepted (c .before .before .before .before .before .before .before .before .before .before .before .before .before .before .before .args .settings) _ _ (loadImage (c .before .before .before .before .before .before .before .before .before .before .before .before .before .before .before .args .settings) (now (c .before .before .before .before .before .before .before .before .before .before .before .before .before .before .before .args .l))) _ _ _ _ _ (sym (c .before .before .before .before .before .before .before .before .before .before .before .test .ensures) ∙ c .before .before .before .before .before .before .before .before .before .tested3 .given .1) (λ u e. let g = c .before .load .ensures (c .before .before .before .before .before .before .before .before .before .before .before .before .before .before .before .args .settings) u e in (g .0 ∙ rw (c .before .before .before .before .before .before .clear .ensures), g .1 ∙ rw (c .before .before .before .before .clear2 .ensures))))

@@ -1,88 +1,61 @@
 -- Each test by itself. Assumes nothing.
-use borrow.Author.Tests.{lt-ltb, le-ltb, le-leb, lt-leb, eq-eqb, ne-eqb, not-true, not-false}
-use native.Mathlib.Omega.{arith}
-use Rattle.kvmi.specs.Image.{vmForm, vcForm, isIdle, paForm, vmMay, vcMay, paMay}
-use Rattle.image.specs.Test.{isAfter, vcFits, msFits, paFits, vmStep, vcStep, msStep, paStep, enStep, stepBy, stepOf, firstBy, markAt}
-use Rattle.session.specs.State.{putBit64}
+use borrow.Author.Tests.{eq-eqb, ne-eqb, not-true, not-false}
+use Rattle.image.specs.Test.{msStep}
 use borrow.Author.Needs.{needs}
 use Rattle.image.proofs.read.step_ms.Statement.{statement}
 use Rattle.image.proofs.read.step_ms.Tie as tie
-use Rattle.image.proofs.read.step_ms.Reads as reads
-use Rattle.image.proofs.read.step_ms.Lts as lts
-use Rattle.image.proofs.read.is_after.Reads as is-after-reads
-use Rattle.image.proofs.read.ms_form.Reads as ms-form-reads
-use Rattle.image.proofs.read.refuse.Reads as refuse-reads
-use Rattle.wire.proofs.load16.Reads as load16-reads
-use Rattle.wire.proofs.load32.Reads as load32-reads
 
--- src/read.rt:363:16
 add-next : tie.Need-add-next
 add-next c = search needs
 
--- src/read.rt:364:19
 add-records : tie.Need-add-records
 add-records c = search needs
 
--- src/read.rt:365:32
 add-load16 : tie.Need-add-load16
 add-load16 c = search needs
 
--- src/read.rt:365:9
 load16-requires : tie.Need-load16-requires
 load16-requires c κs = search needs
 
--- src/read.rt:366:31
 add-load32 : tie.Need-add-load32
 add-load32 c = search needs
 
--- src/read.rt:366:9
 load32-requires : tie.Need-load32-requires
 load32-requires c κs = search needs
 
--- src/read.rt:367:30
 cast-is-after : tie.Need-cast-is-after
 cast-is-after c = search needs
 
--- src/read.rt:367:9
 is-after-requires : tie.Need-is-after-requires
 is-after-requires c κs = search needs
 
--- src/read.rt:368:9
 refuse-requires : tie.Need-refuse-requires
 refuse-requires c κs = search needs
 
--- src/read.rt:368:9
 returns : tie.Need-returns
 unfolding msStep
 returns c = rw (← c .before .before .before .before .before .load16 .ensures, ← c .before .before .before .load32 .ensures, ← c .before .before .is-after .ensures, not-true (c .before .before .is-after .result) (c .before .if1 .taken)) (c .refuse .ensures)
 
--- src/read.rt:371:9
 refuse-requires-2 : tie.Need-refuse-requires-2
 refuse-requires-2 c κs = search needs
 
--- src/read.rt:371:9
 returns-2 : tie.Need-returns-2
 unfolding msStep
 returns-2 c = rw (← c .before .before .before .before .before .before .before .before .load16 .ensures, ← c .before .before .before .before .before .before .load32 .ensures, ← c .before .before .before .before .before .is-after .ensures, not-false (c .before .before .before .before .before .is-after .result) (c .before .before .before .before .if1 .left), ne-eqb _ _ (c .before .if2 .taken)) (c .refuse2 .ensures)
 
--- src/read.rt:373:9
 ms-form-requires : tie.Need-ms-form-requires
 ms-form-requires c κs = search needs
 
--- src/read.rt:374:9
 refuse-requires-3 : tie.Need-refuse-requires-3
 refuse-requires-3 c κs = search needs
 
--- src/read.rt:374:9
 returns-3 : tie.Need-returns-3
 unfolding msStep
 returns-3 c = rw (← c .before .before .before .before .before .before .before .before .before .before .load16 .ensures, ← c .before .before .before .before .before .before .before .before .load32 .ensures, ← c .before .before .before .before .before .before .before .is-after .ensures, not-false (c .before .before .before .before .before .before .before .is-after .result) (c .before .before .before .before .before .before .if1 .left), eq-eqb _ _ (c .before .before .before .if2 .left), ← c .before .before .ms-form .ensures, not-true (c .before .before .ms-form .result) (c .before .if3 .taken)) (c .refuse3 .ensures)
 
--- src/read.rt:381:16
 cast-t11 : tie.Need-cast-t11
 cast-t11 c = search needs
 
--- src/read.rt:359:1
 returns-4 : tie.Need-returns-4
 unfolding msStep
 returns-4 c = rw (← c .before .before .before .before .before .before .before .before .before .load16 .ensures, ← c .before .before .before .before .before .before .before .load32 .ensures, ← c .before .before .before .before .before .before .is-after .ensures, not-false (c .before .before .before .before .before .before .is-after .result) (c .before .before .before .before .before .if1 .left), eq-eqb _ _ (c .before .before .if2 .left), ← c .before .ms-form .ensures, not-false (c .before .ms-form .result) (c .if3 .left))

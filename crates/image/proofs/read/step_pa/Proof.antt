@@ -1,115 +1,82 @@
 -- Each test by itself. Assumes nothing.
-use borrow.Author.Tests.{lt-ltb, le-ltb, le-leb, lt-leb, eq-eqb, ne-eqb, not-true, not-false}
+use borrow.Author.Tests.{lt-ltb, le-ltb, eq-eqb, ne-eqb, not-true, not-false}
 use native.Mathlib.Omega.{arith}
-use Rattle.kvmi.specs.Image.{vmForm, vcForm, isIdle, paForm, vmMay, vcMay, paMay}
-use Rattle.image.specs.Test.{isAfter, vcFits, msFits, paFits, vmStep, vcStep, msStep, paStep, enStep, stepBy, stepOf, firstBy, markAt}
-use Rattle.session.specs.State.{putBit64}
+use Rattle.kvmi.specs.Image.{paMay}
+use Rattle.image.specs.Test.{paStep}
 use borrow.Author.Needs.{needs}
 use Rattle.image.proofs.read.step_pa.Statement.{statement}
 use Rattle.image.proofs.read.step_pa.Tie as tie
-use Rattle.image.proofs.read.step_pa.Reads as reads
-use Rattle.image.proofs.read.step_pa.Lts as lts
-use Rattle.image.proofs.read.forbid.Reads as forbid-reads
-use Rattle.image.proofs.read.is_after.Reads as is-after-reads
-use Rattle.image.proofs.read.pa_form.Reads as pa-form-reads
-use Rattle.image.proofs.read.refuse.Reads as refuse-reads
-use Rattle.wire.proofs.byte.Reads as byte-reads
-use Rattle.wire.proofs.load16.Reads as load16-reads
-use Rattle.wire.proofs.load64.Reads as load64-reads
 
--- src/read.rt:415:16
 add-next : tie.Need-add-next
 add-next c = search needs
 
--- src/read.rt:416:19
 add-records : tie.Need-add-records
 add-records c = search needs
 
--- src/read.rt:417:17
 add-pages : tie.Need-add-pages
 add-pages c = search needs
 
--- src/read.rt:418:32
 add-load64 : tie.Need-add-load64
 add-load64 c = search needs
 
--- src/read.rt:418:9
 load64-requires : tie.Need-load64-requires
 load64-requires c κs = search needs
 
--- src/read.rt:419:32
 add-load16 : tie.Need-add-load16
 add-load16 c = search needs
 
--- src/read.rt:419:9
 load16-requires : tie.Need-load16-requires
 load16-requires c κs = search needs
 
--- src/read.rt:420:32
 add-byte : tie.Need-add-byte
 add-byte c = search needs
 
--- src/read.rt:420:9
 byte-requires : tie.Need-byte-requires
 byte-requires c κs = search needs
 
--- src/read.rt:421:30
 add-byte-2 : tie.Need-add-byte-2
 add-byte-2 c = omega (arith, c .before .before .before .before .before .before .before .before .before .before .before .pre .0, c .before .before .before .before .before .before .before .before .before .before .before .good .1 .0 .0)
 
--- src/read.rt:421:9
 byte-requires-2 : tie.Need-byte-requires-2
 byte-requires-2 c κs = search needs
 
--- src/read.rt:422:9
 is-after-requires : tie.Need-is-after-requires
 is-after-requires c κs = search needs
 
--- src/read.rt:423:9
 refuse-requires : tie.Need-refuse-requires
 refuse-requires c κs = search needs
 
--- src/read.rt:423:9
 returns : tie.Need-returns
 unfolding paStep paMay
 returns c = rw (← c .before .before .before .before .before .before .before .load16 .ensures, ← c .before .before .before .before .before .byte .ensures, ← c .before .before .before .byte2 .ensures, ← c .before .before .before .before .before .before .before .before .before .load64 .ensures, ← c .before .before .is-after .ensures, not-true (c .before .before .is-after .result) (c .before .if1 .taken)) (c .refuse .ensures)
 
--- src/read.rt:426:9
 refuse-requires-2 : tie.Need-refuse-requires-2
 refuse-requires-2 c κs = search needs
 
--- src/read.rt:426:9
 returns-2 : tie.Need-returns-2
 unfolding paStep paMay
 returns-2 c = rw (← c .before .before .before .before .before .before .before .before .before .before .load16 .ensures, ← c .before .before .before .before .before .before .before .before .byte .ensures, ← c .before .before .before .before .before .before .byte2 .ensures, ← c .before .before .before .before .before .before .before .before .before .before .before .before .load64 .ensures, ← c .before .before .before .before .before .is-after .ensures, not-false (c .before .before .before .before .before .is-after .result) (c .before .before .before .before .if1 .left), ne-eqb _ _ (c .before .if2 .taken)) (c .refuse2 .ensures)
 
--- src/read.rt:428:9
 pa-form-requires : tie.Need-pa-form-requires
 pa-form-requires c κs = search needs
 
--- src/read.rt:429:9
 refuse-requires-3 : tie.Need-refuse-requires-3
 refuse-requires-3 c κs = search needs
 
--- src/read.rt:429:9
 returns-3 : tie.Need-returns-3
 unfolding paStep paMay
 returns-3 c = rw (← c .before .before .before .before .before .before .before .before .before .before .before .before .load16 .ensures, ← c .before .before .before .before .before .before .before .before .before .before .byte .ensures, ← c .before .before .before .before .before .before .before .before .byte2 .ensures, ← c .before .before .before .before .before .before .before .before .before .before .before .before .before .before .load64 .ensures, ← c .before .before .before .before .before .before .before .is-after .ensures, not-false (c .before .before .before .before .before .before .before .is-after .result) (c .before .before .before .before .before .before .if1 .left), eq-eqb _ _ (c .before .before .before .if2 .left), ← c .before .before .pa-form .ensures, not-true (c .before .before .pa-form .result) (c .before .if3 .taken)) (c .refuse3 .ensures)
 
--- src/read.rt:431:19
 cast-if4 : tie.Need-cast-if4
 cast-if4 c = search needs
 
--- src/read.rt:432:9
 forbid-requires : tie.Need-forbid-requires
 forbid-requires c κs = search needs
 
--- src/read.rt:432:9
 returns-4 : tie.Need-returns-4
 unfolding paStep paMay
 returns-4 c = rw (← c .before .before .before .before .before .before .before .before .before .before .before .before .before .before .load16 .ensures, ← c .before .before .before .before .before .before .before .before .before .before .before .before .byte .ensures, ← c .before .before .before .before .before .before .before .before .before .before .byte2 .ensures, ← c .before .before .before .before .before .before .before .before .before .before .before .before .before .before .before .before .load64 .ensures, ← c .before .before .before .before .before .before .before .before .before .is-after .ensures, not-false (c .before .before .before .before .before .before .before .before .before .is-after .result) (c .before .before .before .before .before .before .before .before .if1 .left), eq-eqb _ _ (c .before .before .before .before .before .if2 .left), ← c .before .before .before .before .pa-form .ensures, not-false (c .before .before .before .before .pa-form .result) (c .before .before .before .if3 .left), le-ltb _ _ (c .before .if4 .taken)) (c .forbid .ensures)
 
--- src/read.rt:411:1
 returns-5 : tie.Need-returns-5
 unfolding paStep paMay
 returns-5 c = rw (← c .before .before .before .before .before .before .before .before .before .before .before .before .before .load16 .ensures, ← c .before .before .before .before .before .before .before .before .before .before .before .byte .ensures, ← c .before .before .before .before .before .before .before .before .before .byte2 .ensures, ← c .before .before .before .before .before .before .before .before .before .before .before .before .before .before .before .load64 .ensures, ← c .before .before .before .before .before .before .before .before .is-after .ensures, not-false (c .before .before .before .before .before .before .before .before .is-after .result) (c .before .before .before .before .before .before .before .if1 .left), eq-eqb _ _ (c .before .before .before .before .if2 .left), ← c .before .before .before .pa-form .ensures, not-false (c .before .before .before .pa-form .result) (c .before .before .if3 .left), lt-ltb _ _ (c .if4 .left))

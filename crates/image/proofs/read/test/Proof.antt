@@ -6,32 +6,22 @@ use Rattle.image.proofs.Steps.{first-goes, stopped, went}
 use borrow.Author.Needs.{needs}
 use Rattle.image.proofs.read.test.Statement.{statement}
 use Rattle.image.proofs.read.test.Tie as tie
-use Rattle.image.proofs.read.test.Reads as reads
-use Rattle.image.proofs.read.test.Lts as lts
-use Rattle.image.proofs.read.first_step.Reads as first-step-reads
-use Rattle.image.proofs.read.test_rest.Reads as test-rest-reads
 
--- src/read.rt:528:9
 first-step-requires : tie.Need-first-step-requires
 first-step-requires c κs = search needs
 
--- src/read.rt:530:22
 enum-known-first : tie.Need-enum-known-first
 enum-known-first c = search needs
 
--- src/read.rt:531:22
 enum-known-first-2 : tie.Need-enum-known-first-2
 enum-known-first-2 c = search needs
 
--- src/read.rt:531:36
 test-rest-requires : tie.Need-test-rest-requires
 test-rest-requires c κs = went (c .before .before .before .before .before .args .s) (now (c .before .before .before .before .before .args .l)) (outcome (loadImage (c .before .before .before .before .before .args .s) (now (c .before .before .before .before .before .args .l)))) 0 (c .before .before .before .first-step .result) _ (c .before .first2 .given .1) (rw (c .before .before .before .first-step .ensures) (first-goes (c .before .before .before .before .before .args .s) (now (c .before .before .before .before .before .args .l)))) .0
 
--- src/read.rt:525:1
 returns : tie.Need-returns
 returns c = stopped (c .before .before .before .before .before .args .s) (now (c .before .before .before .before .before .args .l)) (outcome (loadImage (c .before .before .before .before .before .args .s) (now (c .before .before .before .before .before .args .l)))) 0 (c .before .before .before .first-step .result) _ (c .before .first .given .1) (rw (c .before .before .before .first-step .ensures) (first-goes (c .before .before .before .before .before .args .s) (now (c .before .before .before .before .before .args .l))))
 
--- src/read.rt:525:1
 returns-2 : tie.Need-returns-2
 returns-2 c = search needs
 

@@ -1,7 +1,6 @@
 --  Assumes nothing.
 use denote.Ref.{now}
 -- The invariant: the records that are left give the outcome. The measure is how many bytes are left. Assumes nothing.
-use mathlib.Core.Path.{_≡_, sym, _∙_}
 use Prim.Native.Nat.{_-_}
 use lib.ListN.{length}
 use native.Mathlib.Omega.{arith}
@@ -11,9 +10,6 @@ use Rattle.image.specs.Test.{outcome, Rest}
 use Rattle.image.proofs.Steps.{next-goes, pages-few, stopped, went}
 use Rattle.image.proofs.read.test_rest.Statement.{statement}
 use Rattle.image.proofs.read.test_rest.Tie as tie
-use Rattle.image.proofs.read.test_rest.Reads as reads
-use Rattle.image.proofs.read.test_rest.Lts as lts
-use Rattle.image.proofs.read.next_step.Reads as next-step-reads
 
 abbrev Inv-loop : tie.InvT-loop
 Inv-loop s l p₀ p = Rest s l p (outcome (loadImage s l))
@@ -21,31 +17,24 @@ Inv-loop s l p₀ p = Rest s l p (outcome (loadImage s l))
 abbrev μ-loop : tie.MeasureT-loop
 μ-loop s l p₀ p = length l - p .at
 
--- src/read.rt:511:5
 loop-holds : tie.Need-loop-holds Inv-loop μ-loop
 loop-holds c = c .before .pre
 
--- src/read.rt:512:13
 next-step-requires : tie.Need-next-step-requires Inv-loop μ-loop
 next-step-requires c κs = let i = c .loop .inv in (i .stands .inside, i .stands .bound, pages-few _ _ _ _ _ (i .stands))
 
--- src/read.rt:514:26
 enum-known-step : tie.Need-enum-known-step Inv-loop μ-loop
 enum-known-step c = search needs
 
--- src/read.rt:515:17
 returns : tie.Need-returns Inv-loop μ-loop
 returns c = stopped (c .before .before .before .before .before .before .args .s) (now (c .before .before .before .before .before .before .args .l)) (outcome (loadImage (c .before .before .before .before .before .before .args .s) (now (c .before .before .before .before .before .before .args .l)))) (c .before .before .before .before .loop .p .at) (c .before .before .before .next-step .result) _ (c .before .step .given .1) (rw (c .before .before .before .next-step .ensures) (next-goes (c .before .before .before .before .before .before .args .s) (now (c .before .before .before .before .before .before .args .l)) (outcome (loadImage (c .before .before .before .before .before .before .args .s) (now (c .before .before .before .before .before .before .args .l)))) (c .before .before .before .before .loop .p) (c .before .before .before .before .loop .inv)))
 
--- src/read.rt:517:26
 enum-known-step-2 : tie.Need-enum-known-step-2 Inv-loop μ-loop
 enum-known-step-2 c = search needs
 
--- src/read.rt:511:5
 loop-less : tie.Need-loop-less Inv-loop μ-loop
 loop-less c = let w = went (c .before .before .before .before .before .before .args .s) (now (c .before .before .before .before .before .before .args .l)) (outcome (loadImage (c .before .before .before .before .before .before .args .s) (now (c .before .before .before .before .before .before .args .l)))) (c .before .before .before .before .loop .p .at) (c .before .before .before .next-step .result) _ (c .before .step2 .given .1) (rw (c .before .before .before .next-step .ensures) (next-goes (c .before .before .before .before .before .before .args .s) (now (c .before .before .before .before .before .before .args .l)) (outcome (loadImage (c .before .before .before .before .before .before .args .s) (now (c .before .before .before .before .before .before .args .l)))) (c .before .before .before .before .loop .p) (c .before .before .before .before .loop .inv))) in omega (arith, w .1, w .0 .stands .inside)
 
--- src/read.rt:511:5
 loop-again : tie.Need-loop-again Inv-loop μ-loop
 loop-again c = went (c .before .before .before .before .before .before .args .s) (now (c .before .before .before .before .before .before .args .l)) (outcome (loadImage (c .before .before .before .before .before .before .args .s) (now (c .before .before .before .before .before .before .args .l)))) (c .before .before .before .before .loop .p .at) (c .before .before .before .next-step .result) _ (c .before .step2 .given .1) (rw (c .before .before .before .next-step .ensures) (next-goes (c .before .before .before .before .before .before .args .s) (now (c .before .before .before .before .before .before .args .l)) (outcome (loadImage (c .before .before .before .before .before .before .args .s) (now (c .before .before .before .before .before .before .args .l)))) (c .before .before .before .before .loop .p) (c .before .before .before .before .loop .inv))) .0
 

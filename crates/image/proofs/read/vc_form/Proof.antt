@@ -1,124 +1,94 @@
 -- Each test by itself. Assumes nothing.
 use borrow.Author.Tests.{lt-ltb, le-ltb, le-leb, lt-leb, eq-eqb, ne-eqb, not-true, not-false}
-use Rattle.kvmi.specs.Image.{vmForm, vcForm, isIdle, paForm, vmMay, vcMay, paMay}
-use Rattle.image.specs.Test.{isAfter, vcFits, msFits, paFits, vmStep, vcStep, msStep, paStep, enStep, stepBy, stepOf, firstBy, markAt}
+use Rattle.kvmi.specs.Image.{vcForm, isIdle}
+use Rattle.image.specs.Test.{vcFits}
 use Rattle.image.proofs.Tests.{vcpu-events}
 use borrow.Author.Needs.{needs}
 use Rattle.image.proofs.read.vc_form.Statement.{statement}
 use Rattle.image.proofs.read.vc_form.Tie as tie
-use Rattle.image.proofs.read.vc_form.Reads as reads
-use Rattle.image.proofs.read.vc_form.Lts as lts
-use Rattle.image.proofs.read.has_bits.Reads as has-bits-reads
-use Rattle.wire.proofs.byte.Reads as byte-reads
-use Rattle.wire.proofs.load16.Reads as load16-reads
 
--- src/read.rt:204:31
 add-byte : tie.Need-add-byte
 add-byte c = search needs
 
--- src/read.rt:204:9
 byte-requires : tie.Need-byte-requires
 byte-requires c κs = search needs
 
--- src/read.rt:205:29
 add-byte-2 : tie.Need-add-byte-2
 add-byte-2 c = search needs
 
--- src/read.rt:205:9
 byte-requires-2 : tie.Need-byte-requires-2
 byte-requires-2 c κs = search needs
 
--- src/read.rt:206:34
 add-load16 : tie.Need-add-load16
 add-load16 c = search needs
 
--- src/read.rt:206:9
 load16-requires : tie.Need-load16-requires
 load16-requires c κs = search needs
 
--- src/read.rt:207:32
 add-byte-3 : tie.Need-add-byte-3
 add-byte-3 c = search needs
 
--- src/read.rt:207:9
 byte-requires-3 : tie.Need-byte-requires-3
 byte-requires-3 c κs = search needs
 
--- src/read.rt:208:35
 add-load16-2 : tie.Need-add-load16-2
 add-load16-2 c = search needs
 
--- src/read.rt:208:19
 load16-requires-2 : tie.Need-load16-requires-2
 load16-requires-2 c κs = search needs
 
--- src/read.rt:208:19
 cast-if1 : tie.Need-cast-if1
 cast-if1 c = search needs
 
--- src/read.rt:209:9
 returns : tie.Need-returns
 unfolding vcFits vcForm isIdle
 returns c = simp (← c .before .before .load162 .ensures, ← c .before .before .before .before .before .before .byte .ensures, ← c .before .before .before .before .before .byte2 .ensures, ← c .before .before .before .before .load16 .ensures, ← c .before .before .before .byte3 .ensures, le-ltb _ _ (c .if1 .taken))
 
--- src/read.rt:212:9
 returns-2 : tie.Need-returns-2
 unfolding vcFits vcForm isIdle
 returns-2 c = simp (← c .before .before .before .load162 .ensures, ← c .before .before .before .before .before .before .before .byte .ensures, ← c .before .before .before .before .before .before .byte2 .ensures, ← c .before .before .before .before .before .load16 .ensures, ← c .before .before .before .before .byte3 .ensures, lt-ltb _ _ (c .before .if1 .left), lt-leb _ _ (c .if2 .taken))
 
--- src/read.rt:214:22
 add-byte-4 : tie.Need-add-byte-4
 add-byte-4 c = search needs
 
--- src/read.rt:214:8
 byte-requires-4 : tie.Need-byte-requires-4
 byte-requires-4 c κs = search needs
 
--- src/read.rt:215:9
 returns-3 : tie.Need-returns-3
 unfolding vcFits vcForm isIdle
 returns-3 c = simp (← c .before .before .before .before .before .load162 .ensures, ← c .before .before .before .before .before .before .before .before .before .byte .ensures, ← c .before .before .before .before .before .before .before .before .byte2 .ensures, ← c .before .before .before .before .before .before .before .load16 .ensures, ← c .before .before .before .before .before .before .byte3 .ensures, ← c .before .byte4 .ensures, lt-ltb _ _ (c .before .before .before .if1 .left), le-leb _ _ (c .before .before .if2 .left), ne-eqb _ _ (c .if3 .taken))
 
--- src/read.rt:218:9
 returns-4 : tie.Need-returns-4
 unfolding vcFits vcForm isIdle
 returns-4 c = simp (← c .before .before .before .before .before .before .load162 .ensures, ← c .before .before .before .before .before .before .before .before .before .before .byte .ensures, ← c .before .before .before .before .before .before .before .before .before .byte2 .ensures, ← c .before .before .before .before .before .before .before .before .load16 .ensures, ← c .before .before .before .before .before .before .before .byte3 .ensures, ← c .before .before .byte4 .ensures, lt-ltb _ _ (c .before .before .before .before .if1 .left), le-leb _ _ (c .before .before .before .if2 .left), eq-eqb _ _ (c .before .if3 .left), lt-leb _ _ (c .if4 .taken))
 
--- src/read.rt:220:9
 has-bits-requires : tie.Need-has-bits-requires
 has-bits-requires c κs = search needs
 
--- src/read.rt:221:9
 returns-5 : tie.Need-returns-5
 unfolding vcFits vcForm isIdle
 returns-5 c = simp (← c .before .before .before .before .before .before .before .before .load162 .ensures, ← c .before .before .before .before .before .before .before .before .before .before .before .before .byte .ensures, ← c .before .before .before .before .before .before .before .before .before .before .before .byte2 .ensures, ← c .before .before .before .before .before .before .before .before .before .before .load16 .ensures, ← c .before .before .before .before .before .before .before .before .before .byte3 .ensures, ← c .before .before .before .before .byte4 .ensures, lt-ltb _ _ (c .before .before .before .before .before .before .if1 .left), le-leb _ _ (c .before .before .before .before .before .if2 .left), eq-eqb _ _ (c .before .before .before .if3 .left), le-leb _ _ (c .before .before .if4 .left), vcpu-events, ← c .before .has-bits .ensures, not-true (c .before .has-bits .result) (c .if5 .taken))
 
--- src/read.rt:224:9
 returns-6 : tie.Need-returns-6
 unfolding vcFits vcForm isIdle
 returns-6 c = simp (← c .before .before .before .before .before .before .before .before .before .load162 .ensures, ← c .before .before .before .before .before .before .before .before .before .before .before .before .before .byte .ensures, ← c .before .before .before .before .before .before .before .before .before .before .before .before .byte2 .ensures, ← c .before .before .before .before .before .before .before .before .before .before .before .load16 .ensures, ← c .before .before .before .before .before .before .before .before .before .before .byte3 .ensures, ← c .before .before .before .before .before .byte4 .ensures, lt-ltb _ _ (c .before .before .before .before .before .before .before .if1 .left), le-leb _ _ (c .before .before .before .before .before .before .if2 .left), eq-eqb _ _ (c .before .before .before .before .if3 .left), le-leb _ _ (c .before .before .before .if4 .left), vcpu-events, ← c .before .before .has-bits .ensures, not-false (c .before .before .has-bits .result) (c .before .if5 .left), lt-leb _ _ (c .if6 .taken))
 
--- src/read.rt:227:9
 returns-7 : tie.Need-returns-7
 unfolding vcFits vcForm isIdle
 returns-7 c = simp (← c .before .before .before .before .before .before .before .before .before .before .load162 .ensures, ← c .before .before .before .before .before .before .before .before .before .before .before .before .before .before .byte .ensures, ← c .before .before .before .before .before .before .before .before .before .before .before .before .before .byte2 .ensures, ← c .before .before .before .before .before .before .before .before .before .before .before .before .load16 .ensures, ← c .before .before .before .before .before .before .before .before .before .before .before .byte3 .ensures, ← c .before .before .before .before .before .before .byte4 .ensures, lt-ltb _ _ (c .before .before .before .before .before .before .before .before .if1 .left), le-leb _ _ (c .before .before .before .before .before .before .before .if2 .left), eq-eqb _ _ (c .before .before .before .before .before .if3 .left), le-leb _ _ (c .before .before .before .before .if4 .left), vcpu-events, ← c .before .before .before .has-bits .ensures, not-false (c .before .before .before .has-bits .result) (c .before .before .if5 .left), le-leb _ _ (c .before .if6 .left), eq-eqb _ _ (c .if7 .taken))
 
--- src/read.rt:230:9
 returns-8 : tie.Need-returns-8
 unfolding vcFits vcForm isIdle
 returns-8 c = simp (← c .before .before .before .before .before .before .before .before .before .before .before .load162 .ensures, ← c .before .before .before .before .before .before .before .before .before .before .before .before .before .before .before .byte .ensures, ← c .before .before .before .before .before .before .before .before .before .before .before .before .before .before .byte2 .ensures, ← c .before .before .before .before .before .before .before .before .before .before .before .before .before .load16 .ensures, ← c .before .before .before .before .before .before .before .before .before .before .before .before .byte3 .ensures, ← c .before .before .before .before .before .before .before .byte4 .ensures, lt-ltb _ _ (c .before .before .before .before .before .before .before .before .before .if1 .left), le-leb _ _ (c .before .before .before .before .before .before .before .before .if2 .left), eq-eqb _ _ (c .before .before .before .before .before .before .if3 .left), le-leb _ _ (c .before .before .before .before .before .if4 .left), vcpu-events, ← c .before .before .before .before .has-bits .ensures, not-false (c .before .before .before .before .has-bits .result) (c .before .before .before .if5 .left), le-leb _ _ (c .before .before .if6 .left), ne-eqb _ _ (c .before .if7 .left), eq-eqb _ _ (c .if8 .taken))
 
--- src/read.rt:233:9
 returns-9 : tie.Need-returns-9
 unfolding vcFits vcForm isIdle
 returns-9 c = simp (← c .before .before .before .before .before .before .before .before .before .before .before .before .load162 .ensures, ← c .before .before .before .before .before .before .before .before .before .before .before .before .before .before .before .before .byte .ensures, ← c .before .before .before .before .before .before .before .before .before .before .before .before .before .before .before .byte2 .ensures, ← c .before .before .before .before .before .before .before .before .before .before .before .before .before .before .load16 .ensures, ← c .before .before .before .before .before .before .before .before .before .before .before .before .before .byte3 .ensures, ← c .before .before .before .before .before .before .before .before .byte4 .ensures, lt-ltb _ _ (c .before .before .before .before .before .before .before .before .before .before .if1 .left), le-leb _ _ (c .before .before .before .before .before .before .before .before .before .if2 .left), eq-eqb _ _ (c .before .before .before .before .before .before .before .if3 .left), le-leb _ _ (c .before .before .before .before .before .before .if4 .left), vcpu-events, ← c .before .before .before .before .before .has-bits .ensures, not-false (c .before .before .before .before .before .has-bits .result) (c .before .before .before .before .if5 .left), le-leb _ _ (c .before .before .before .if6 .left), ne-eqb _ _ (c .before .before .if7 .left), ne-eqb _ _ (c .before .if8 .left), ne-eqb _ _ (c .if9 .taken))
 
--- src/read.rt:236:9
 returns-10 : tie.Need-returns-10
 unfolding vcFits vcForm isIdle
 returns-10 c = simp (← c .before .before .before .before .before .before .before .before .before .before .before .before .before .load162 .ensures, ← c .before .before .before .before .before .before .before .before .before .before .before .before .before .before .before .before .before .byte .ensures, ← c .before .before .before .before .before .before .before .before .before .before .before .before .before .before .before .before .byte2 .ensures, ← c .before .before .before .before .before .before .before .before .before .before .before .before .before .before .before .load16 .ensures, ← c .before .before .before .before .before .before .before .before .before .before .before .before .before .before .byte3 .ensures, ← c .before .before .before .before .before .before .before .before .before .byte4 .ensures, lt-ltb _ _ (c .before .before .before .before .before .before .before .before .before .before .before .if1 .left), le-leb _ _ (c .before .before .before .before .before .before .before .before .before .before .if2 .left), eq-eqb _ _ (c .before .before .before .before .before .before .before .before .if3 .left), le-leb _ _ (c .before .before .before .before .before .before .before .if4 .left), vcpu-events, ← c .before .before .before .before .before .before .has-bits .ensures, not-false (c .before .before .before .before .before .before .has-bits .result) (c .before .before .before .before .before .if5 .left), le-leb _ _ (c .before .before .before .before .if6 .left), ne-eqb _ _ (c .before .before .before .if7 .left), ne-eqb _ _ (c .before .before .if8 .left), eq-eqb _ _ (c .before .if9 .left), ne-eqb _ _ (c .if10 .taken))
 
--- src/read.rt:200:1
 returns-11 : tie.Need-returns-11
 unfolding vcFits vcForm isIdle
 returns-11 c = rw (← c .before .before .before .before .before .before .before .before .before .before .before .before .before .load162 .ensures, ← c .before .before .before .before .before .before .before .before .before .before .before .before .before .before .before .before .before .byte .ensures, ← c .before .before .before .before .before .before .before .before .before .before .before .before .before .before .before .before .byte2 .ensures, ← c .before .before .before .before .before .before .before .before .before .before .before .before .before .before .before .load16 .ensures, ← c .before .before .before .before .before .before .before .before .before .before .before .before .before .before .byte3 .ensures, ← c .before .before .before .before .before .before .before .before .before .byte4 .ensures, lt-ltb _ _ (c .before .before .before .before .before .before .before .before .before .before .before .if1 .left), le-leb _ _ (c .before .before .before .before .before .before .before .before .before .before .if2 .left), eq-eqb _ _ (c .before .before .before .before .before .before .before .before .if3 .left), le-leb _ _ (c .before .before .before .before .before .before .before .if4 .left), vcpu-events, ← c .before .before .before .before .before .before .has-bits .ensures, not-false (c .before .before .before .before .before .before .has-bits .result) (c .before .before .before .before .before .if5 .left), le-leb _ _ (c .before .before .before .before .if6 .left), ne-eqb _ _ (c .before .before .before .if7 .left), ne-eqb _ _ (c .before .before .if8 .left), eq-eqb _ _ (c .before .if9 .left), eq-eqb _ _ (c .if10 .left))

@@ -1,30 +1,23 @@
 -- Each test by itself. Assumes nothing.
 use mathlib.Core.Path.{sym, _∙_}
-use borrow.Author.Tests.{lt-ltb, le-ltb, le-leb, lt-leb, eq-eqb, ne-eqb, not-true, not-false}
-use Rattle.kvmi.specs.Image.{vmForm, vcForm, isIdle, paForm, vmMay, vcMay, paMay}
+use borrow.Author.Tests.{le-leb, lt-leb}
+use Rattle.kvmi.specs.Image.{vmForm}
 use Rattle.image.proofs.Tests.{vm-events}
 use borrow.Author.Needs.{needs}
 use Rattle.image.proofs.read.vm_form.Statement.{statement}
 use Rattle.image.proofs.read.vm_form.Tie as tie
-use Rattle.image.proofs.read.vm_form.Reads as reads
-use Rattle.image.proofs.read.vm_form.Lts as lts
-use Rattle.image.proofs.read.has_bits.Reads as has-bits-reads
 
--- src/read.rt:183:9
 returns : tie.Need-returns
 unfolding vmForm
 returns c = simp (lt-leb _ _ (c .if1 .taken))
 
--- src/read.rt:186:9
 returns-2 : tie.Need-returns-2
 unfolding vmForm
 returns-2 c = simp (le-leb _ _ (c .before .if1 .left), lt-leb _ _ (c .if2 .taken))
 
--- src/read.rt:188:5
 has-bits-requires : tie.Need-has-bits-requires
 has-bits-requires c κs = search needs
 
--- src/read.rt:179:1
 returns-3 : tie.Need-returns-3
 unfolding vmForm
 returns-3 c = simp (le-leb _ _ (c .before .before .if1 .left), le-leb _ _ (c .before .if2 .left)) (c .has-bits .ensures ∙ sym (vm-events _))

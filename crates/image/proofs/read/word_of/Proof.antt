@@ -1,33 +1,25 @@
 -- By computation. Assumes nothing.
-use mathlib.Core.Path.{_≡_, refl, sym, ap, _∙_}
-use Rattle.image.specs.Load.{sizeBy, pageBy, wordOf, vcpusBy, pagesBy}
+use mathlib.Core.Path.{refl}
+use Rattle.image.specs.Load.{wordOf}
 use borrow.Author.Needs.{needs}
 use Rattle.image.proofs.read.word_of.Statement.{statement}
 use Rattle.image.proofs.read.word_of.Tie as tie
-use Rattle.image.proofs.read.word_of.Reads as reads
-use Rattle.image.proofs.read.word_of.Lts as lts
 
--- src/read.rt:582:5
 cast-result : tie.Need-cast-result
 cast-result c = search needs
 
--- src/read.rt:582:5
 mul-result : tie.Need-mul-result
 mul-result c = search needs
 
--- src/read.rt:582:45
 mul-result-2 : tie.Need-mul-result-2
 mul-result-2 c = search needs
 
--- src/read.rt:582:5
 add-result : tie.Need-add-result
 add-result c = search needs
 
--- src/read.rt:582:5
 add-result-2 : tie.Need-add-result-2
 add-result-2 c = search needs
 
--- src/read.rt:579:1
 returns : tie.Need-returns
 unfolding wordOf
 returns c = refl
