@@ -4,6 +4,7 @@ use mathlib.Core.List.{List, [], _∷_, _++_, map}
 use mathlib.Core.Bool.{Bool, true, false}
 use mathlib.Core.Option.{none}
 use lib.ListN.{take, drop, set, replicate}
+use Rattle.kvmi.specs.declared.ReplyMode.{ReplyMode}
 use Rattle.kvmi.specs.declared.ReplyMode.the-variants.{On, Off, ErrorsOnly}
 use Rattle.kvmi.specs.declared.Signal.the-variants.{Quiet, Kick, Crash}
 use Rattle.kvmi.specs.Answer.{handled, plain}
@@ -271,17 +272,23 @@ pasFrom i (suc n) = pa 0 i 1 ++ pasFrom (suc i) n
 abbrev pub holding : ℕ → Tables
 holding n = record { events = 0; vcpus = (record { ready = false; singlestep = false; crs = 0; events = 0; pauses = 0 }) ∷ (record { ready = false; singlestep = false; crs = 0; events = 0; pauses = 0 }) ∷ []; msrs = []; pages = pagesFrom 0 n }
 
--- three entries of view 0 on the pages 0 to n - 1, the reply's code, and the image after it
-abbrev pub filled : ℕ → List ℕ → List ℕ → List ℕ → Edge
-filled n entries code image =
-    started two (standing (record { tables = holding n; mode = On; seq = 0; awaited = nobody; closed = false })) (setAccess 3 0 entries ∷ []) (answered 13 code image)
+-- a session with the pages 0 to n - 1 and a reply mode; in it, three entries of view 0
+abbrev pub filled : ℕ → ReplyMode → List ℕ → Outcome → Edge
+filled n mode entries expected =
+    started two (standing (record { tables = holding n; mode = mode; seq = 7; awaited = nobody; closed = false })) (setAccess 3 0 entries ∷ []) expected
 
 abbrev pub fullEdges : List Edge
 fullEdges =
-    -- a page takes the last room, the next is skipped, one that stands below rwx is changed
-    filled 1023 (entry 0x1001000 3 ++ entry 0x1002000 3 ++ entry 0x3FE000 5) c12 (vm ++ idle 0 ++ idle 1 ++ pasFrom 0 1022 ++ pa 0 0x3FE 5 ++ pa 0 0x1001 3 ++ en 1027)
+    -- a page takes the last room, the next is skipped, one that stands below rwx is changed; with replies off it is told by an event, or not at all
+    filled 1023 On (entry 0x1001000 3 ++ entry 0x1002000 3 ++ entry 0x3FE000 5)
+    (told (handled 16 Quiet) (reply 13 c12) (vm ++ idle 0 ++ idle 1 ++ pasFrom 0 1022 ++ pa 0 0x3FE 5 ++ pa 0 0x1001 3 ++ en 1027) (beside On 7 nobody))
+    ∷ filled 1023 ErrorsOnly (entry 0x1001000 3 ++ entry 0x1002000 3 ++ entry 0x3FE000 5)
+    (told (handled 568 Quiet) (failBytes 7 c12 13) (vm ++ idle 0 ++ idle 1 ++ pasFrom 0 1022 ++ pa 0 0x3FE 5 ++ pa 0 0x1001 3 ++ en 1027) (beside ErrorsOnly 8 nobody))
+    ∷ filled 1023 Off (entry 0x1001000 3 ++ entry 0x1002000 3 ++ entry 0x3FE000 5)
+    (told (handled 0 Quiet) [] (vm ++ idle 0 ++ idle 1 ++ pasFrom 0 1022 ++ pa 0 0x3FE 5 ++ pa 0 0x1001 3 ++ en 1027) (beside Off 7 nobody))
     -- one at rwx is forgotten without need of room, and one that is below rwx makes room
-    ∷ filled 1024 (entry 0x1001000 7 ++ entry 0x3FF000 7 ++ entry 0x1002000 0) c0 (vm ++ idle 0 ++ idle 1 ++ pasFrom 0 1023 ++ pa 0 0x1002 0 ++ en 1027)
+    ∷ filled 1024 On (entry 0x1001000 7 ++ entry 0x3FF000 7 ++ entry 0x1002000 0)
+    (told (handled 16 Quiet) (reply 13 c0) (vm ++ idle 0 ++ idle 1 ++ pasFrom 0 1023 ++ pa 0 0x1002 0 ++ en 1027) (beside On 7 nobody))
     ∷ []
 
 abbrev pub asks : ℕ → ℕ → Entry
