@@ -1,1 +1,4 @@
 pub mod Written
+pub mod Tests
+pub mod Steps
+pub mod Loads

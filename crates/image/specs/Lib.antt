@@ -1,3 +1,5 @@
 pub mod Write
-pub mod Read
 pub mod Parts
+pub mod Read
+pub mod Test
+pub mod Load

@@ -7,7 +7,7 @@ use Rattle.wire.specs.Code.{twos, codeBytes}
 use Rattle.kvmi.specs.Bits.{bitOf, isOn, putBit, bitsHave}
 use Rattle.kvmi.specs.Row.{writeRow, readRow}
 use Rattle.kvmi.specs.Settings.{inRange, isSet, allowsCommand, allowsEvent, canSinglestep, uncatchable, taken}
-use Rattle.kvmi.specs.Tables.{isCr, crBit, isMsr}
+use Rattle.kvmi.specs.Tables.{isCr, crBit, isMsr, vmEventOn, eventOn, crOn, msrIn, msrOn, accessIn, access}
 use Rattle.kvmi.specs.Model.{nextSeq}
 use Rattle.kvmi.specs.Message.{layoutOf, sizeFits, namesVcpu, vcpuOf, enableAt, enables, flagsAt, eventOf, registerOf, gpaOf, sizeOf, countOf, countFits, viewOf, entryOf, entriesOf, entryPadding, padding, firstNonZero, firstOfRuns, firstPadding, isVmEvent, isVcpuEvent, takesEvent}
 use Rattle.kvmi.specs.Verdict.{isAccess, inOnePage, isInvalid, isUnready, isDenied, isUnsupported, isBusy, pageExists, isAbsent, changeOf, losesErrors, commandVerdict, isAwaited, eventReplyVerdict, verdict}
@@ -19,7 +19,7 @@ use Rattle.kvmi.specs.Call.{beginFresh, beginFrom, answering, judged, he
 use Rattle.kvmi.specs.Case.{Case, seen, cases}
 use Rattle.kvmi.specs.Edge.{Edge, outcome}
 use Rattle.kvmi.specs.MessageEdges.{ofMessages, paddings, paddingsSeen}
-use Rattle.kvmi.specs.SessionEdges.{ofSessions, crowded, crowdedSeen}
+use Rattle.kvmi.specs.SessionEdges.{ofSessions, lookups, lookupsSeen, accesses, accessesSeen, crowded, crowdedSeen}
 use Rattle.kvmi.specs.ImageEdges.{ofImages, crammed, crammedSeen}
 
 abbrev Right : List Case → Type 0
@@ -56,3 +56,12 @@ crammed-right = refl
 pub paddings-right : paddings ≡ paddingsSeen
 unfolding le num load countOf countFits entryPadding padding firstNonZero firstOfRuns firstPadding
 paddings-right = refl
+
+-- how tables are read
+pub lookups-right : lookups ≡ lookupsSeen
+unfolding bitOf isOn isCr crBit vmEventOn eventOn crOn msrIn msrOn
+lookups-right = refl
+
+pub accesses-right : accesses ≡ accessesSeen
+unfolding accessIn access
+accesses-right = refl

@@ -219,13 +219,15 @@ abbrev pub closing : Outcome
 closing = told (plain 1) [] freshImage shut
 
 -- ---- rows by kind
--- a session that begins and is not called
-abbrev pub begun : Settings → Start → Outcome → Edge
-begun s start expected = record { settings = s; start = start; calls = []; expected = expected }
+abbrev pub started : Settings → Start → List Call → Outcome → Edge
+started s start calls expected = record { settings = s; start = start; calls = calls; expected = expected }
 
--- a session begun fresh
+-- begun and not called; begun fresh
+abbrev pub begun : Settings → Start → Outcome → Edge
+begun s start expected = started s start [] expected
+
 abbrev pub row : Settings → List Call → Outcome → Edge
-row s calls expected = record { settings = s; start = anew; calls = calls; expected = expected }
+row s calls expected = started s anew calls expected
 
 -- one message, by id and data, in the session of `two` with vCPU 0 ready: replied to with 0 and an image after it; with an error; closing
 abbrev pub taken : ℕ → List ℕ → List ℕ → Edge
@@ -239,7 +241,7 @@ closes id d = row two (ready 0 ∷ send id d ∷ []) closing
 
 -- the same under other settings, and behind other calls
 abbrev pub under : Settings → Edge → Edge
-under s e = record { settings = s; start = e .start; calls = e .calls; expected = e .expected }
+under s e = started s (e .start) (e .calls) (e .expected)
 
 abbrev pub behind : List Call → Edge → Edge
-behind cs e = record { settings = e .settings; start = e .start; calls = cs ++ e .calls; expected = e .expected }
+behind cs e = started (e .settings) (e .start) (cs ++ e .calls) (e .expected)

@@ -10,7 +10,7 @@ use Rattle.kvmi.specs.Image.{Loaded, badForm as badFormAt, paRecord, enR
 use Rattle.kvmi.specs.Call.{writeImage}
 use Rattle.kvmi.specs.Case.{fromBytes, two, vm, vc, en, freshImage}
 use Rattle.kvmi.specs.SessionEdges.{holding, stands}
-use Rattle.kvmi.specs.Edge.{Edge, nothing, left, commanding, equipped, sized, without, few, lent, vmHas, idle, ms, pa, quiet, gave, begun}
+use Rattle.kvmi.specs.Edge.{Edge, nothing, left, commanding, equipped, sized, without, few, lent, vmHas, idle, ms, pa, quiet, gave, started, begun}
 
 -- under settings, an image that loads and states the same again; one of bad form, one that is forbidden, with the offset
 abbrev pub loads : Settings → List ℕ → Edge
@@ -58,7 +58,7 @@ formEdges =
     -- what loads is stated again, and is written so
     loads two freshImage
     ∷ loads wide rich
-    ∷ (record { settings = wide; start = fromBytes rich; calls = writeImage (lent 101) ∷ []; expected = gave (handled 100 Quiet) rich (lent 101) rich quiet })
+    ∷ started wide (fromBytes rich) (writeImage (lent 101) ∷ []) (gave (handled 100 Quiet) rich (lent 101) rich quiet)
     -- a record that is cut fails at its start, and a missing record at the length
     ∷ cutAt 0 0
     ∷ cutAt 1 0
@@ -130,6 +130,10 @@ formEdges =
     ∷ broken 96 8 94
     ∷ broken 96 10 94
     ∷ broken 99 1 94
+    -- a flag not named, alone and with ready; page 2^52 itself
+    ∷ badForm two (first (vc 0 4 0 0 0)) 8
+    ∷ badForm two (first (vc 0 5 0 0 0)) 8
+    ∷ badForm two (tailed (pa 0 0x10000000000000 1 ++ en 4)) 28
     -- event bits that message 5 does not take, and those that message 10 does not take
     ∷ map (λ e. badForm two (vmHas (2 ^ e) ++ idle 0 ++ idle 1 ++ en 3) 0) (0 ∷ 2 ∷ 3 ∷ 4 ∷ 5 ∷ 6 ∷ 7 ∷ 8 ∷ 9 ∷ 10 ∷ 11 ∷ 13 ∷ 14 ∷ 15 ∷ [])
     ++ map (λ e. badForm two (first (vc 0 1 0 (2 ^ e) 0)) 8) (0 ∷ 1 ∷ 2 ∷ 6 ∷ 12 ∷ 13 ∷ 15 ∷ [])
@@ -172,12 +176,7 @@ orderEdges =
 
 abbrev pub permissionEdges : List Edge
 permissionEdges =
-    -- VM: the count is unlike the settings', whatever follows; an event is not allowed
-    map (λ n. forbidden wide (take 8 (set rich 4 n)) 0) (1 ∷ 3 ∷ 16 ∷ [])
-    ++ map (λ e. forbidden (without e) rich 0) (1 ∷ 12 ∷ [])
-    -- VC: an event, or event 2 for pauses, is not allowed; singlestep, event 8, event 4
-    ++ map (λ e. forbidden (without e) rich 8) (2 ∷ 3 ∷ 4 ∷ 5 ∷ 7 ∷ 8 ∷ 9 ∷ 10 ∷ 11 ∷ 14 ∷ [])
-    ++ (
+    -- VC: singlestep, event 8, event 4
     forbidden (equipped 0 1 0) rich 8
     ∷ forbidden (equipped 1 0 0) rich 8
     ∷ forbidden (equipped 1 1 1) rich 8
@@ -185,6 +184,9 @@ permissionEdges =
     ∷ forbidden (without 13) rich 66
     ∷ loads (equipped 0 0 1) (first (vc 0 1 7 0x4EA8 8))
     ∷ loads few (first (vc 0 1 0 0x200 3))
+    -- a pause is what event 2 is needed for
+    ∷ loads (without 2) (first (vc 0 3 7 0x4FB8 0))
+    ∷ forbidden (without 2) (first (vc 0 1 0 0 1)) 8
     -- commands are not asked
     ∷ loads (commanding 0) (tailed (ms 0 0x10 ++ pa 0 5 1 ++ en 5))
     -- of the second vCPU
@@ -200,8 +202,11 @@ permissionEdges =
     -- an earlier 9 before a later 8, and an earlier 8 before a later 9
     ∷ forbidden few (vm ++ vc 0 1 0 0x20 0 ++ idle 0 ++ en 3) 8
     ∷ badForm few (vm ++ vc 0 1 8 0 0 ++ vc 1 3 0 0 0 ++ en 3) 8
-    ∷ []
-    )
+    -- VM: the count is unlike the settings', whatever follows; an event is not allowed
+    ∷ map (λ n. forbidden wide (take 8 (set rich 4 n)) 0) (1 ∷ 3 ∷ 16 ∷ [])
+    ++ map (λ e. forbidden (without e) rich 0) (1 ∷ 12 ∷ [])
+    -- VC: an event, or event 2 for pauses, is not allowed
+    ++ map (λ e. forbidden (without e) rich 8) (2 ∷ 3 ∷ 4 ∷ 5 ∷ 7 ∷ 8 ∷ 9 ∷ 10 ∷ 11 ∷ 14 ∷ [])
 
 abbrev pub ofImages : List Edge
 ofImages = formEdges ++ orderEdges ++ permissionEdges

@@ -98,8 +98,19 @@ spoilt id d x places = map (λ at. fails id (set d at x) c22) places
 
 abbrev pub fieldEdges : List Edge
 fieldEdges =
+    -- message 2 knows 1 to 15, message 3 events 1 to 14, each in two bytes
+    fails 2 (naming 0) c22
+    ∷ taken 2 (naming 1) readyImage
+    ∷ taken 2 (naming 15) readyImage
+    ∷ fails 2 (naming 16) c22
+    ∷ fails 2 (naming 0x105) c22
+    ∷ fails 3 (naming 0) c22
+    ∷ taken 3 (naming 1) readyImage
+    ∷ taken 3 (naming 14) readyImage
+    ∷ fails 3 (naming 15) c22
+    ∷ fails 3 (naming 0x105) c22
     -- the first and the last byte of each run of padding
-    spoilt 2 (naming 5) 1 (2 ∷ 7 ∷ [])
+    ∷ spoilt 2 (naming 5) 1 (2 ∷ 7 ∷ [])
     ++ spoilt 3 (naming 5) 1 (2 ∷ 7 ∷ [])
     ++ spoilt 5 (eventData 12 1) 1 (3 ∷ 7 ∷ [])
     ++ spoilt 8 (vcpuHeader 0) 1 (2 ∷ 7 ∷ [])
@@ -126,20 +137,6 @@ fieldEdges =
     ++ spoilt 12 (registerData 0 0x1FFF 1) 2 (0 ∷ [])
     ++ spoilt 14 (flagData 0 1) 2 (0 ∷ [])
     ++ spoilt 8 (vcpuHeader 0) 1 (1 ∷ [])
-    -- message 2 knows 1 to 15, message 3 events 1 to 14, each in two bytes
-    ++ (
-    fails 2 (naming 0) c22
-    ∷ taken 2 (naming 1) readyImage
-    ∷ taken 2 (naming 15) readyImage
-    ∷ fails 2 (naming 16) c22
-    ∷ fails 2 (naming 0x105) c22
-    ∷ fails 3 (naming 0) c22
-    ∷ taken 3 (naming 1) readyImage
-    ∷ taken 3 (naming 14) readyImage
-    ∷ fails 3 (naming 15) c22
-    ∷ fails 3 (naming 0x105) c22
-    ∷ []
-    )
 
 -- ---- switches: the image shows which of many messages were taken
 abbrev pub switchEdges : List Edge
@@ -210,8 +207,8 @@ accessEdges =
     ∷ fails 13 (accessData 1 1 (entry 0x5000 1)) c22
     ∷ under (sized 2 8) (fails 13 (accessData 1 8 (entry 0x5000 1)) c22)
     ∷ under (sized 2 8) (fails 13 (accessData 1 0x100 (entry 0x5000 1)) c22)
-    ∷ row (sized 2 8) (setAccess 2 7 (entry 0x3000 1 ++ entry 0x9000 4) ∷ setAccess 2 0 (entry 0x9000 5 ++ entry 0x3000 0) ∷ setAccess 1 0 (entry 0x3000 7) ∷ [])
-    (answered 13 c0 (vm ++ idle 0 ++ idle 1 ++ pa 0 9 5 ++ pa 7 3 1 ++ pa 7 9 4 ++ en 6))
+    ∷ row (sized 2 8) (setAccess 2 7 (entry 0x3000 1 ++ entry 0x9000 4) ∷ setAccess 3 0 (entry 0xA000 5 ++ entry 0x3000 0 ++ entry 0x9000 5) ∷ setAccess 1 0 (entry 0x3000 7) ∷ [])
+    (answered 13 c0 (vm ++ idle 0 ++ idle 1 ++ pa 0 9 5 ++ pa 0 10 5 ++ pa 7 3 1 ++ pa 7 9 4 ++ en 7))
     ∷ []
 
 -- ---- messages 6 and 7
@@ -252,6 +249,9 @@ memoryEdges =
     ∷ lending [] 6 (physical 0 1) (reply 6 c2) []
     -- the last byte of the second page, read and written; the first byte of all
     ∷ lending page 6 (physical 0 1) (6 ∷ 0 ∷ 9 ∷ 0 ∷ 8 ∷ 0 ∷ 0 ∷ 0 ∷ replicate 9 0) page
+    -- the last byte of the seventeenth page: an address of more than two bytes
+    ∷ lending (replicate 65536 0 ++ page) 6 (physical 69631 1) (6 ∷ 0 ∷ 9 ∷ 0 ∷ 8 ∷ 0 ∷ 0 ∷ 0 ∷ c0 ++ c0 ++ (0xAB ∷ [])) (replicate 65536 0 ++ page)
+    ∷ lending (replicate 65536 0 ++ page) 7 (physical 69631 1 ++ (5 ∷ [])) (reply 7 c0) (replicate 69631 0 ++ (5 ∷ []))
     ∷ lending pages 6 (physical 8191 1) (6 ∷ 0 ∷ 9 ∷ 0 ∷ 8 ∷ 0 ∷ 0 ∷ 0 ∷ c0 ++ c0 ++ (0xAB ∷ [])) pages
     ∷ lending pages 7 (physical 8191 1 ++ (5 ∷ [])) (reply 7 c0) (page ++ replicate 4095 0 ++ (5 ∷ []))
     ∷ lending half 7 (physical 0 2 ++ (5 ∷ 6 ∷ [])) (reply 7 c0) (5 ∷ 6 ∷ drop 2 half)

@@ -1,20 +1,21 @@
 -- Edges of several calls: replies and the reply mode, events and their replies, the other host calls, closed sessions, beginnings, full tables.
 use Prim.Native.Nat.{ℕ, zero, suc}
 use mathlib.Core.List.{List, [], _∷_, _++_, map}
-use mathlib.Core.Bool.{true, false}
+use mathlib.Core.Bool.{Bool, true, false}
 use mathlib.Core.Option.{none}
 use lib.ListN.{take, drop, set, replicate}
+use Rattle.kvmi.specs.declared.ReplyMode.{ReplyMode}
 use Rattle.kvmi.specs.declared.ReplyMode.the-variants.{On, Off, ErrorsOnly}
-use Rattle.kvmi.specs.declared.Signal.the-variants.{Quiet, Crash}
+use Rattle.kvmi.specs.declared.Signal.the-variants.{Quiet, Kick, Crash}
 use Rattle.kvmi.specs.Answer.{handled, plain}
-use Rattle.kvmi.specs.Tables.{Page, Tables}
+use Rattle.kvmi.specs.Tables.{Page, Tables, vmEventOn, eventOn, crOn, msrOn, access}
 use Rattle.kvmi.specs.Model.{Model}
 use Rattle.kvmi.specs.Message.{Entry}
 use Rattle.kvmi.specs.Change.{Run, takeEntries}
 use Rattle.kvmi.specs.Reply.{messageBytes}
 use Rattle.kvmi.specs.Call.{Call, message, ready, enter, writeImage}
 use Rattle.kvmi.specs.Case.{anew, fromBytes, standing, two, out, page, send, vcpuHeader, physical, entry, pause, controlMsr, setAccess, reply, c0, c22, vm, vc, en, freshImage, readyImage}
-use Rattle.kvmi.specs.Edge.{Edge, nothing, left, commanding, sized, odd, lent, state, naming, eventData, modeData, answerData, controlVmEvent, controlEvent, controlCr, singlestep, responses, sendAs, eventReply, to15, c11, c12, idle, pa, joined, vmOf, pauseBytes, failBytes, beside, nobody, awaits, quiet, shut, over, told, gave, answered, closing, begun, row}
+use Rattle.kvmi.specs.Edge.{Outcome, Edge, nothing, left, commanding, sized, odd, lent, state, naming, eventData, modeData, answerData, controlVmEvent, controlEvent, controlCr, singlestep, responses, sendAs, eventReply, to15, c11, c12, vmHas, idle, ms, pa, joined, vmOf, pauseBytes, failBytes, beside, nobody, awaits, quiet, shut, over, told, gave, answered, closing, started, begun, row}
 
 -- ---- replies and reply mode
 abbrev pub replyEdges : List Edge
@@ -101,7 +102,7 @@ eventEdges =
     ∷ row two (sent ++ (eventReply 0 0 2 2 ∷ [])) (told (handled 0 (Crash 0)) [] readyImage (beside On 1 nobody))
     ∷ row two (sent ++ (responses 0 1 1 ∷ eventReply 0 0 2 2 ∷ [])) (told (handled 0 (Crash 0)) [] readyImage (beside ErrorsOnly 1 nobody))
     ∷ row two (sent ++ (eventReply 0 0 0 2 ∷ eventReply 0 0 0 2 ∷ [])) closing
-    ∷ (record { settings = commanding 0; start = fromBytes (vm ++ idle 0 ++ vc 1 1 0 0 1 ++ en 3); calls = enter 1 state (lent 552) ∷ eventReply 0 1 2 2 ∷ []; expected = told (handled 0 (Crash 1)) [] (vm ++ idle 0 ++ vc 1 1 0 0 0 ++ en 3) (beside On 1 nobody) })
+    ∷ started (commanding 0) (fromBytes (vm ++ idle 0 ++ vc 1 1 0 0 1 ++ en 3)) (enter 1 state (lent 552) ∷ eventReply 0 1 2 2 ∷ []) (told (handled 0 (Crash 1)) [] (vm ++ idle 0 ++ vc 1 1 0 0 0 ++ en 3) (beside On 1 nobody))
     -- of two that are awaited, the one that is meant
     ∷ row two (ready 1 ∷ pause 1 ∷ sent ++ (enter 1 state (lent 552) ∷ eventReply 1 1 0 2 ∷ []))
     (told (handled 0 Quiet) [] (vm ++ vc 0 1 0 0 0 ++ vc 1 1 0 0 0 ++ en 3) (beside On 2 (awaits 0 ∷ none ∷ [])))
@@ -131,9 +132,80 @@ eventEdges =
     ∷ row two (eventReply 0 0 0 1 ∷ []) closing
     ∷ row two (eventReply 0 0 0 0 ∷ []) closing
     -- the seq goes from 4,294,967,295 to 0
-    ∷ (record { settings = two; start = standing (pausedAt 0xFFFFFFFF); calls = enter 0 state (lent 552) ∷ []; expected = gave (handled 552 Quiet) (pauseBytes 0xFFFFFFFF 0) (lent 552) readyImage (beside On 0 (awaits 0xFFFFFFFF ∷ none ∷ [])) })
-    ∷ (record { settings = two; start = standing (pausedAt 0xFFFFFFFE); calls = enter 0 state (lent 552) ∷ []; expected = gave (handled 552 Quiet) (pauseBytes 0xFFFFFFFE 0) (lent 552) readyImage (beside On 0xFFFFFFFF (awaits 0xFFFFFFFE ∷ none ∷ [])) })
+    ∷ started two (standing (pausedAt 0xFFFFFFFF)) (enter 0 state (lent 552) ∷ []) (gave (handled 552 Quiet) (pauseBytes 0xFFFFFFFF 0) (lent 552) readyImage (beside On 0 (awaits 0xFFFFFFFF ∷ none ∷ [])))
+    ∷ started two (standing (pausedAt 0xFFFFFFFE)) (enter 0 state (lent 552) ∷ []) (gave (handled 552 Quiet) (pauseBytes 0xFFFFFFFE 0) (lent 552) readyImage (beside On 0xFFFFFFFF (awaits 0xFFFFFFFE ∷ none ∷ [])))
     ∷ []
+
+-- ---- each call changes its own and nothing else
+-- the image of a session of two vCPUs and eight views with nothing at rest: its VM event bits, VC of vCPU 0, and what follows the VCs
+abbrev pub astir : ℕ → List ℕ → List ℕ → List ℕ
+astir events vc0 behind = vmHas events ++ vc0 ++ vc 1 1 2 0x20 2 ++ behind
+
+abbrev pub stir : List ℕ
+stir = vc 0 3 5 0x4218 3
+
+abbrev pub records : List ℕ
+records = ms 0 0x10 ++ ms 1 0x20 ++ pa 0 5 1 ++ pa 1 6 4 ++ en 7
+
+-- one call of it
+abbrev pub stirred : Call → Outcome → Edge
+stirred call expected = started (sized 2 8) (fromBytes (astir 0x1000 stir records)) (call ∷ []) expected
+
+abbrev pub ownEdges : List Edge
+ownEdges =
+    stirred (send 2 (naming 5)) (answered 2 c0 (astir 0x1000 stir records))
+    -- a switch more and a switch less, or a page, of each kind
+    ∷ stirred (controlVmEvent 1 1) (answered 5 c0 (astir 0x1002 stir records))
+    ∷ stirred (controlVmEvent 12 0) (answered 5 c0 (astir 0 stir records))
+    ∷ stirred (controlEvent 0 5 1) (answered 10 c0 (astir 0x1000 (vc 0 3 5 0x4238 3) records))
+    ∷ stirred (controlEvent 0 4 0) (answered 10 c0 (astir 0x1000 (vc 0 3 5 0x4208 3) records))
+    ∷ stirred (controlCr 0 3 1) (answered 11 c0 (astir 0x1000 (vc 0 3 7 0x4218 3) records))
+    ∷ stirred (controlCr 0 0 0) (answered 11 c0 (astir 0x1000 (vc 0 3 4 0x4218 3) records))
+    ∷ stirred (controlMsr 0 0x20 1) (answered 12 c0 (astir 0x1000 stir (ms 0 0x10 ++ ms 0 0x20 ++ ms 1 0x20 ++ pa 0 5 1 ++ pa 1 6 4 ++ en 8)))
+    ∷ stirred (controlMsr 1 0x20 0) (answered 12 c0 (astir 0x1000 stir (ms 0 0x10 ++ pa 0 5 1 ++ pa 1 6 4 ++ en 6)))
+    ∷ stirred (setAccess 1 1 (entry 0x5000 3)) (answered 13 c0 (astir 0x1000 stir (ms 0 0x10 ++ ms 1 0x20 ++ pa 0 5 1 ++ pa 1 5 3 ++ pa 1 6 4 ++ en 8)))
+    ∷ stirred (setAccess 1 1 (entry 0x6000 7)) (answered 13 c0 (astir 0x1000 stir (ms 0 0x10 ++ ms 1 0x20 ++ pa 0 5 1 ++ en 6)))
+    ∷ stirred (singlestep 0 0) (answered 14 c0 (astir 0x1000 (vc 0 1 5 0x4218 3) records))
+    -- a pause more and one less; the reply mode; a ready mark
+    ∷ stirred (pause 0) (told (handled 16 (Kick 0 true)) (reply 9 c0) (astir 0x1000 (vc 0 3 5 0x4218 4) records) quiet)
+    ∷ stirred (enter 0 state (lent 552)) (gave (handled 552 Quiet) (pauseBytes 0 0) (lent 552) (astir 0x1000 (vc 0 3 5 0x4218 2) records) (beside On 1 (awaits 0 ∷ none ∷ [])))
+    ∷ stirred (responses 0 0 1) (told (handled 16 Quiet) (reply 15 c0) (astir 0x1000 stir records) (beside ErrorsOnly 0 nobody))
+    ∷ stirred (ready 0) (gave (handled 0 Quiet) [] [] (astir 0x1000 stir records) quiet)
+    -- its 78 bytes
+    ∷ stirred (writeImage (lent 80)) (gave (handled 78 Quiet) (astir 0x1000 stir records) (lent 80) (astir 0x1000 stir records) quiet)
+    ∷ stirred (writeImage (lent 77)) (gave (plain 3) [] (lent 77) (astir 0x1000 stir records) quiet)
+    ∷ []
+
+-- what a reader reads there: VM events 1 and 12; of each vCPU event 5, then CR0, CR3, CR4, then CR1 of vCPU 0, then MSRs 0x10 and 0x20 of each vCPU
+abbrev pub tables : Tables
+tables =
+    record {
+      events = 0x1000;
+      vcpus = (record { ready = true; singlestep = true; crs = 5; events = 0x4218; pauses = 3 }) ∷ (record { ready = true; singlestep = false; crs = 2; events = 0x20; pauses = 2 }) ∷ [];
+      msrs = (record { vcpu = 0; msr = 0x10 }) ∷ (record { vcpu = 1; msr = 0x20 }) ∷ [];
+      pages = (record { view = 0; page = 5; access = 1 }) ∷ (record { view = 1; page = 6; access = 4 }) ∷ [];
+    }
+
+abbrev pub lookups : List Bool
+lookups =
+    vmEventOn tables 1 ∷ vmEventOn tables 12
+    ∷ eventOn tables 0 5 ∷ eventOn tables 1 5
+    ∷ crOn tables 0 0 ∷ crOn tables 0 3 ∷ crOn tables 0 4 ∷ crOn tables 1 0 ∷ crOn tables 1 3 ∷ crOn tables 1 4 ∷ crOn tables 0 1
+    ∷ msrOn tables 0 0x10 ∷ msrOn tables 0 0x20 ∷ msrOn tables 1 0x10 ∷ msrOn tables 1 0x20 ∷ []
+
+abbrev pub lookupsSeen : List Bool
+lookupsSeen =
+    false ∷ true
+    ∷ false ∷ true
+    ∷ true ∷ false ∷ true ∷ false ∷ true ∷ false ∷ false
+    ∷ true ∷ false ∷ false ∷ true ∷ []
+
+-- pages 5 and 6 of each view
+abbrev pub accesses : List ℕ
+accesses = access tables 0 5 ∷ access tables 0 6 ∷ access tables 1 5 ∷ access tables 1 6 ∷ []
+
+abbrev pub accessesSeen : List ℕ
+accessesSeen = 1 ∷ 7 ∷ 7 ∷ 4 ∷ []
 
 -- ---- the other calls, calls on a closed session, and how a session begins
 -- everything at once, and then an empty message
@@ -200,12 +272,23 @@ pasFrom i (suc n) = pa 0 i 1 ++ pasFrom (suc i) n
 abbrev pub holding : ℕ → Tables
 holding n = record { events = 0; vcpus = (record { ready = false; singlestep = false; crs = 0; events = 0; pauses = 0 }) ∷ (record { ready = false; singlestep = false; crs = 0; events = 0; pauses = 0 }) ∷ []; msrs = []; pages = pagesFrom 0 n }
 
+-- a session with the pages 0 to n - 1 and a reply mode; in it, three entries of view 0
+abbrev pub filled : ℕ → ReplyMode → List ℕ → Outcome → Edge
+filled n mode entries expected =
+    started two (standing (record { tables = holding n; mode = mode; seq = 7; awaited = nobody; closed = false })) (setAccess 3 0 entries ∷ []) expected
+
 abbrev pub fullEdges : List Edge
 fullEdges =
-    -- a page takes the last room, the next is skipped, one that stands below rwx is changed
-    (record { settings = two; start = standing (record { tables = holding 1023; mode = On; seq = 0; awaited = nobody; closed = false }); calls = setAccess 3 0 (entry 0x1001000 3 ++ entry 0x1002000 3 ++ entry 0x3FE000 5) ∷ []; expected = answered 13 c12 (vm ++ idle 0 ++ idle 1 ++ pasFrom 0 1022 ++ pa 0 0x3FE 5 ++ pa 0 0x1001 3 ++ en 1027) })
+    -- a page takes the last room, the next is skipped, one that stands below rwx is changed; with replies off it is told by an event, or not at all
+    filled 1023 On (entry 0x1001000 3 ++ entry 0x1002000 3 ++ entry 0x3FE000 5)
+    (told (handled 16 Quiet) (reply 13 c12) (vm ++ idle 0 ++ idle 1 ++ pasFrom 0 1022 ++ pa 0 0x3FE 5 ++ pa 0 0x1001 3 ++ en 1027) (beside On 7 nobody))
+    ∷ filled 1023 ErrorsOnly (entry 0x1001000 3 ++ entry 0x1002000 3 ++ entry 0x3FE000 5)
+    (told (handled 568 Quiet) (failBytes 7 c12 13) (vm ++ idle 0 ++ idle 1 ++ pasFrom 0 1022 ++ pa 0 0x3FE 5 ++ pa 0 0x1001 3 ++ en 1027) (beside ErrorsOnly 8 nobody))
+    ∷ filled 1023 Off (entry 0x1001000 3 ++ entry 0x1002000 3 ++ entry 0x3FE000 5)
+    (told (handled 0 Quiet) [] (vm ++ idle 0 ++ idle 1 ++ pasFrom 0 1022 ++ pa 0 0x3FE 5 ++ pa 0 0x1001 3 ++ en 1027) (beside Off 7 nobody))
     -- one at rwx is forgotten without need of room, and one that is below rwx makes room
-    ∷ (record { settings = two; start = standing (record { tables = holding 1024; mode = On; seq = 0; awaited = nobody; closed = false }); calls = setAccess 3 0 (entry 0x1001000 7 ++ entry 0x3FF000 7 ++ entry 0x1002000 0) ∷ []; expected = answered 13 c0 (vm ++ idle 0 ++ idle 1 ++ pasFrom 0 1023 ++ pa 0 0x1002 0 ++ en 1027) })
+    ∷ filled 1024 On (entry 0x1001000 7 ++ entry 0x3FF000 7 ++ entry 0x1002000 0)
+    (told (handled 16 Quiet) (reply 13 c0) (vm ++ idle 0 ++ idle 1 ++ pasFrom 0 1023 ++ pa 0 0x1002 0 ++ en 1027) (beside On 7 nobody))
     ∷ []
 
 abbrev pub asks : ℕ → ℕ → Entry
@@ -226,4 +309,4 @@ abbrev pub crowdedSeen : Run
 crowdedSeen = record { pages = stands 3 3 ∷ stands 9 0 ∷ []; skipped = true }
 
 abbrev pub ofSessions : List Edge
-ofSessions = replyEdges ++ eventEdges ++ callEdges ++ fullEdges
+ofSessions = replyEdges ++ eventEdges ++ ownEdges ++ callEdges ++ fullEdges
