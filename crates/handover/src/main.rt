@@ -99,7 +99,13 @@ fn move_to(letter: &[u8], held: Held, answer: Answer, session: Session) -> Held 
 }
 
 // An image is read: the session that it makes, or the one that stands.
-fn read_image(letter: &[u8], held: Held, vcpus: &mut [u64; 4352], pages: &mut [u64; 1024], image: &[u8]) -> Held {
+fn read_image(
+    letter: &[u8],
+    held: Held,
+    vcpus: &mut [u64; 4352],
+    pages: &mut [u64; 1024],
+    image: &[u8],
+) -> Held {
     let settings = held.settings;
     let done = image::read::read_image(settings, image, vcpus, pages);
     let answer = done.answer;
@@ -112,7 +118,13 @@ fn read_image(letter: &[u8], held: Held, vcpus: &mut [u64; 4352], pages: &mut [u
 }
 
 // The image is written into the first `room` bytes of its buffer; where it is not, the one that stands there is kept.
-fn write_image(held: Held, vcpus: &mut [u64; 4352], pages: &mut [u64; 1024], room: usize, image: &mut [u8]) -> Held {
+fn write_image(
+    held: Held,
+    vcpus: &mut [u64; 4352],
+    pages: &mut [u64; 1024],
+    room: usize,
+    image: &mut [u8],
+) -> Held {
     let n = within(room, image);
     let s = held.session;
     let done = image::write::write_image(s, vcpus, pages, &mut image[..n]);
@@ -130,7 +142,12 @@ fn write_image(held: Held, vcpus: &mut [u64; 4352], pages: &mut [u64; 1024], roo
 }
 
 // A session begins fresh, and its settings are those for images too.
-fn begin(vcpus: &mut [u64; 4352], pages: &mut [u64; 1024], settings: Settings, image: usize) -> Held {
+fn begin(
+    vcpus: &mut [u64; 4352],
+    pages: &mut [u64; 1024],
+    settings: Settings,
+    image: usize,
+) -> Held {
     let done = session::begin(settings, vcpus, pages);
     let answer = done.answer;
     print_answer(b"F", answer);

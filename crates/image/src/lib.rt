@@ -1,4 +1,3 @@
 // The table image of a session: written, and read.
 pub mod read;
 pub mod write;
-pub mod read;
