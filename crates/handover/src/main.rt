@@ -107,7 +107,7 @@ fn read_image(
     image: &[u8],
 ) -> Held {
     let settings = held.settings;
-    let done = image::read::read_image(settings, image, vcpus, pages);
+    let done = image_reader::read_image(settings, image, vcpus, pages);
     let answer = done.answer;
     if is_handled(answer) {
         let begun = done.session;
@@ -127,7 +127,7 @@ fn write_image(
 ) -> Held {
     let n = within(room, image);
     let s = held.session;
-    let done = image::write::write_image(s, vcpus, pages, &mut image[..n]);
+    let done = image_writer::write_image(s, vcpus, pages, &mut image[..n]);
     let answer = done.answer;
     print_answer(b"W", answer);
     if is_handled(answer) {

@@ -17,8 +17,8 @@ use Rattle.kvmi.specs.Call.{Call, Step, Begin, beginning, noSession, beginFresh
 use Rattle.kvmi.specs.Case.{Start, anew, fromBytes, standing, Seen, Case, ended, lastStep, endFrom, endOf, seenAt, seen, cases}
 use Rattle.kvmi.proofs.Cases.{cases-right}
 use Rattle.session.specs.Calls.{Told, freshOf}
-use Rattle.image.specs.Write.{statedTables}
-use Rattle.image.specs.Read.{toldLoaded, readOf}
+use Rattle.image_writer.specs.Write.{statedTables}
+use Rattle.image_reader.specs.Read.{toldLoaded, readOf}
 use Rattle.history.specs.History.{stepOf, BeganOn, anew as freshly, fromImage}
 use Rattle.history.specs.Carried.{isBegun, begunOn, lastOf, seenIn, seenFrom, seenOn}
 use Rattle.laws.proofs.Bool.{and-l, and-r, clash}

@@ -21,8 +21,8 @@ use Rattle.kvmi.specs.Valid.{Valid}
 use Rattle.kvmi.specs.Call.{Call, awaitsAny, imageStep, after, Step}
 use Rattle.session.specs.State.{State}
 use Rattle.session.specs.Meaning.{modelOf, WellFormed}
-use Rattle.image.specs.Write.{imageOf}
-use Rattle.image.specs.Read.{toldLoaded, readOf}
+use Rattle.image_writer.specs.Write.{imageOf}
+use Rattle.image_reader.specs.Read.{toldLoaded, readOf}
 use Rattle.history.specs.History.{afterOf, BeganOn, anew, fromImage}
 use Rattle.history.specs.Demand3.{Open, Writes, Demand3}
 use Rattle.laws.proofs.Bool.{test, clash}

@@ -15,7 +15,7 @@ use Rattle.kvmi.specs.Call.{Call, message, ready, enter, writeImage, Step, step
 use Rattle.session.specs.State.{State, freshSession, clearedState}
 use Rattle.session.specs.Calls.{Told, freshOf}
 use Rattle.session.specs.Meaning.{modelOf, WellFormed}
-use Rattle.image.specs.Read.{loadedState, toldLoaded, readOf}
+use Rattle.image_reader.specs.Read.{loadedState, toldLoaded, readOf}
 use Rattle.history.specs.History.{stepOf, afterOf, BeganOn, anew, fromImage}
 use Rattle.laws.proofs.Bool.{test}
 use Rattle.laws.proofs.Steps.{step-kept}
@@ -71,7 +71,7 @@ pub read-state : (s : Settings) (l vcpus pages : List ℕ) (t : Tables) → So (
 unfolding readOf
 read-state s l vcpus pages t ok e = rw ok (accepted s vcpus pages (loadImage s l) t e)
 
-fresh-range : (s : Settings) (vcpus pages : List ℕ) → freshOf s vcpus pages .answer .number ≡ 0 → So (inRange s)
+pub fresh-range : (s : Settings) (vcpus pages : List ℕ) → freshOf s vcpus pages .answer .number ≡ 0 → So (inRange s)
 unfolding freshOf
 fresh-range s vcpus pages = by (inRange s) refl
   where

@@ -21,7 +21,7 @@ use Rattle.kvmi.specs.Valid.{Valid, paGood}
 use Rattle.store.specs.Words.{field, setField, setMsrBit, msrWord, msrSlot, cleared, SINGLESTEP, CRS, EVENTS, PAUSES}
 use Rattle.store.specs.PageWords.{wordKey}
 use Rattle.store.specs.Meaning.{pageOfWord, pagesOf, msrsOf, vcpuOfWords, vcpusOf, goodWord, PagesGood}
-use Rattle.image.specs.Read.{vcpuLoaded, vcpusLoaded, msrsLoaded, readyLoaded, pageWord, pagesLoaded}
+use Rattle.image_reader.specs.Read.{vcpuLoaded, vcpusLoaded, msrsLoaded, readyLoaded, pageWord, pagesLoaded}
 use Rattle.laws.proofs.Bool.{and-l, and-r, and-i, every-head, every-tail, test, length-snoc}
 use Rattle.laws.proofs.Bits.{on-put, on-put-other, put-below, on-none}
 use Rattle.laws.proofs.Table.{Side, below, level, over, side, above, above-snoc, rising-snoc, rising-low, rising-rest, rising-cons, put-cases}

@@ -9,8 +9,8 @@ use Rattle.kvmi.specs.Image.{image}
 use Rattle.kvmi.specs.Call.{Call}
 use Rattle.kvmi.specs.Case.{Start, anew, fromBytes, standing, Seen, Case}
 use Rattle.session.specs.Calls.{Told, freshOf}
-use Rattle.image.specs.Write.{statedTables}
-use Rattle.image.specs.Read.{readOf}
+use Rattle.image_writer.specs.Write.{statedTables}
+use Rattle.image_reader.specs.Read.{readOf}
 use Rattle.history.specs.History.{stepOf}
 
 -- a row that begins with a call, fresh or from an image, and not in the middle

@@ -15,8 +15,8 @@ use Rattle.kvmi.specs.Model.{Model}
 use Rattle.kvmi.specs.Image.{image}
 use Rattle.kvmi.specs.Call.{Call, awaitsAny, after}
 use Rattle.session.specs.State.{State}
-use Rattle.image.specs.Write.{imageOf}
-use Rattle.image.specs.Read.{readOf}
+use Rattle.image_writer.specs.Write.{imageOf}
+use Rattle.image_reader.specs.Read.{readOf}
 use Rattle.history.specs.History.{afterOf, BeganOn}
 
 -- image writing after the list, and the model after the same list

@@ -10,8 +10,8 @@ use Rattle.kvmi.specs.Image.{loaded, loadImage}
 use Rattle.kvmi.specs.Call.{Call, message, ready, enter, writeImage}
 use Rattle.session.specs.State.{State}
 use Rattle.session.specs.Calls.{Told, freshOf, messageOf, readyOf, enterOf}
-use Rattle.image.specs.Write.{imageOf}
-use Rattle.image.specs.Read.{readOf}
+use Rattle.image_writer.specs.Write.{imageOf}
+use Rattle.image_reader.specs.Read.{readOf}
 
 -- what a call does to a session
 unfoldable pub stepOf : State → Call → Told

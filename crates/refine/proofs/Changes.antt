@@ -28,7 +28,7 @@ use Rattle.store.specs.Meaning.{pagesOf, msrsOf, vcpusOf, vcpuOfWords}
 use Rattle.session.specs.State.{State, state, withField, withVcpuWords, numberOfMode, modeOfNumber, putBit64, Changed, changed, change}
 use Rattle.session.specs.Meaning.{awaitedIn, awaitedOf, tablesOf, modelOf, WordsGood}
 use Rattle.laws.proofs.Bool.{test, every-and}
-use Rattle.laws.proofs.Kept.{vm-event-small, vcpu-event-small, cr-bit-small}
+use Rattle.laws.proofs.Kept.{vm-event-small, vcpu-event-small}
 use Rattle.laws.proofs.Steps.{entries-small}
 use Rattle.refine.proofs.Pages.{Means, run-entries}
 use Rattle.refine.proofs.Msrs.{field-set, field-set-other, field-length, set-msr, msrs-field, bit-field}
@@ -128,16 +128,14 @@ module _ (st : State) (g : WordsGood st) (few : st .session .settings .vcpus ≤
   pub cr-meant : (v cr : ℕ) (on : Bool) → v < count → Meant (change st guest d (SetCr v cr on)) (apply (modelOf st) guest d (SetCr v cr on))
   unfolding change apply vcpuOfWords
   cr-meant v cr on h =
-      let small = cr-bit-small cr in
       let x = putBit (field words v CRS) (crBit cr) on in
       let l = block-inside st g few v h in
-      rw (put-bit (field words v CRS) (crBit cr) on (omega arith))
-      (record {
+      record {
         model = field-model v CRS x (λ y. withCrs y (putBit (y .crs) (crBit cr) on)) (omega arith) h (vcpus-crs ready words v x count l h);
         guest = refl;
         code = refl;
         words = field-kept st g few v h CRS x (omega arith) (λ q. absurd (omega arith));
-      })
+      }
 
   bit-one : (on : Bool) → bit on ≤ 1
   bit-one true = omega arith

@@ -32,7 +32,7 @@ use Rattle.reply.specs.Written.{Written}
 use Rattle.session.specs.declared.Session.{Session}
 use Rattle.session.specs.State.{State, state, modeOfNumber, factsIn, Changed, change, withTool, withToolSeq}
 use Rattle.session.specs.Calls.{told, toldClosing, answering, judgedOf, pausingOf}
-use Rattle.session.specs.Code.{PagesChanged, effect, cleanEffect, queuedPause, switchedField, endedWait, vcpusChanged, handledOf, enteredOf}
+use Rattle.session.specs.Code.{PagesChanged, effect, cleanEffect, queuedPause, switchedField, switchedCr, endedWait, vcpusChanged, handledOf, enteredOf}
 
 -- ---- parts of a list
 
@@ -107,7 +107,7 @@ on-vcpus = 0 ∷ 3 ∷ 4 ∷ 5 ∷ 6 ∷ 8 ∷ 10 ∷ []
 
 pub vcpus-only : (s : Session) (v p guest d : List ℕ) (c : Change) → OneOf on-vcpus (tagOf the-type c)
     → effect (cleanEffect s) (vcpusChanged v c) p guest ≡ change (state s v p) guest d c
-unfolding change vcpusChanged queuedPause switchedField endedWait
+unfolding change vcpusChanged queuedPause switchedField switchedCr endedWait
 vcpus-only s v p guest d Nothing o = refl
 vcpus-only s v p guest d (SetVmEvent event on) o = absurd (miss on-vcpus 1 tt o)
 vcpus-only s v p guest d (WritePhysical gpa) o = absurd (miss on-vcpus 2 tt o)

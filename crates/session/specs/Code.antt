@@ -8,7 +8,7 @@ use lib.IntN.{ℤ}
 use Rattle.kvmi.specs.declared.Signal.the-variants.{Quiet}
 use Rattle.kvmi.specs.declared.Change.{Change}
 use Rattle.kvmi.specs.declared.Change.the-variants.{Nothing, SetVmEvent, WritePhysical, QueuePause, SetVcpuEvent, SetCr, SetMsr, SetPages, SetSinglestep, SetReplies, EndWait}
-use Rattle.kvmi.specs.Bits.{bit}
+use Rattle.kvmi.specs.Bits.{bit, putBit}
 use Rattle.kvmi.specs.Codes.{OK, ENOMEM}
 use Rattle.kvmi.specs.Tables.{crBit}
 use Rattle.kvmi.specs.Message.{vcpuOf, entriesOf}
@@ -30,6 +30,9 @@ queuedPause w vcpu = setField w vcpu PAUSES ((field w vcpu PAUSES + 1) % 2 ^ 64)
 
 unfoldable pub switchedField : List ℕ → ℕ → ℕ → ℕ → Bool → List ℕ
 switchedField w vcpu k bit on = setField w vcpu k (putBit64 (field w vcpu k) bit on)
+
+unfoldable pub switchedCr : List ℕ → ℕ → ℕ → Bool → List ℕ
+switchedCr w vcpu cr on = setField w vcpu CRS (putBit (field w vcpu CRS) (crBit cr) on)
 
 unfoldable pub endedWait : List ℕ → ℕ → List ℕ
 endedWait w vcpu = setField (setField w vcpu AWAITED 0) vcpu AWAITED-SEQ 0
@@ -59,7 +62,7 @@ vcpusChanged w (SetVmEvent event on) = w
 vcpusChanged w (WritePhysical gpa) = w
 vcpusChanged w (QueuePause vcpu wait) = queuedPause w vcpu
 vcpusChanged w (SetVcpuEvent vcpu event on) = switchedField w vcpu EVENTS event on
-vcpusChanged w (SetCr vcpu cr on) = switchedField w vcpu CRS (crBit cr) on
+vcpusChanged w (SetCr vcpu cr on) = switchedCr w vcpu cr on
 vcpusChanged w (SetMsr vcpu msr on) = setMsrBit w vcpu msr on
 vcpusChanged w (SetPages view count) = w
 vcpusChanged w (SetSinglestep vcpu on) = setField w vcpu SINGLESTEP (bit on)

@@ -125,7 +125,7 @@ change st guest d (SetVmEvent event on) =
 change st guest d (WritePhysical gpa) = changed st (store guest gpa (drop 16 d))
 change st guest d (QueuePause vcpu wait) = changed (withField st vcpu PAUSES ((field (st .vcpus) vcpu PAUSES + 1) % 2 ^ 64)) guest
 change st guest d (SetVcpuEvent vcpu event on) = changed (withField st vcpu EVENTS (putBit64 (field (st .vcpus) vcpu EVENTS) event on)) guest
-change st guest d (SetCr vcpu cr on) = changed (withField st vcpu CRS (putBit64 (field (st .vcpus) vcpu CRS) (crBit cr) on)) guest
+change st guest d (SetCr vcpu cr on) = changed (withField st vcpu CRS (putBit (field (st .vcpus) vcpu CRS) (crBit cr) on)) guest
 change st guest d (SetMsr vcpu msr on) = changed (withVcpuWords st (setMsrBit (st .vcpus) vcpu msr on)) guest
 change st guest d (SetPages view count) =
     changedPages st guest (runEntries pageLimit view (entriesOf count (drop 8 d)) (st .pages) (st .session .tool .pages))

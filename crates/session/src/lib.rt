@@ -13,7 +13,6 @@ ghost use mathlib.Core.List.{List, []};
 ghost use Prim.Native.Nat.{ℕ};
 ghost use lib.ListN.{length, drop};
 ghost use Rattle.wire.specs.Bytes.{store};
-ghost use Rattle.kvmi.specs.Tables.{crBit};
 ghost use Rattle.kvmi.specs.Message.{vcpuOf};
 ghost use Rattle.kvmi.specs.Settings.{inRange};
 ghost use Rattle.kvmi.specs.Verdict.{verdict};
@@ -21,7 +20,7 @@ ghost use Rattle.kvmi.specs.Change.{signalOf, modeFor};
 ghost use Rattle.store.specs.Words.{field, setField, PAUSES, AWAITED, AWAITED-SEQ};
 ghost use Rattle.session.specs.State.{state, freshSession, closedSession, withTool, withToolEvents, withToolMode, withToolSeq, withToolPages, withReadyBits, modeOfNumber, numberOfMode, putBit64, factsIn, change};
 ghost use Rattle.session.specs.Calls.{told, toldClosing, freshOf, answering, judgedOf, messageOf, readyOf, pausingOf, enterOf};
-ghost use Rattle.session.specs.Code.{effect, cleanEffect, queuedPause, switchedField, endedWait, pagesEffect, pagesSet, vcpusChanged, handledOf, enteredOf, countsFit};
+ghost use Rattle.session.specs.Code.{effect, cleanEffect, queuedPause, switchedField, switchedCr, endedWait, pagesEffect, pagesSet, vcpusChanged, handledOf, enteredOf, countsFit};
 
 // What one introspection tool owns: unsigned integers only, so that any bits are a value. A flag is set where it is not 0.
 #[repr(C)]
@@ -86,7 +85,7 @@ impl Session {
     }
 
     // Fresh, but closed.
-    fn shut(settings: Settings) -> Self
+    pub fn shut(settings: Settings) -> Self
         ensures { λ r. ⌜ r ≡ closedSession settings ⌝ }
     {
         let tool = Tool {
@@ -200,19 +199,6 @@ fn mode_for(old: ReplyMode, c: Change) -> ReplyMode
     }
 }
 
-// The bit of a control register's switch.
-fn cr_bit(cr: u32) -> u32
-    ensures { λ r. ⌜ r ≡ crBit cr ⌝ }
-{
-    if cr == 0 {
-        return 0;
-    }
-    if cr == 3 {
-        return 1;
-    }
-    2
-}
-
 // One pause more in a vCPU's queue.
 fn queue_pause(vcpus: &mut [u64], vcpu: u16)
     ensures { λ _. ⌜ now (vcpus .exit) ≡ queuedPause (now (vcpus .entry)) vcpu ⌝ }
@@ -229,6 +215,15 @@ fn switch_field(vcpus: &mut [u64], vcpu: u16, k: usize, bit: u32, on: bool)
     let was = store::words::read_field(vcpus, vcpu, k);
     let is = store::bits::put_bit(was, bit, on);
     store::words::write_field(vcpus, vcpu, k, is);
+}
+
+// One control register's switch of a vCPU.
+fn switch_cr(vcpus: &mut [u64], vcpu: u16, cr: u32, on: bool)
+    ensures { λ _. ⌜ now (vcpus .exit) ≡ switchedCr (now (vcpus .entry)) vcpu cr on ⌝ }
+{
+    let was = store::words::read_field(vcpus, vcpu, store::words::CRS);
+    let is = store::bits::put_cr(was, cr, on);
+    store::words::write_field(vcpus, vcpu, store::words::CRS, is);
 }
 
 // No reply awaited any more.
@@ -289,13 +284,7 @@ fn apply_vcpu(vcpus: &mut [u64], c: Change)
             event as u32,
             on,
         ),
-        Change::SetCr { vcpu, cr, on } => switch_field(
-            vcpus,
-            vcpu,
-            store::words::CRS,
-            cr_bit(cr),
-            on,
-        ),
+        Change::SetCr { vcpu, cr, on } => switch_cr(vcpus, vcpu, cr, on),
         Change::SetMsr { vcpu, msr, on } => store::words::write_msr(vcpus, vcpu, msr, on),
         Change::SetSinglestep { vcpu, on } => store::words::write_field(
             vcpus,
@@ -430,7 +419,8 @@ pub fn begin(settings: Settings, vcpus: &mut [u64; 4352], pages: &mut [u64; 1024
     }
 }
 
-fn in_range(vcpus: u32, views: u32) -> bool
+// Whether the counts of the settings are in their ranges.
+pub fn in_range(vcpus: u32, views: u32) -> bool
     ensures { λ r. ⌜ r ≡ countsFit vcpus views ⌝ }
 {
     if vcpus < 1 {

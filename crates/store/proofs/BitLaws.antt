@@ -1,13 +1,15 @@
 -- Laws of the bits of a word of 64. Assumes nothing.
 use mathlib.Core.Path.{_≡_, refl, sym, ap, _∙_}
-use mathlib.Core.Bool.{Bool, true, false}
+use mathlib.Core.Bool.{Bool, true, false, cond}
 use Prim.Native.Nat.{ℕ, suc, _+_, _-_, _*_, _/_, _%_, _^_, _≤_, _<_}
 use native.Mathlib.Nat.{add-mul, le-trans, mod-le, mod-lt, mul-le-mul-right, div-mul-le-self, div-eq-of-lt, one-le-pow, pow-suc, pow-le-pow-right}
 use native.Mathlib.Omega.{arith}
 use lib.Arith.{digits-lt}
+use lib.Dec.{eqb, ltb}
 use lib.Pow.{pow-add, shl-exact, shr-lt, split}
 use mir.Val.{boolByte}
 use Rattle.kvmi.specs.Bits.{bit, bitOf, isOn}
+use Rattle.kvmi.specs.Tables.{crBit}
 
 pub bit-small : (on : Bool) → bit on < 2
 bit-small true = omega arith
@@ -55,3 +57,13 @@ put-fits w k o s h g =
     let low : w % 2 ^ k < 2 ^ k = mod-lt w (one-le-pow k 2 two) in
     let full : 2 ^ (64 - k) * 2 ^ k ≡ 2 ^ 64 = sym (pow-add 2 (64 - k) k) ∙ ap (λ (x : ℕ). 2 ^ x) whole in
     rw (put-parts, ← full) (digits-lt high low)
+
+-- a word has the bits of all CR switches
+pub cr-fits : (cr : ℕ) → ltb (crBit cr) 64 ≡ true
+unfolding crBit
+cr-fits cr = step (eqb cr 0) (eqb cr 3)
+  where
+    step : (a b : Bool) → ltb (cond a 0 (cond b 1 2)) 64 ≡ true
+    step true b = refl
+    step false true = refl
+    step false false = refl

@@ -3,6 +3,7 @@ ghost use mathlib.Core.Path.{_≡_};
 ghost use mathlib.Core.Bool.{cond};
 ghost use lib.Dec.{ltb};
 ghost use Rattle.kvmi.specs.Bits.{isOn, putBit};
+ghost use Rattle.kvmi.specs.Tables.{crBit};
 
 // Whether bit k is set; a word has none from 64 on.
 pub fn bit_on(w: u64, k: u32) -> bool
@@ -21,4 +22,24 @@ pub fn put_bit(w: u64, k: u32, on: bool) -> u64
     } else {
         w
     }
+}
+
+// The bit of a control register's switch.
+fn cr_bit(cr: u32) -> u32
+    ensures { λ r. ⌜ r ≡ crBit cr ⌝ }
+{
+    if cr == 0 {
+        return 0;
+    }
+    if cr == 3 {
+        return 1;
+    }
+    2
+}
+
+// CR switches with that of one register as given.
+pub fn put_cr(crs: u64, cr: u32, on: bool) -> u64
+    ensures { λ r. ⌜ r ≡ putBit crs (crBit cr) on ⌝ }
+{
+    put_bit(crs, cr_bit(cr), on)
 }

@@ -23,11 +23,8 @@ switch-field-requires c κs = search needs
 enum-known-c-3 : tie.Need-enum-known-c-3
 enum-known-c-3 c = search needs
 
-cr-bit-requires : tie.Need-cr-bit-requires
-cr-bit-requires c κs = search needs
-
-switch-field-requires-2 : tie.Need-switch-field-requires-2
-switch-field-requires-2 c κs = search needs
+switch-cr-requires : tie.Need-switch-cr-requires
+switch-cr-requires c κs = search needs
 
 enum-known-c-4 : tie.Need-enum-known-c-4
 enum-known-c-4 c = search needs
@@ -69,7 +66,7 @@ same-length-3 c = search needs
 
 returns-3 : tie.Need-returns-3
 unfolding vcpusChanged
-returns-3 c = rw (c .before .before .before .before .before .before .c3 .given .1, ← c .before .before .before .cr-bit .ensures) (c .before .before .switch-field2 .ensures)
+returns-3 c = rw (c .before .before .before .before .before .c3 .given .1) (c .before .before .switch-cr .ensures)
 
 same-length-4 : tie.Need-same-length-4
 same-length-4 c = search needs
@@ -105,8 +102,7 @@ apply-vcpu-spec =
     cast-switch-field
     switch-field-requires
     enum-known-c-3
-    cr-bit-requires
-    switch-field-requires-2
+    switch-cr-requires
     enum-known-c-4
     write-msr-requires
     enum-known-c-5

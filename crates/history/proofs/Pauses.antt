@@ -1,0 +1,70 @@
+-- The sum of pauses over every list of calls on a session. Assumes nothing.
+use mathlib.Core.Path.{_≡_, refl, sym, ap, _∙_}
+use Prim.Native.Nat.{ℕ, _+_, _<_}
+use native.Mathlib.Omega.{arith}
+use mathlib.Core.List.{List, [], _∷_}
+use mathlib.Core.Bool.{Bool, true, false, not, _&&_}
+use lib.Dec.{eqb}
+use Rattle.kvmi.specs.declared.Settings.{Settings}
+use Rattle.kvmi.specs.Answer.{Paper}
+use Rattle.kvmi.specs.Bits.{bit}
+use Rattle.kvmi.specs.Tables.{Vcpu}
+use Rattle.kvmi.specs.Model.{Model}
+use Rattle.kvmi.specs.Call.{Call, message, ready, enter, writeImage, step, after, Began, anew, fromImage}
+use Rattle.kvmi.specs.Pauses.{kicks, accepted, sent, queued, acceptedIn, sentIn}
+use Rattle.store.specs.Meaning.{vcpuOfWords}
+use Rattle.session.specs.State.{State}
+use Rattle.session.specs.Meaning.{modelOf}
+use Rattle.history.specs.History.{stepOf, afterOf, BeganOn, anew as freshly, fromImage as loaded}
+use Rattle.history.specs.Pauses.{queuedOf, sentBy, sentOver, acceptedOver}
+use Rattle.laws.proofs.Pauses.{pauses-balanced}
+use Rattle.refine.proofs.Vcpus.{vcpus-at}
+use Rattle.history.proofs.Lists.{Stands, step-stands, after-stands, step-same, began-stands, fresh-range, read-range}
+
+began-of : (s : Settings) (st : State) (m : Model) → BeganOn s st m → Began s m
+began-of s st m (freshly vcpus pages v p h) = anew (fresh-range s vcpus pages h)
+began-of s st m (loaded vcpus pages v p l t h e) = fromImage l t (read-range s l vcpus pages h) e
+
+same-accepted : (s : Settings) (st : State) (m : Model) (vcpu : ℕ) (cs : List Call) → Stands s st m → acceptedOver vcpu st cs ≡ acceptedIn vcpu s m cs
+unfolding acceptedOver acceptedIn accepted
+same-accepted s st m vcpu [] f = refl
+same-accepted s st m vcpu (c ∷ cs) f =
+    let one = ap (λ (p : Paper). kicks vcpu (p .signal)) (step-same s st m c f .0) in
+    let rest = same-accepted s (stepOf st c .state) (step s m c .model) vcpu cs (step-stands s st m c f) in
+    omega arith
+
+same-sent-by : (s : Settings) (st : State) (m : Model) (vcpu : ℕ) (c : Call) → stepOf st c .answer ≡ step s m c .answer → sentBy vcpu c (stepOf st c) ≡ sent vcpu c (step s m c)
+unfolding sentBy sent
+same-sent-by s st m vcpu (message msg out guest) e = refl
+same-sent-by s st m vcpu (ready v) e = refl
+same-sent-by s st m vcpu (enter v block out) e = ap (λ (p : Paper). bit (eqb v vcpu && not (eqb (p .count) 0))) e
+same-sent-by s st m vcpu (writeImage out) e = refl
+
+same-sent : (s : Settings) (st : State) (m : Model) (vcpu : ℕ) (cs : List Call) → Stands s st m → sentOver vcpu st cs ≡ sentIn vcpu s m cs
+unfolding sentOver sentIn
+same-sent s st m vcpu [] f = refl
+same-sent s st m vcpu (c ∷ cs) f =
+    let one = same-sent-by s st m vcpu c (step-same s st m c f .0) in
+    let rest = same-sent s (stepOf st c .state) (step s m c .model) vcpu cs (step-stands s st m c f) in
+    omega arith
+
+same-queued : (s : Settings) (st : State) (m : Model) (vcpu : ℕ) → Stands s st m → vcpu < s .vcpus → queuedOf vcpu st ≡ queued vcpu m
+unfolding queuedOf queued vcpuOfWords
+same-queued s st m vcpu f h =
+    let inside : vcpu < st .session .settings .vcpus = rw (f .settings) h in
+    sym (ap (λ (v : Vcpu). v .pauses) (vcpus-at (st .session .ready) (st .vcpus) (st .session .settings .vcpus) vcpu inside))
+    ∙ ap (λ (k : Model). queued vcpu k) (f .model)
+
+-- for each vCPU, over every list of calls after which the session is open
+pub pauses-sum : (s : Settings) (st : State) (m : Model) → BeganOn s st m → (vcpu : ℕ) → vcpu < s .vcpus → (cs : List Call) → afterOf st cs .session .tool .closed ≡ 0
+    → queuedOf vcpu st + acceptedOver vcpu st cs ≡ sentOver vcpu st cs + queuedOf vcpu (afterOf st cs)
+pauses-sum s st m b vcpu h cs o =
+    let f = began-stands s st m b in
+    let g = after-stands s st m cs f in
+    let opened : after s m cs .closed ≡ false = sym (ap (λ (k : Model). k .closed) (g .model)) ∙ ap (λ (n : ℕ). not (eqb n 0)) o in
+    let whole = pauses-balanced s m (began-of s st m b) vcpu cs opened in
+    let first = same-queued s st m vcpu f h in
+    let last = same-queued s (afterOf st cs) (after s m cs) vcpu g h in
+    let in-list = same-accepted s st m vcpu cs f in
+    let out-list = same-sent s st m vcpu cs f in
+    omega arith

@@ -1,4 +1,0 @@
-pub mod Written
-pub mod Tests
-pub mod Steps
-pub mod Loads

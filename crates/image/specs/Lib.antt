@@ -1,5 +1,0 @@
-pub mod Write
-pub mod Parts
-pub mod Read
-pub mod Test
-pub mod Load
