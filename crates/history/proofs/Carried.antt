@@ -66,7 +66,7 @@ fresh-seen s vcpus pages v p cs = by (inRange s) refl
 
     by : (b : Bool) → inRange s ≡ b → FreshSeen s vcpus pages cs
     by true e =
-        begun-seen s (freshOf s vcpus pages) (fresh s) cs (rw e) (rw e) (began-stands s (freshOf s vcpus pages .state) (fresh s) (freshly vcpus pages v p (rw e)))
+        begun-seen s (freshOf s vcpus pages) (fresh s) cs (rw e) (rw e) (began-stands s (freshOf s vcpus pages .state) (fresh s) (freshly vcpus pages v p e))
         ∙ sym (model (beginning (fresh s)) (rw e))
     by false e = refused-seen (freshOf s vcpus pages) (plain 7) cs (rw e) refl ∙ sym (model (noSession (plain 7)) (rw e))
 
@@ -85,7 +85,7 @@ read-seen s l vcpus pages v p cs = by (inRange s) (loadImage s l) refl refl
     by true (badForm off) e h = refused-seen (readOf s l vcpus pages) (plainAt 8 off) cs (rw (e, h)) refl ∙ sym (model (noSession (plainAt 8 off)) (rw (e, h)))
     by true (forbidden off) e h = refused-seen (readOf s l vcpus pages) (plainAt 9 off) cs (rw (e, h)) refl ∙ sym (model (noSession (plainAt 9 off)) (rw (e, h)))
     by true (loaded t) e h =
-        begun-seen s (readOf s l vcpus pages) (begun t) cs (rw (e, h)) (rw (e, h)) (began-stands s (readOf s l vcpus pages .state) (begun t) (fromImage vcpus pages v p l t (rw (e, h)) h))
+        begun-seen s (readOf s l vcpus pages) (begun t) cs (rw (e, h)) (rw (e, h)) (began-stands s (readOf s l vcpus pages .state) (begun t) (fromImage vcpus pages v p l t e h))
         ∙ sym (model (beginning (begun t)) (rw (e, h)))
 
 -- ---- rows, and lists of them

@@ -14,6 +14,7 @@ use borrow.Author.Tests.{le-ltb, ltb-true, ltb-false}
 use Rattle.kvmi.specs.declared.Settings.{Settings}
 use Rattle.kvmi.specs.declared.Signal.the-variants.{Quiet}
 use Rattle.kvmi.specs.Answer.{Paper, handled}
+use Rattle.kvmi.specs.Settings.{inRange}
 use Rattle.kvmi.specs.Tables.{Tables, SameTables}
 use Rattle.kvmi.specs.Model.{Awaited, Model, begun}
 use Rattle.kvmi.specs.Image.{image, Loaded, loaded, badForm, forbidden, loadImage}
@@ -31,7 +32,7 @@ use Rattle.laws.proofs.Load.{load-write}
 use Rattle.laws.proofs.Write.{image-injective}
 use Rattle.laws.proofs.Same.{same-equal, equal-same}
 use Rattle.history.proofs.Images.{image-simulates}
-use Rattle.history.proofs.Lists.{Stands, after-stands, began-stands, read-range}
+use Rattle.history.proofs.Lists.{Stands, stands-valid, after-stands, began-stands}
 
 -- ---- the model's image writing
 -- what an answer's number says of the model
@@ -91,18 +92,10 @@ module _ (s : Settings) (st : State) (m : Model) (f : Stands s st m) (out : List
       ∙ ap (take (length (image (m .tables)))) (sym (h .1) ∙ r .1)
       ∙ take-at (image (m .tables)) (drop (length (image (m .tables))) out) (length (image (m .tables))) refl
 
-valid-of : (s : Settings) (st : State) (m : Model) → Stands s st m → Valid s (m .tables)
-valid-of s st m f = subst (λ (x : Settings). Valid x (m .tables)) (f .settings) (subst (λ (k : Model). Valid (st .session .settings) (k .tables)) (f .model) (f .formed .tables))
-
--- an accepted image states tables
-accepts : (s : Settings) (l vcpus pages : List ℕ) → readOf s l vcpus pages .answer .number ≡ 0 → (t : Tables) × (loadImage s l ≡ loaded t)
+-- an image that the rules accept is answered 0
+read-accepted : (s : Settings) (l vcpus pages : List ℕ) (t : Tables) → So (inRange s) → loadImage s l ≡ loaded t → readOf s l vcpus pages .answer .number ≡ 0
 unfolding readOf toldLoaded
-accepts s l vcpus pages h = by (loadImage s l) refl (rw (read-range s l vcpus pages h) at h)
-  where
-    by : (x : Loaded) → loadImage s l ≡ x → toldLoaded s vcpus pages (loadImage s l) .answer .number ≡ 0 → (t : Tables) × (loadImage s l ≡ loaded t)
-    by (loaded t) e g = (t, e)
-    by (badForm off) e g = let z : _≡_ {A = ℕ} 8 0 = rw e at g in absurd (omega arith)
-    by (forbidden off) e g = let z : _≡_ {A = ℕ} 9 0 = rw e at g in absurd (omega arith)
+read-accepted s l vcpus pages t ok e = rw (ok, e)
 
 no-waits : (n : ℕ) → awaitsAny (replicate {A = Option Awaited} n none) ≡ false
 no-waits zero = refl
@@ -122,13 +115,15 @@ demand-3 =
           let d = is-image s (afterOf st′ ds) (after s k ds) g out′ bytes′ (p .0) (p .1) v in
           let t = after s m cs .tables in
           let u = after s k ds .tables in
-          let vt = valid-of s (afterOf st cs) (after s m cs) f in
-          let vu = valid-of s (afterOf st′ ds) (after s k ds) g in
+          let vt = stands-valid s (afterOf st cs) (after s m cs) f in
+          let vu = stands-valid s (afterOf st′ ds) (after s k ds) g in
           (λ q. equal-same t u (image-injective s t u vt vu (sym e ∙ q ∙ d)), λ q. e ∙ ap image (same-equal s t u vt vu q) ∙ sym d);
-      again = λ s vcpus pages v p l bytes h out room.
-          let a = accepts s l vcpus pages h in
-          let f = began-stands s (readOf s l vcpus pages .state) (begun (a .0)) (fromImage vcpus pages v p l (a .0) h (a .1)) in
-          let same = load-write s l (a .0) bytes (a .1) in
-          subst (λ (x : List ℕ). Writes (readOf s l vcpus pages .state) out x) same
-          (says-image s (readOf s l vcpus pages .state) (begun (a .0)) f out refl (no-waits (length (a .0 .vcpus))) (subst (λ (x : List ℕ). length x ≤ length out) (sym same) room));
+      again = λ s vcpus pages v p l t bytes ok e.
+          let f = began-stands s (readOf s l vcpus pages .state) (begun t) (fromImage vcpus pages v p l t ok e) in
+          let same = load-write s l t bytes e in (
+            read-accepted s l vcpus pages t ok e,
+            λ out room.
+                subst (λ (x : List ℕ). Writes (readOf s l vcpus pages .state) out x) same
+                (says-image s (readOf s l vcpus pages .state) (begun t) f out refl (no-waits (length (t .vcpus))) (subst (λ (x : List ℕ). length x ≤ length out) (sym same) room)),
+          );
     }

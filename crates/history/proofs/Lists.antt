@@ -13,7 +13,7 @@ use Rattle.kvmi.specs.Image.{Loaded, loaded, badForm, forbidden, loadImage}
 use Rattle.kvmi.specs.Valid.{Valid}
 use Rattle.kvmi.specs.Call.{Call, message, ready, enter, writeImage, Step, step, move, after}
 use Rattle.session.specs.State.{State, freshSession, clearedState}
-use Rattle.session.specs.Calls.{Told, freshOf}
+use Rattle.session.specs.Calls.{Told}
 use Rattle.session.specs.Meaning.{modelOf, WellFormed}
 use Rattle.image_reader.specs.Read.{loadedState, toldLoaded, readOf}
 use Rattle.history.specs.History.{stepOf, afterOf, BeganOn, anew, fromImage}
@@ -40,6 +40,12 @@ pub record Stands (s : Settings) (st : State) (m : Model) : Type 0 where
   pub settings : st .session .settings ≡ s
   pub model : modelOf st ≡ m
 
+pub stands-range : (s : Settings) (st : State) (m : Model) → Stands s st m → So (inRange s)
+stands-range s st m f = subst (λ (x : Settings). So (inRange x)) (f .settings) (f .formed .settings)
+
+pub stands-valid : (s : Settings) (st : State) (m : Model) → Stands s st m → Valid s (m .tables)
+stands-valid s st m f = subst (λ (x : Settings). Valid x (m .tables)) (f .settings) (subst (λ (k : Model). Valid (st .session .settings) (k .tables)) (f .model) (f .formed .tables))
+
 pub step-stands : (s : Settings) (st : State) (m : Model) (c : Call) → Stands s st m → Stands s (stepOf st c .state) (step s m c .model)
 step-stands s st m c f =
     let one = step-simulates st (f .formed) c in
@@ -54,7 +60,7 @@ unfolding afterOf after move
 after-stands s st m [] f = f
 after-stands s st m (c ∷ cs) f = after-stands s (stepOf st c .state) (step s m c .model) cs (step-stands s st m c f)
 
--- demand 2 after every list: each call's answer, output and guest memory are the model's
+-- each call's answer, output and guest memory are the model's
 pub step-same : (s : Settings) (st : State) (m : Model) (c : Call) → Stands s st m
     → (stepOf st c .answer ≡ step s m c .answer) × (stepOf st c .out ≡ step s m c .out) × (stepOf st c .guest ≡ step s m c .guest)
 step-same s st m c f =
@@ -71,33 +77,20 @@ pub read-state : (s : Settings) (l vcpus pages : List ℕ) (t : Tables) → So (
 unfolding readOf
 read-state s l vcpus pages t ok e = rw ok (accepted s vcpus pages (loadImage s l) t e)
 
-pub fresh-range : (s : Settings) (vcpus pages : List ℕ) → freshOf s vcpus pages .answer .number ≡ 0 → So (inRange s)
-unfolding freshOf
-fresh-range s vcpus pages = by (inRange s) refl
-  where
-    by : (b : Bool) → inRange s ≡ b → (freshOf s vcpus pages .answer .number ≡ 0 → So b)
-    by true e h = refl
-    by false e h = let z : _≡_ {A = ℕ} 7 0 = rw e at h in absurd (omega arith)
-
-pub read-range : (s : Settings) (l vcpus pages : List ℕ) → readOf s l vcpus pages .answer .number ≡ 0 → So (inRange s)
-unfolding readOf
-read-range s l vcpus pages = by (inRange s) refl
-  where
-    by : (b : Bool) → inRange s ≡ b → (readOf s l vcpus pages .answer .number ≡ 0 → So b)
-    by true e h = refl
-    by false e h = let z : _≡_ {A = ℕ} 7 0 = rw e at h in absurd (omega arith)
-
 pub began-stands : (s : Settings) (st : State) (m : Model) → BeganOn s st m → Stands s st m
-began-stands s st m (anew vcpus pages v p h) =
-    let ok = fresh-range s vcpus pages h in
+began-stands s st m (anew vcpus pages v p ok) =
     let same = begin-fresh s vcpus pages ok .1 in
     subst (λ (x : State). Stands s x (fresh s)) (sym same)
     (record { formed = fresh-formed s vcpus pages v p ok; settings = refl; model = fresh-model s vcpus pages })
-began-stands s st m (fromImage vcpus pages v p l t h e) =
-    let ok = read-range s l vcpus pages h in
+began-stands s st m (fromImage vcpus pages v p l t ok e) =
     let a = load-valid s l t e in
     subst (λ (x : State). Stands s x (begun t)) (sym (read-state s l vcpus pages t ok e))
     (record { formed = loaded-formed s t ok a vcpus pages v p; settings = kept; model = loaded-model s t ok a vcpus pages v p })
   where
     kept : loadedState s t vcpus pages .session .settings ≡ s
     kept = unfold loadedState in refl
+
+-- ---- demand 2 after every list of calls: each call's answer, output and guest memory are the model's
+pub calls-same : (s : Settings) (st : State) (m : Model) → BeganOn s st m → (cs : List Call) (c : Call)
+    → (stepOf (afterOf st cs) c .answer ≡ step s (after s m cs) c .answer) × (stepOf (afterOf st cs) c .out ≡ step s (after s m cs) c .out) × (stepOf (afterOf st cs) c .guest ≡ step s (after s m cs) c .guest)
+calls-same s st m b cs c = step-same s (afterOf st cs) (after s m cs) c (after-stands s st m cs (began-stands s st m b))

@@ -10,20 +10,16 @@ use Rattle.kvmi.specs.Answer.{Paper}
 use Rattle.kvmi.specs.Bits.{bit}
 use Rattle.kvmi.specs.Tables.{Vcpu}
 use Rattle.kvmi.specs.Model.{Model}
-use Rattle.kvmi.specs.Call.{Call, message, ready, enter, writeImage, step, after, Began, anew, fromImage}
+use Rattle.kvmi.specs.Call.{Call, message, ready, enter, writeImage, step, after}
 use Rattle.kvmi.specs.Pauses.{kicks, accepted, sent, queued, acceptedIn, sentIn}
 use Rattle.store.specs.Meaning.{vcpuOfWords}
 use Rattle.session.specs.State.{State}
 use Rattle.session.specs.Meaning.{modelOf}
-use Rattle.history.specs.History.{stepOf, afterOf, BeganOn, anew as freshly, fromImage as loaded}
+use Rattle.history.specs.History.{stepOf, afterOf, BeganOn}
 use Rattle.history.specs.Pauses.{queuedOf, sentBy, sentOver, acceptedOver}
 use Rattle.laws.proofs.Pauses.{pauses-balanced}
 use Rattle.refine.proofs.Vcpus.{vcpus-at}
-use Rattle.history.proofs.Lists.{Stands, step-stands, after-stands, step-same, began-stands, fresh-range, read-range}
-
-began-of : (s : Settings) (st : State) (m : Model) → BeganOn s st m → Began s m
-began-of s st m (freshly vcpus pages v p h) = anew (fresh-range s vcpus pages h)
-began-of s st m (loaded vcpus pages v p l t h e) = fromImage l t (read-range s l vcpus pages h) e
+use Rattle.history.proofs.Lists.{Stands, stands-range, stands-valid, step-stands, after-stands, step-same, began-stands}
 
 same-accepted : (s : Settings) (st : State) (m : Model) (vcpu : ℕ) (cs : List Call) → Stands s st m → acceptedOver vcpu st cs ≡ acceptedIn vcpu s m cs
 unfolding acceptedOver acceptedIn accepted
@@ -55,16 +51,19 @@ same-queued s st m vcpu f h =
     sym (ap (λ (v : Vcpu). v .pauses) (vcpus-at (st .session .ready) (st .vcpus) (st .session .settings .vcpus) vcpu inside))
     ∙ ap (λ (k : Model). queued vcpu k) (f .model)
 
--- for each vCPU, over every list of calls after which the session is open
-pub pauses-sum : (s : Settings) (st : State) (m : Model) → BeganOn s st m → (vcpu : ℕ) → vcpu < s .vcpus → (cs : List Call) → afterOf st cs .session .tool .closed ≡ 0
-    → queuedOf vcpu st + acceptedOver vcpu st cs ≡ sentOver vcpu st cs + queuedOf vcpu (afterOf st cs)
-pauses-sum s st m b vcpu h cs o =
-    let f = began-stands s st m b in
-    let g = after-stands s st m cs f in
-    let opened : after s m cs .closed ≡ false = sym (ap (λ (k : Model). k .closed) (g .model)) ∙ ap (λ (n : ℕ). not (eqb n 0)) o in
-    let whole = pauses-balanced s m (began-of s st m b) vcpu cs opened in
-    let first = same-queued s st m vcpu f h in
-    let last = same-queued s (afterOf st cs) (after s m cs) vcpu g h in
-    let in-list = same-accepted s st m vcpu cs f in
-    let out-list = same-sent s st m vcpu cs f in
+-- for each vCPU, from any call on, over every list of calls after which the session is open
+pub pauses-sum : (s : Settings) (st : State) (m : Model) → BeganOn s st m → (vcpu : ℕ) → vcpu < s .vcpus → (earlier cs : List Call)
+    → afterOf (afterOf st earlier) cs .session .tool .closed ≡ 0
+    → queuedOf vcpu (afterOf st earlier) + acceptedOver vcpu (afterOf st earlier) cs ≡ sentOver vcpu (afterOf st earlier) cs + queuedOf vcpu (afterOf (afterOf st earlier) cs)
+pauses-sum s st m b vcpu h earlier cs o =
+    let start = afterOf st earlier in
+    let k = after s m earlier in
+    let f = after-stands s st m earlier (began-stands s st m b) in
+    let g = after-stands s start k cs f in
+    let opened : after s k cs .closed ≡ false = sym (ap (λ (x : Model). x .closed) (g .model)) ∙ ap (λ (n : ℕ). not (eqb n 0)) o in
+    let whole = pauses-balanced s (stands-range s start k f) vcpu k cs (stands-valid s start k f) opened in
+    let first = same-queued s start k vcpu f h in
+    let last = same-queued s (afterOf start cs) (after s k cs) vcpu g h in
+    let in-list = same-accepted s start k vcpu cs f in
+    let out-list = same-sent s start k vcpu cs f in
     omega arith

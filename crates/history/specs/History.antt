@@ -2,8 +2,10 @@
 use mathlib.Core.Path.{_≡_}
 use Prim.Native.Nat.{ℕ}
 use mathlib.Core.List.{List, [], _∷_}
+use mathlib.Core.Bool.{So}
 use lib.ListN.{length}
 use Rattle.kvmi.specs.declared.Settings.{Settings}
+use Rattle.kvmi.specs.Settings.{inRange}
 use Rattle.kvmi.specs.Tables.{Tables}
 use Rattle.kvmi.specs.Model.{Model, fresh, begun}
 use Rattle.kvmi.specs.Image.{loaded, loadImage}
@@ -24,9 +26,9 @@ unfoldable pub afterOf : State → List Call → State
 afterOf st [] = st
 afterOf st (c ∷ cs) = afterOf (stepOf st c .state) cs
 
--- how a session began, on whatever words were lent (4,352 and 1,024 of them), and the model that began with it, which is given by the settings
--- and the image alone
+-- how a session began, on whatever words were lent (4,352 and 1,024 of them): fresh under settings in range, or from an image that the rules
+-- accept; and the model that began with it, which is given by the settings and the image alone
 pub data BeganOn (s : Settings) : State → Model → Type 0 where
-  anew : (vcpus pages : List ℕ) → length vcpus ≡ 4352 → length pages ≡ 1024 → freshOf s vcpus pages .answer .number ≡ 0 → BeganOn s (freshOf s vcpus pages .state) (fresh s)
-  fromImage : (vcpus pages : List ℕ) → length vcpus ≡ 4352 → length pages ≡ 1024 → (l : List ℕ) (t : Tables) → readOf s l vcpus pages .answer .number ≡ 0 → loadImage s l ≡ loaded t
+  anew : (vcpus pages : List ℕ) → length vcpus ≡ 4352 → length pages ≡ 1024 → So (inRange s) → BeganOn s (freshOf s vcpus pages .state) (fresh s)
+  fromImage : (vcpus pages : List ℕ) → length vcpus ≡ 4352 → length pages ≡ 1024 → (l : List ℕ) (t : Tables) → So (inRange s) → loadImage s l ≡ loaded t
       → BeganOn s (readOf s l vcpus pages .state) (begun t)

@@ -232,7 +232,7 @@ fn vc_form(s: Settings, l: &[u8], at: usize) -> bool
     if !has_bits(events, VCPU_EVENTS) {
         return false;
     }
-    if 8 < pauses {
+    if Session::PAUSE_LIMIT < pauses as u64 {
         return false;
     }
     if flags % 2 == 1 {
@@ -416,7 +416,7 @@ fn pa_form(p: Progress, view: u16, access: u8, zero: u8, page: u64) -> bool
     if PAGES <= page {
         return false;
     }
-    p.pages < 1024
+    p.pages < Session::PAGE_LIMIT
 }
 
 fn step_pa(s: Settings, l: &[u8], p: Progress) -> Step

@@ -247,11 +247,12 @@ memoryEdges =
     ∷ lending half 6 (physical 4096 1) (reply 6 c2) half
     ∷ lending half 7 (physical 4096 1 ++ (1 ∷ [])) (reply 7 c2) half
     ∷ lending [] 6 (physical 0 1) (reply 6 c2) []
-    -- the last byte of the second page, read and written; the first byte of all
+    -- the first byte of all, read
     ∷ lending page 6 (physical 0 1) (6 ∷ 0 ∷ 9 ∷ 0 ∷ 8 ∷ 0 ∷ 0 ∷ 0 ∷ replicate 9 0) page
     -- the last byte of the seventeenth page: an address of more than two bytes
     ∷ lending (replicate 65536 0 ++ page) 6 (physical 69631 1) (6 ∷ 0 ∷ 9 ∷ 0 ∷ 8 ∷ 0 ∷ 0 ∷ 0 ∷ c0 ++ c0 ++ (0xAB ∷ [])) (replicate 65536 0 ++ page)
     ∷ lending (replicate 65536 0 ++ page) 7 (physical 69631 1 ++ (5 ∷ [])) (reply 7 c0) (replicate 69631 0 ++ (5 ∷ []))
+    -- the last byte of the second page, read and written; the first bytes of all, written
     ∷ lending pages 6 (physical 8191 1) (6 ∷ 0 ∷ 9 ∷ 0 ∷ 8 ∷ 0 ∷ 0 ∷ 0 ∷ c0 ++ c0 ++ (0xAB ∷ [])) pages
     ∷ lending pages 7 (physical 8191 1 ++ (5 ∷ [])) (reply 7 c0) (page ++ replicate 4095 0 ++ (5 ∷ []))
     ∷ lending half 7 (physical 0 2 ++ (5 ∷ 6 ∷ [])) (reply 7 c0) (5 ∷ 6 ∷ drop 2 half)

@@ -30,13 +30,12 @@ use Rattle.kvmi.specs.Settings.{inRange}
 use Rattle.kvmi.specs.Reply.{messageBytes, eventBytes, pauseEvent}
 use Rattle.kvmi.specs.Valid.{Valid}
 use Rattle.kvmi.specs.Image.{image}
-use Rattle.kvmi.specs.Call.{Began, Call, message, ready, enter, writeImage, Step, answering, judged, headed, unchanged, messageStep, readyStep, pausing, enterStep, awaitsAny, imageStep, step, move, after}
+use Rattle.kvmi.specs.Call.{Call, message, ready, enter, writeImage, Step, answering, judged, headed, unchanged, messageStep, readyStep, pausing, enterStep, awaitsAny, imageStep, step, move, after}
 use Rattle.kvmi.specs.Pauses.{kicks, accepted, sent, queued, acceptedIn, sentIn}
 use Rattle.laws.proofs.Bool.{test, clash}
 use Rattle.laws.proofs.Verdicts.{pick, Passed, verdict-cases, sound-of}
 use Rattle.laws.proofs.Same.{count-is}
 use Rattle.laws.proofs.Steps.{step-kept}
-use Rattle.laws.proofs.Theorems.{began-valid, began-range}
 
 -- the sum over one call that leaves the session open
 abbrev Balanced : ℕ → Model → Call → Step → Type 0
@@ -199,18 +198,15 @@ closed-stays s m (c ∷ cs) h = closed-stays s (step s m c .model) cs (one c)
     one (enter v block out) = rw h
     one (writeImage out) = rw h
 
-pauses-balanced-from : (s : Settings) (ok : So (inRange s)) (vcpu : ℕ) (m : Model) (cs : List Call) → Valid s (m .tables) → after s m cs .closed ≡ false
+-- pauses queued at the start plus pauses accepted equals pause events sent plus pauses queued, over any calls after which the session is open; the
+-- start is any model with valid tables, as there are after every list of calls (`reached-valid`)
+pub pauses-balanced : (s : Settings) (ok : So (inRange s)) (vcpu : ℕ) (m : Model) (cs : List Call) → Valid s (m .tables) → after s m cs .closed ≡ false
     → queued vcpu m + acceptedIn vcpu s m cs ≡ sentIn vcpu s m cs + queued vcpu (after s m cs)
 unfolding after move acceptedIn sentIn
-pauses-balanced-from s ok vcpu m [] a h = add-zero _ ∙ sym (zero-add _)
-pauses-balanced-from s ok vcpu m (c ∷ cs) a h =
+pauses-balanced s ok vcpu m [] a h = add-zero _ ∙ sym (zero-add _)
+pauses-balanced s ok vcpu m (c ∷ cs) a h =
     let k = step s m c .model in
     let opened : k .closed ≡ false = test (k .closed) (λ e. clash (closed-stays s k cs e) h) (λ e. e) in
     let one = step-balanced s vcpu m c a opened in
-    let rest = pauses-balanced-from s ok vcpu k cs (step-kept s ok m c a) h in
+    let rest = pauses-balanced s ok vcpu k cs (step-kept s ok m c a) h in
     omega arith
-
--- pauses queued at the start plus pauses accepted equals pause events sent plus pauses queued, over any calls after which the session is open
-pub pauses-balanced : (s : Settings) (m : Model) → Began s m → (vcpu : ℕ) (cs : List Call) → after s m cs .closed ≡ false
-    → queued vcpu m + acceptedIn vcpu s m cs ≡ sentIn vcpu s m cs + queued vcpu (after s m cs)
-pauses-balanced s m b vcpu cs h = pauses-balanced-from s (began-range s m b) vcpu m cs (began-valid s m b) h

@@ -1,4 +1,5 @@
--- The theorems on the definitions. Their only hypothesis on a session is how it began. Assumes nothing.
+-- The theorems on the definitions. Of a session they ask how it began; those on one entry or one switch ask for valid tables, which every
+-- list of calls leaves (`reached-valid`). Assumes nothing.
 use mathlib.Core.Path.{_≡_, refl, sym, ap, _∙_}
 use mathlib.Core.Logic.{_↔_}
 use Prim.Native.Nat.{ℕ, _^_, _<_}

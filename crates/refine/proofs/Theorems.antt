@@ -1,4 +1,5 @@
--- The theorems on sessions. A well-formed session is one that fresh makes, on whatever words were lent, or that a call leaves of one. Assumes nothing.
+-- The theorems on sessions. A session that fresh makes, on whatever words were lent, is well formed, and every call leaves one that is; so is one
+-- that an accepted image makes (`history/Images`). Assumes nothing.
 use mathlib.Core.Path.{_≡_, refl, sym, ap, _∙_, subst}
 use mathlib.Core.Logic.{_≢_}
 use Prim.Native.Nat.{ℕ, zero, suc, _+_, _*_, _≤_, _<_}

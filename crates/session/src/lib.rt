@@ -66,7 +66,8 @@ impl Session {
     // The least output that a message is given.
     pub const LEAST_OUT: usize = 4112;
 
-    // Every switch off, no vCPU ready, replies on, next event seq 0.
+    // Every switch off, no vCPU ready, replies on, next event seq 0. This is the value alone: `begin` tests the settings and
+    // clears the lent words.
     pub fn fresh(settings: Settings) -> Self
         ensures { λ r. ⌜ r ≡ freshSession settings ⌝ }
     {

@@ -69,6 +69,9 @@ returns-5 : tie.Need-returns-5
 unfolding vcFits vcForm isIdle
 returns-5 c = simp (← c .before .before .before .before .before .before .before .before .load162 .ensures, ← c .before .before .before .before .before .before .before .before .before .before .before .before .byte .ensures, ← c .before .before .before .before .before .before .before .before .before .before .before .byte2 .ensures, ← c .before .before .before .before .before .before .before .before .before .before .load16 .ensures, ← c .before .before .before .before .before .before .before .before .before .byte3 .ensures, ← c .before .before .before .before .byte4 .ensures, lt-ltb _ _ (c .before .before .before .before .before .before .if1 .left), le-leb _ _ (c .before .before .before .before .before .if2 .left), eq-eqb _ _ (c .before .before .before .if3 .left), le-leb _ _ (c .before .before .if4 .left), vcpu-events, ← c .before .has-bits .ensures, not-true (c .before .has-bits .result) (c .if5 .taken))
 
+cast-if6 : tie.Need-cast-if6
+cast-if6 c = search needs
+
 returns-6 : tie.Need-returns-6
 unfolding vcFits vcForm isIdle
 returns-6 c = simp (← c .before .before .before .before .before .before .before .before .before .load162 .ensures, ← c .before .before .before .before .before .before .before .before .before .before .before .before .before .byte .ensures, ← c .before .before .before .before .before .before .before .before .before .before .before .before .byte2 .ensures, ← c .before .before .before .before .before .before .before .before .before .before .before .load16 .ensures, ← c .before .before .before .before .before .before .before .before .before .before .byte3 .ensures, ← c .before .before .before .before .before .byte4 .ensures, lt-ltb _ _ (c .before .before .before .before .before .before .before .if1 .left), le-leb _ _ (c .before .before .before .before .before .before .if2 .left), eq-eqb _ _ (c .before .before .before .before .if3 .left), le-leb _ _ (c .before .before .before .if4 .left), vcpu-events, ← c .before .before .has-bits .ensures, not-false (c .before .before .has-bits .result) (c .before .if5 .left), lt-leb _ _ (c .if6 .taken))
@@ -116,7 +119,7 @@ vc-form-spec =
     returns-4
     has-bits-requires
     returns-5
-    returns-6
+    cast-if6 returns-6
     returns-7
     returns-8
     returns-9
