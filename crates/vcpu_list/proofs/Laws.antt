@@ -10,7 +10,6 @@ use mir.Val.{Val}
 use denote.Laws.{Is}
 use denote.Struct.Laws as LL
 use denote.Enum.Laws as EL
-use Rattle.kvmi.specs.declared.Answer.{Answer}
 use Rattle.kvmi.specs.declared.Answer.the-variants.{BadVcpu}
 use Rattle.kvmi.proofs.Answer as R
 use Rattle.kvmi.proofs.Answer.Laws as R′
