@@ -67,13 +67,13 @@ abbrev stayed : Stays (f.ended .signature .params) (f.ended .kept)
 stayed = (stay-slice (0 ∷ []) tt (plain (λ _. S.the-row)), (stay-none (λ _. usize) yes, tt))
 
 module _ (vs : List Vcpu) (i : ℕ) where
-  there : (d : Changed) → Holds (ltb i (length vs)) → one d ≡ oneReady (getD vs i blank) → listed (d .answer) (set vs i (d .vcpu)) ≡ markedReady vs i
-  unfolding markedReady
-  there d t e = inside oneReady vs i d t e
-
   past : Holds (not (ltb i (length vs))) → listed BadVcpu vs ≡ markedReady vs i
   unfolding markedReady
   past t = outside oneReady vs i t
+
+  there : (d : Changed) → Holds (ltb i (length vs)) → one d ≡ oneReady (getD vs i blank) → listed (d .answer) (set vs i (d .vcpu)) ≡ markedReady vs i
+  unfolding markedReady
+  there d t e = inside oneReady vs i d t e
 
 -- the contract that the proof cites
 abbrev Callee : {M : Type 1} (𝓤 : URA M) (H : Heap 𝓤) (A : Atoms 𝓤) (at-mem : Memory → SProp 𝓤) (run : Routine → Fun 𝓤) → Contract 𝓤

@@ -67,13 +67,13 @@ abbrev stayed : Stays (f.ended .signature .params) (f.ended .kept)
 stayed = (stay-slice (0 ∷ []) tt (plain (λ _. S.the-row)), (stay-none (λ _. usize) yes, (stay-none (λ _. u32) yes, (stay-none (λ _. bool) yes, tt))))
 
 module _ (vs : List Vcpu) (i cr : ℕ) (on : Bool) where
-  there : (d : Changed) → Holds (ltb i (length vs)) → one d ≡ oneCr (getD vs i blank) cr on → listed (d .answer) (set vs i (d .vcpu)) ≡ crSet vs i cr on
-  unfolding crSet
-  there d t e = inside (λ v. oneCr v cr on) vs i d t e
-
   past : Holds (not (ltb i (length vs))) → listed BadVcpu vs ≡ crSet vs i cr on
   unfolding crSet
   past t = outside (λ v. oneCr v cr on) vs i t
+
+  there : (d : Changed) → Holds (ltb i (length vs)) → one d ≡ oneCr (getD vs i blank) cr on → listed (d .answer) (set vs i (d .vcpu)) ≡ crSet vs i cr on
+  unfolding crSet
+  there d t e = inside (λ v. oneCr v cr on) vs i d t e
 
 -- the contract that the proof cites
 abbrev Callee : {M : Type 1} (𝓤 : URA M) (H : Heap 𝓤) (A : Atoms 𝓤) (at-mem : Memory → SProp 𝓤) (run : Routine → Fun 𝓤) → Contract 𝓤
