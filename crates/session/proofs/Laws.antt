@@ -22,17 +22,18 @@ use Rattle.kvmi.specs.declared.Signal.the-variants.{Quiet}
 use Rattle.kvmi.specs.declared.Verdict.{Verdict}
 use Rattle.kvmi.specs.declared.Verdict.the-variants.{Closes, Fails, Does}
 use Rattle.kvmi.specs.Change.{signalOf, modeFor}
-use Rattle.kvmi.specs.Message.{vcpuOf}
+use Rattle.kvmi.specs.Message.{vcpuOf, layoutOf}
 use Rattle.kvmi.specs.Verdict.{verdict}
 use Rattle.kvmi.specs.declared.Answer.the-variants.{Handled}
 use Rattle.kvmi.specs.Model.{nextSeq}
-use Rattle.kvmi.specs.Reply.{pauseEvent}
+use Rattle.kvmi.specs.Reply.{pauseEvent, answerOf, replyData}
 use Rattle.store.specs.Words.{field, setField, PAUSES, AWAITED, AWAITED-SEQ}
 use Rattle.reply.specs.Written.{Written}
+use Rattle.session.specs.declared.Done.{Done}
 use Rattle.session.specs.declared.Session.{Session}
 use Rattle.session.specs.State.{State, state, modeOfNumber, factsIn, Changed, change, withTool, withToolSeq}
 use Rattle.session.specs.Calls.{told, toldClosing, answering, judgedOf, pausingOf}
-use Rattle.session.specs.Code.{PagesChanged, effect, cleanEffect, queuedPause, switchedField, switchedCr, endedWait, vcpusChanged, handledOf, enteredOf}
+use Rattle.session.specs.Code.{PagesChanged, effect, cleanEffect, queuedPause, switchedField, switchedCr, endedWait, vcpusChanged, answeredBy, handledOf, enteredOf}
 
 -- ---- parts of a list
 
@@ -123,6 +124,14 @@ vcpus-only s v p guest d (EndWait vcpu crash) o = refl
 -- the change of a run of entries
 abbrev pub paged : List ℕ → List ℕ → PagesChanged → Changed
 paged v guest x = record { state = state (x .session) v (x .pages); guest = guest; code = x .code }
+
+-- ---- an answer written, and the seq after it
+pub answered-as : (s : Session) (v p d out after guest : List ℕ) (mode : ReplyMode) (id seq count : ℕ) (code : ℤ) (signal : Signal) (r : Done)
+    → Written out after count (answerOf (layoutOf id .reply) mode (s .tool .seq) id seq code (replyData (s .settings) guest id d))
+    → r ≡ answeredBy s mode code count signal
+    → told r v p after guest ≡ answering mode id seq code d signal out guest (state s v p)
+unfolding answering
+answered-as s v p d out after guest mode id seq count code signal r wrote e = rw e (simp (wrote .count, wrote .there))
 
 -- ---- a message by its verdict
 

@@ -5,6 +5,9 @@ use mathlib.Core.Bool.{Bool, cond, not, _&&_}
 use lib.ListN.{length, drop}
 use lib.Dec.{leb, eqb}
 use lib.IntN.{ℤ}
+use Rattle.kvmi.specs.declared.Answer.the-variants.{Handled}
+use Rattle.kvmi.specs.declared.ReplyMode.{ReplyMode}
+use Rattle.kvmi.specs.declared.Signal.{Signal}
 use Rattle.kvmi.specs.declared.Signal.the-variants.{Quiet}
 use Rattle.kvmi.specs.declared.Change.{Change}
 use Rattle.kvmi.specs.declared.Change.the-variants.{Nothing, SetVmEvent, WritePhysical, QueuePause, SetVcpuEvent, SetCr, SetMsr, SetPages, SetSinglestep, SetReplies, EndWait}
@@ -14,11 +17,13 @@ use Rattle.kvmi.specs.Tables.{crBit}
 use Rattle.kvmi.specs.Message.{vcpuOf, entriesOf}
 use Rattle.kvmi.specs.Verdict.{verdict}
 use Rattle.kvmi.specs.Change.{pageLimit}
+use Rattle.kvmi.specs.Reply.{answerSeq}
 use Rattle.store.specs.Words.{field, setField, setMsrBit, SINGLESTEP, CRS, EVENTS, PAUSES, AWAITED, AWAITED-SEQ}
 use Rattle.store.specs.PageWords.{PageTable, runEntries}
+use Rattle.session.specs.declared.Done.{Done}
 use Rattle.session.specs.declared.Effect.{Effect}
 use Rattle.session.specs.declared.Session.{Session}
-use Rattle.session.specs.State.{State, state, putBit64, factsIn, Changed, changedPages, withTool, withToolPages}
+use Rattle.session.specs.State.{State, state, putBit64, factsIn, Changed, changedPages, withTool, withToolPages, withToolSeq}
 use Rattle.session.specs.Calls.{Told, toldSame, toldWritten, judgedOf, pausingOf}
 
 -- a change's result, with the lent words and bytes at exit
@@ -70,6 +75,10 @@ vcpusChanged w (SetReplies mode now) = w
 vcpusChanged w (EndWait vcpu crash) = endedWait w vcpu
 
 -- ---- parts of the calls
+abbrev pub answeredBy : Session → ReplyMode → ℤ → ℕ → Signal → Done
+answeredBy s mode code count signal =
+    record { answer = Handled count signal; session = withTool s (withToolSeq (s .tool) (answerSeq mode (s .tool .seq) code)) }
+
 unfoldable pub handledOf : State → ℕ → ℕ → List ℕ → List ℕ → List ℕ → Told
 handledOf st id seq d out guest = judgedOf st id seq d out guest (verdict (st .session .settings) (factsIn st (length guest) (vcpuOf d)) id seq d)
 

@@ -13,14 +13,16 @@ ghost use mathlib.Core.List.{List, []};
 ghost use Prim.Native.Nat.{ℕ};
 ghost use lib.ListN.{length, drop};
 ghost use Rattle.wire.specs.Bytes.{store};
-ghost use Rattle.kvmi.specs.Message.{vcpuOf};
+ghost use Rattle.kvmi.specs.Message.{vcpuOf, layoutOf};
+ghost use Rattle.kvmi.specs.Reply.{answerOf, replyData};
+ghost use Rattle.reply.specs.Written.{Written};
 ghost use Rattle.kvmi.specs.Settings.{inRange};
 ghost use Rattle.kvmi.specs.Verdict.{verdict};
 ghost use Rattle.kvmi.specs.Change.{signalOf, modeFor};
 ghost use Rattle.store.specs.Words.{field, setField, PAUSES, AWAITED, AWAITED-SEQ};
 ghost use Rattle.session.specs.State.{state, freshSession, closedSession, withTool, withToolEvents, withToolMode, withToolSeq, withToolPages, withReadyBits, modeOfNumber, numberOfMode, putBit64, factsIn, change};
-ghost use Rattle.session.specs.Calls.{told, toldClosing, freshOf, answering, judgedOf, messageOf, readyOf, pausingOf, enterOf};
-ghost use Rattle.session.specs.Code.{effect, cleanEffect, queuedPause, switchedField, switchedCr, endedWait, pagesEffect, pagesSet, vcpusChanged, handledOf, enteredOf, countsFit};
+ghost use Rattle.session.specs.Calls.{told, toldClosing, freshOf, judgedOf, messageOf, readyOf, pausingOf, enterOf};
+ghost use Rattle.session.specs.Code.{effect, cleanEffect, queuedPause, switchedField, switchedCr, endedWait, pagesEffect, pagesSet, vcpusChanged, answeredBy, handledOf, enteredOf, countsFit};
 
 // What one introspection tool owns: unsigned integers only, so that any bits are a value. A flag is set where it is not 0.
 #[repr(C)]
@@ -341,29 +343,32 @@ fn close(s: Session, vcpus: &mut [u64], pages: &mut [u64]) -> Done
     }
 }
 
-// A command is answered by a mode, with its code and what it asked for.
-fn answer(
-    s: Session,
+// The bytes of an answer, by a mode, with its code and what the message asked for; `next` is the next event's seq.
+fn put_answer(
+    settings: Settings,
     mode: ReplyMode,
+    next: u32,
     id: u16,
     seq: u32,
     code: i32,
     d: &[u8],
-    signal: Signal,
     out: &mut [u8],
     guest: &[u8],
-) -> Done
-    ensures { λ r. ⌜ ((v p : List ℕ) → told r v p (now (out .exit)) (now (guest .entry)) ≡ answering mode id seq code (now (d .entry)) signal (now (out .entry)) (now (guest .entry)) (state s v p)) ⌝ }
+) -> usize
+    ensures { λ r. ⌜ Written (now (out .entry)) (now (out .exit)) r (answerOf (layoutOf id .reply) mode next id seq code (replyData settings (now (guest .entry)) id (now (d .entry)))) ⌝ }
 {
     let row = kvmi::message::layout(id);
     let kind = row.reply;
-    let settings = s.settings;
-    let next = s.tool.seq;
-    let count = reply::answer(out, settings, guest, kind, mode, next, id, seq, code, d);
-    let session = s.with_seq(reply::seq_after(mode, next, code));
+    reply::answer(out, settings, guest, kind, mode, next, id, seq, code, d)
+}
+
+// A message that was answered: the seq after it is the session's next.
+fn answered(s: Session, mode: ReplyMode, code: i32, count: usize, signal: Signal) -> Done
+    ensures { λ r. ⌜ r ≡ answeredBy s mode code count signal ⌝ }
+{
     Done {
         answer: Answer::Handled { count, signal },
-        session,
+        session: s.with_seq(reply::seq_after(mode, s.tool.seq, code)),
     }
 }
 
@@ -387,13 +392,18 @@ fn handle(
     let v = verdict::judge(settings, facts, id, seq, d);
     match v {
         Verdict::Closes => close(s, vcpus, pages),
-        Verdict::Fails(code) => answer(s, mode, id, seq, code, d, Signal::Quiet, out, guest),
+        Verdict::Fails(code) => {
+            let count = put_answer(settings, mode, s.tool.seq, id, seq, code, d, out, guest);
+            answered(s, mode, code, count, Signal::Quiet)
+        }
         Verdict::Does(c) => {
             let by = mode_for(mode, c);
             let signal = signal_of(c);
             let e = apply(s, vcpus, pages, guest, d, c);
-            let session = e.session;
-            answer(session, by, id, seq, e.code, d, signal, out, guest)
+            let t = e.session;
+            let code = e.code;
+            let count = put_answer(t.settings, by, t.tool.seq, id, seq, code, d, out, guest);
+            answered(t, by, code, count, signal)
         }
     }
 }

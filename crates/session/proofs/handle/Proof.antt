@@ -1,6 +1,6 @@
 -- Each verdict by itself. Assumes nothing.
 use mathlib.Core.Path.{_∙_}
-use Rattle.session.proofs.Laws.{closes-as, fails-as, does-as}
+use Rattle.session.proofs.Laws.{answered-as, closes-as, fails-as, does-as}
 use mir.Syntax.{w32}
 use mir.Val.{SFits}
 use mir.Facts.{toZ-ofZ}
@@ -29,8 +29,11 @@ close-requires c κs = search needs
 enum-known-v : tie.Need-enum-known-v
 enum-known-v c = search needs
 
-answer-requires : tie.Need-answer-requires
-answer-requires c κs = search needs
+put-answer-requires : tie.Need-put-answer-requires
+put-answer-requires c κs = search needs
+
+answered-requires : tie.Need-answered-requires
+answered-requires c κs = search needs
 
 enum-known-v-2 : tie.Need-enum-known-v-2
 enum-known-v-2 c = search needs
@@ -44,8 +47,11 @@ signal-of-requires c κs = search needs
 apply-requires : tie.Need-apply-requires
 apply-requires c κs = search needs
 
-answer-requires-2 : tie.Need-answer-requires-2
-answer-requires-2 c κs = search needs
+put-answer-requires-2 : tie.Need-put-answer-requires-2
+put-answer-requires-2 c κs = search needs
+
+answered-requires-2 : tie.Need-answered-requires-2
+answered-requires-2 c κs = search needs
 
 same-length : tie.Need-same-length
 same-length c = search needs
@@ -67,8 +73,9 @@ same-length-5 c = search needs
 
 returns-2 : tie.Need-returns-2
 returns-2 c =
-    let f : SFits w32 (c .before .before .before .before .before .before .v .given .0 .0) = search needs in
-    c .before .before .answer .ensures _ _ ∙ fails-as _ _ _ _ _ _ _ _ _ (c .before .before .before .before .before .before .before .before .before .before .before .before .before .load16 .ensures) (c .before .before .before .before .before .before .before .before .before .before .before .facts-of .ensures) (c .before .before .before .before .before .before .before .before .judge .ensures) _ _ _ (c .before .before .before .before .before .before .v .given .1) (toZ-ofZ f) (c .before .before .before .before .before .before .before .before .before .mode-of .ensures)
+    let f : SFits w32 (c .before .before .before .before .before .before .before .v .given .0 .0) = search needs in
+    answered-as _ _ _ _ _ _ _ _ _ _ _ _ _ _ (c .before .before .before .put-answer .ensures) (c .answered .ensures)
+    ∙ fails-as _ _ _ _ _ _ _ _ _ (c .before .before .before .before .before .before .before .before .before .before .before .before .before .before .load16 .ensures) (c .before .before .before .before .before .before .before .before .before .before .before .before .facts-of .ensures) (c .before .before .before .before .before .before .before .before .before .judge .ensures) _ _ _ (c .before .before .before .before .before .before .before .v .given .1) (toZ-ofZ f) (c .before .before .before .before .before .before .before .before .before .before .mode-of .ensures)
 
 same-length-6 : tie.Need-same-length-6
 same-length-6 c = search needs
@@ -84,8 +91,9 @@ same-length-9 c = search needs
 
 returns-3 : tie.Need-returns-3
 returns-3 c =
-    let f : SFits w32 (c .before .before .before .before .before .before .before .before .before .before .before .before .before .apply .result .code) = search needs in
-    c .before .before .answer2 .ensures _ _ ∙ does-as _ _ _ _ _ _ _ _ _ (c .before .before .before .before .before .before .before .before .before .before .before .before .before .before .before .before .before .before .before .before .before .before .before .before .before .before .before .load16 .ensures) (c .before .before .before .before .before .before .before .before .before .before .before .before .before .before .before .before .before .before .before .before .before .before .before .before .before .facts-of .ensures) (c .before .before .before .before .before .before .before .before .before .before .before .before .before .before .before .before .before .before .before .before .before .before .judge .ensures) _ _ _ _ _ _ (c .before .before .before .before .before .before .before .before .before .before .before .before .before .before .before .before .before .before .before .before .v2 .given .1) (toZ-ofZ f) (c .before .before .before .before .before .before .before .before .before .before .before .before .before .before .before .before .before .before .before .before .before .before .before .mode-of .ensures) (c .before .before .before .before .before .before .before .before .before .before .before .before .before .before .before .before .before .before .mode-for .ensures) (c .before .before .before .before .before .before .before .before .before .before .before .before .before .before .before .before .before .signal-of .ensures) (c .before .before .before .before .before .before .before .before .before .before .before .before .before .apply .ensures)
+    let f : SFits w32 (c .before .before .before .before .before .before .before .before .before .before .before .before .before .before .apply .result .code) = search needs in
+    answered-as _ _ _ _ _ _ _ _ _ _ _ _ _ _ (c .before .before .before .put-answer2 .ensures) (c .answered2 .ensures)
+    ∙ does-as _ _ _ _ _ _ _ _ _ (c .before .before .before .before .before .before .before .before .before .before .before .before .before .before .before .before .before .before .before .before .before .before .before .before .before .before .before .before .load16 .ensures) (c .before .before .before .before .before .before .before .before .before .before .before .before .before .before .before .before .before .before .before .before .before .before .before .before .before .before .facts-of .ensures) (c .before .before .before .before .before .before .before .before .before .before .before .before .before .before .before .before .before .before .before .before .before .before .before .judge .ensures) _ _ _ _ _ _ (c .before .before .before .before .before .before .before .before .before .before .before .before .before .before .before .before .before .before .before .before .before .v2 .given .1) (toZ-ofZ f) (c .before .before .before .before .before .before .before .before .before .before .before .before .before .before .before .before .before .before .before .before .before .before .before .before .mode-of .ensures) (c .before .before .before .before .before .before .before .before .before .before .before .before .before .before .before .before .before .before .before .mode-for .ensures) (c .before .before .before .before .before .before .before .before .before .before .before .before .before .before .before .before .before .before .signal-of .ensures) (c .before .before .before .before .before .before .before .before .before .before .before .before .before .before .apply .ensures)
 
 pub handle-spec : {M : Type 1} → statement M
 handle-spec =
@@ -98,12 +106,14 @@ handle-spec =
     enum-told
     close-requires
     enum-known-v
-    answer-requires
+    put-answer-requires
+    answered-requires
     enum-known-v-2
     mode-for-requires
     signal-of-requires
     apply-requires
-    answer-requires-2
+    put-answer-requires-2
+    answered-requires-2
     same-length
     same-length-2
     returns
