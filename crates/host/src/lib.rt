@@ -303,3 +303,53 @@ pub extern "C" fn semblurick_image_read(
     *s = d.session;
     d.code
 }
+
+fn image_write(
+    s: Session,
+    vcpus: &[u64; 4352],
+    pages: &[u64; 1024],
+    out: &mut [u8],
+    result: &mut [u64; 5],
+) -> u32
+    ensures { λ r. ⌜ (r ≡ writeGiven s (now (vcpus .entry)) (now (pages .entry)) (now (out .entry)) (now (result .entry)) .done .code)
+        × (now (out .exit) ≡ writeGiven s (now (vcpus .entry)) (now (pages .entry)) (now (out .entry)) (now (result .entry)) .out)
+        × (now (result .exit) ≡ writeGiven s (now (vcpus .entry)) (now (pages .entry)) (now (out .entry)) (now (result .entry)) .result) ⌝ }
+{
+    let done = image_writer::write_image(s, vcpus, pages, out);
+    let d = finish(done, result);
+    d.code
+}
+
+// The image of a session, which stays as it is.
+#[no_mangle]
+pub extern "C" fn semblurick_image_write(
+    s: &Session,
+    vcpus: &[u64; 4352],
+    pages: &[u64; 1024],
+    out: &mut [u8],
+    result: &mut [u64; 5],
+) -> u32
+    ensures { λ r. ⌜ (r ≡ writeGiven (now (s .entry)) (now (vcpus .entry)) (now (pages .entry)) (now (out .entry)) (now (result .entry)) .done .code)
+        × (now (out .exit) ≡ writeGiven (now (s .entry)) (now (vcpus .entry)) (now (pages .entry)) (now (out .entry)) (now (result .entry)) .out)
+        × (now (result .exit) ≡ writeGiven (now (s .entry)) (now (vcpus .entry)) (now (pages .entry)) (now (out .entry)) (now (result .entry)) .result) ⌝ }
+{
+    image_write(*s, vcpus, pages, out, result)
+}
+
+fn image_size(s: Session, vcpus: &[u64; 4352], pages: &[u64; 1024]) -> usize
+    ensures { λ r. ⌜ r ≡ sizeGiven s (now (vcpus .entry)) (now (pages .entry)) ⌝ }
+{
+    image_writer::image_size(s, vcpus, pages)
+}
+
+// How many bytes the image of a session has.
+#[no_mangle]
+pub extern "C" fn semblurick_image_size(
+    s: &Session,
+    vcpus: &[u64; 4352],
+    pages: &[u64; 1024],
+) -> usize
+    ensures { λ r. ⌜ r ≡ sizeGiven (now (s .entry)) (now (vcpus .entry)) (now (pages .entry)) ⌝ }
+{
+    image_size(*s, vcpus, pages)
+}
