@@ -1,0 +1,348 @@
+//! The proved filter beside the plain Rust implementation, in one run: ns a message, best of several rounds, and the ratio.
+use std::hint::black_box;
+use std::time::Instant;
+
+const ROUNDS: usize = 9;
+const VCPUS: u32 = 16;
+const GUEST: usize = 16 * 4096;
+
+/// What both can do. An answer is how many bytes were written; every call here is handled, and that is asserted.
+trait Filter: Sized {
+    fn fresh() -> Self;
+    fn ready(&mut self, vcpu: u32);
+    fn message(&mut self, message: &[u8], out: &mut [u8], guest: &mut [u8]) -> usize;
+    fn enter(&mut self, vcpu: u32, state: &[u8], out: &mut [u8]) -> usize;
+    fn write_image(&self, out: &mut [u8]) -> usize;
+    fn from_image(image: &[u8]) -> Self;
+}
+
+fn proved_settings() -> semblurick::Settings {
+    semblurick::Settings { views: 8, ..semblurick::Settings::allowing_all(VCPUS) }
+}
+
+impl Filter for semblurick::Session {
+    fn fresh() -> Self {
+        semblurick::Session::fresh(&proved_settings()).expect("settings in range")
+    }
+
+    fn ready(&mut self, vcpu: u32) {
+        semblurick::Session::ready(self, vcpu).expect("a vCPU");
+    }
+
+    fn message(&mut self, message: &[u8], out: &mut [u8], guest: &mut [u8]) -> usize {
+        match semblurick::Session::message(self, message, out, guest) {
+            Ok(semblurick::Answer::Handled { bytes, .. }) => bytes.len(),
+            other => panic!("{other:?}"),
+        }
+    }
+
+    fn enter(&mut self, vcpu: u32, state: &[u8], out: &mut [u8]) -> usize {
+        semblurick::Session::enter(self, vcpu, state, out).expect("an entry").len()
+    }
+
+    fn write_image(&self, out: &mut [u8]) -> usize {
+        semblurick::Session::write_image(self, out).expect("an image")
+    }
+
+    fn from_image(image: &[u8]) -> Self {
+        semblurick::Session::from_image(&proved_settings(), image).expect("an image")
+    }
+}
+
+fn reference_settings() -> reference::Settings {
+    reference::Settings {
+        vcpus: VCPUS,
+        views: 8,
+        commands: !0,
+        events: !0,
+        tsc: 0,
+        features: [1; 5],
+        descriptors: true,
+        breakpoints: false,
+    }
+}
+
+fn count(answer: reference::Answer) -> usize {
+    match answer {
+        reference::Answer::Handled { count, .. } => count,
+        other => panic!("{other:?}"),
+    }
+}
+
+impl Filter for reference::Session {
+    fn fresh() -> Self {
+        reference::Session::fresh(reference_settings()).expect("settings in range")
+    }
+
+    fn ready(&mut self, vcpu: u32) {
+        count(reference::Session::ready(self, vcpu as u16));
+    }
+
+    fn message(&mut self, message: &[u8], out: &mut [u8], guest: &mut [u8]) -> usize {
+        count(reference::Session::message(self, message, out, guest))
+    }
+
+    fn enter(&mut self, vcpu: u32, state: &[u8], out: &mut [u8]) -> usize {
+        count(reference::Session::enter(self, vcpu as u16, state, out))
+    }
+
+    fn write_image(&self, out: &mut [u8]) -> usize {
+        count(reference::Session::write_image(self, out))
+    }
+
+    fn from_image(image: &[u8]) -> Self {
+        reference::Session::read_image(reference_settings(), image).expect("an image")
+    }
+}
+
+// ---- messages
+
+struct Random(u64);
+
+impl Random {
+    /// Splitmix64.
+    fn next(&mut self) -> u64 {
+        self.0 = self.0.wrapping_add(0x9E37_79B9_7F4A_7C15);
+        let mut z = self.0;
+        z = (z ^ z >> 30).wrapping_mul(0xBF58_476D_1CE4_E5B9);
+        z = (z ^ z >> 27).wrapping_mul(0x94D0_49BB_1331_11EB);
+        z ^ z >> 31
+    }
+
+    fn below(&mut self, n: u64) -> u64 {
+        self.next() % n
+    }
+}
+
+fn message(id: u16, seq: u32, data: &[u8]) -> Vec<u8> {
+    let size = data.len() as u16;
+    [&id.to_le_bytes()[..], &size.to_le_bytes(), &seq.to_le_bytes(), data].concat()
+}
+
+fn on_vcpu(id: u16, seq: u32, vcpu: u64, data: [u8; 8]) -> Vec<u8> {
+    message(id, seq, &[&(vcpu as u16).to_le_bytes()[..], &[0; 6], &data].concat())
+}
+
+/// enable u8, three zeros, a number u32
+fn switch(enable: u64, number: u32) -> [u8; 8] {
+    let n = number.to_le_bytes();
+    [enable as u8, 0, 0, 0, n[0], n[1], n[2], n[3]]
+}
+
+/// event u16, enable u8, five zeros
+fn event(event: u16, enable: u64) -> [u8; 8] {
+    let e = event.to_le_bytes();
+    [e[0], e[1], enable as u8, 0, 0, 0, 0, 0]
+}
+
+fn msr(rank: u64) -> u32 {
+    if rank < 8192 {
+        rank as u32
+    } else {
+        0xC000_0000 + (rank as u32 - 8192)
+    }
+}
+
+fn small(r: &mut Random, seq: u32) -> Vec<u8> {
+    let (vcpu, on) = (r.below(VCPUS.into()), r.below(2));
+    match r.below(4) {
+        0 => message(5, seq, &event([1, 12][r.below(2) as usize], on)),
+        1 => on_vcpu(10, seq, vcpu, event([3, 4, 5, 7, 8, 9, 10, 11, 14][r.below(9) as usize], on)),
+        2 => on_vcpu(11, seq, vcpu, switch(on, [0, 3, 4][r.below(3) as usize])),
+        _ => on_vcpu(12, seq, vcpu, switch(on, msr(r.below(16384)))),
+    }
+}
+
+fn access(view: u16, entries: &[(u64, u8)]) -> Vec<u8> {
+    let mut data = Vec::new();
+    data.extend((entries.len() as u16).to_le_bytes());
+    data.extend(view.to_le_bytes());
+    data.extend([0; 4]);
+    for (page, access) in entries {
+        data.extend((page * 4096).to_le_bytes());
+        data.extend([*access, 0, 0, 0, 0, 0, 0, 0]);
+    }
+    message(13, 0, &data)
+}
+
+fn physical(id: u16, gpa: u64, bytes: &[u8]) -> Vec<u8> {
+    let data = [&gpa.to_le_bytes()[..], &4096u64.to_le_bytes(), bytes].concat();
+    message(id, 0, &data)
+}
+
+// ---- rows
+
+struct Bench {
+    out: Vec<u8>,
+    guest: Vec<u8>,
+}
+
+impl Bench {
+    fn new() -> Bench {
+        Bench { out: vec![0; 4112], guest: vec![0; GUEST] }
+    }
+
+    fn send<F: Filter>(&mut self, f: &mut F, messages: &[Vec<u8>]) {
+        for m in messages {
+            black_box(f.message(black_box(m), &mut self.out, &mut self.guest));
+        }
+    }
+}
+
+fn begun<F: Filter>() -> F {
+    let mut f = F::fresh();
+    for vcpu in 0..VCPUS {
+        f.ready(vcpu);
+    }
+    f
+}
+
+/// 1,000 pages of view 0, every third page number.
+fn thousand() -> Vec<Vec<u8>> {
+    let pages: Vec<(u64, u8)> = (0..1000).map(|i| (3 * i, 5)).collect();
+    pages.chunks(250).map(|part| access(0, part)).collect()
+}
+
+/// Nanoseconds for each of n things that are done once.
+fn time(n: usize, mut once: impl FnMut()) -> f64 {
+    let start = Instant::now();
+    once();
+    start.elapsed().as_nanos() as f64 / n as f64
+}
+
+fn small_commands<F: Filter>() -> f64 {
+    let mut r = Random(1);
+    let list: Vec<_> = (0..4096).map(|seq| small(&mut r, seq)).collect();
+    let (mut f, mut b) = (begun::<F>(), Bench::new());
+    b.send(&mut f, &list);
+    time(list.len() * 16, || (0..16).for_each(|_| b.send(&mut f, &list)))
+}
+
+fn pause_cycles<F: Filter>() -> f64 {
+    let (mut f, mut b) = (begun::<F>(), Bench::new());
+    let state = [7; 536];
+    let (mut r, cycles) = (Random(2), 20_000u32);
+    // pause, entry and reply: three calls
+    let list: Vec<_> = (0..cycles)
+        .map(|seq| {
+            let vcpu = r.below(VCPUS.into());
+            (vcpu as u32, on_vcpu(9, seq, vcpu, [0; 8]), on_vcpu(16, seq, vcpu, [0, 2, 0, 0, 0, 0, 0, 0]))
+        })
+        .collect();
+    time(3 * cycles as usize, || {
+        for (vcpu, pause, reply) in &list {
+            b.send(&mut f, std::slice::from_ref(pause));
+            assert_eq!(f.enter(*vcpu, &state, &mut b.out), 552);
+            b.send(&mut f, std::slice::from_ref(reply));
+        }
+    })
+}
+
+fn ascending<F: Filter>() -> f64 {
+    let (mut f, mut b) = (begun::<F>(), Bench::new());
+    b.send(&mut f, &thousand());
+    let mut r = Random(3);
+    let list: Vec<_> = (0..512)
+        .map(|_| {
+            let first = r.below(1000 - 16);
+            let entries: Vec<_> = (first..first + 16).map(|i| (3 * i, [0, 1, 3, 4, 5][r.below(5) as usize])).collect();
+            access(0, &entries)
+        })
+        .collect();
+    b.send(&mut f, &list);
+    time(list.len() * 8, || (0..8).for_each(|_| b.send(&mut f, &list)))
+}
+
+fn random_entries<F: Filter>() -> f64 {
+    let (mut f, mut b) = (begun::<F>(), Bench::new());
+    let mut r = Random(4);
+    // 256 random pages set, and the same forgotten in another order
+    let list: Vec<_> = (0..64)
+        .flat_map(|_| {
+            let set: Vec<_> = (0..256).map(|_| (r.below(1 << 40), 5)).collect();
+            let mut gone: Vec<_> = set.iter().map(|(page, _)| (*page, 7)).collect();
+            for i in (1..gone.len()).rev() {
+                gone.swap(i, r.below(i as u64 + 1) as usize);
+            }
+            [access(0, &set), access(0, &gone)]
+        })
+        .collect();
+    b.send(&mut f, &thousand()[..2]);
+    b.send(&mut f, &list);
+    time(list.len() * 4, || (0..4).for_each(|_| b.send(&mut f, &list)))
+}
+
+fn reads<F: Filter>() -> f64 {
+    let (mut f, mut b) = (begun::<F>(), Bench::new());
+    let list: Vec<_> = (0..256).map(|i| physical(6, i % 16 * 4096, &[])).collect();
+    b.send(&mut f, &list);
+    time(list.len() * 16, || (0..16).for_each(|_| b.send(&mut f, &list)))
+}
+
+fn writes<F: Filter>() -> f64 {
+    let (mut f, mut b) = (begun::<F>(), Bench::new());
+    let list: Vec<_> = (0..256).map(|i| physical(7, i % 16 * 4096, &[i as u8; 4096])).collect();
+    b.send(&mut f, &list);
+    time(list.len() * 16, || (0..16).for_each(|_| b.send(&mut f, &list)))
+}
+
+/// 16 vCPUs, 256 MSR switches, 1,024 pages in all views.
+fn full<F: Filter>() -> F {
+    let (mut f, mut b) = (begun::<F>(), Bench::new());
+    let mut r = Random(5);
+    let mut on = std::collections::BTreeSet::new();
+    while on.len() < 256 {
+        let (vcpu, rank) = (r.below(VCPUS.into()), r.below(16384));
+        on.insert((vcpu, rank));
+        b.send(&mut f, &[on_vcpu(12, 0, vcpu, switch(1, msr(rank)))]);
+    }
+    for view in 0..8 {
+        let entries: Vec<_> = (0..128).map(|_| (r.below(1 << 40), 5)).collect();
+        b.send(&mut f, &[access(view, &entries)]);
+    }
+    f
+}
+
+fn image_writes<F: Filter>() -> f64 {
+    let f = full::<F>();
+    let mut out = vec![0; 1 << 16];
+    assert_eq!(f.write_image(&mut out), 14 + 160 + 8 * 256 + 14 * 1024);
+    time(256, || (0..256).for_each(|_| _ = black_box(f.write_image(&mut out))))
+}
+
+fn image_reads<F: Filter>() -> f64 {
+    let mut out = vec![0; 1 << 16];
+    let n = full::<F>().write_image(&mut out);
+    time(256, || (0..256).for_each(|_| _ = black_box(F::from_image(black_box(&out[..n])))))
+}
+
+type Round = fn() -> f64;
+
+const ROWS: [(&str, Round, Round); 8] = [
+    ("small commands: 5, 10, 11, 12", small_commands::<semblurick::Session>, small_commands::<reference::Session>),
+    ("pause, entry, reply: each call", pause_cycles::<semblurick::Session>, pause_cycles::<reference::Session>),
+    ("message 13: 16 ascending entries on 1,000 pages", ascending::<semblurick::Session>, ascending::<reference::Session>),
+    (
+        "message 13: 256 random entries, set and forgotten",
+        random_entries::<semblurick::Session>,
+        random_entries::<reference::Session>,
+    ),
+    ("read 4,096 bytes", reads::<semblurick::Session>, reads::<reference::Session>),
+    ("write 4,096 bytes", writes::<semblurick::Session>, writes::<reference::Session>),
+    ("image write: 256 MSR switches, 1,024 pages", image_writes::<semblurick::Session>, image_writes::<reference::Session>),
+    ("image read: the same", image_reads::<semblurick::Session>, image_reads::<reference::Session>),
+];
+
+fn best(round: Round) -> f64 {
+    (0..ROUNDS).map(|_| round()).fold(f64::INFINITY, f64::min)
+}
+
+fn main() {
+    println!("ns a message or image, best of {ROUNDS} rounds; output and guest buffers are not cleared between calls");
+    println!("{:<52}{:>10}{:>12}{:>8}", "", "proved", "reference", "ratio");
+    for (name, proved, reference) in ROWS {
+        let (ours, theirs) = (best(proved), best(reference));
+        println!("{name:<52}{ours:>10.1}{theirs:>12.1}{:>7.2}x", theirs / ours);
+    }
+    println!("ratio: the reference's time over the proved filter's; above 1 the proved filter is faster");
+}

@@ -1,0 +1,141 @@
+//! A filter for the host end of a KVMI introspection channel, in plain Rust.
+//!
+//! kvmi.rst (API version 1) gives the layouts; document 01 gives the numbers,
+//! the order of the tests, the host's answers and the table image, and decides
+//! where kvmi.rst is silent or contradicts itself. Comments quote or name the
+//! sentence of either that a rule stands for; `NOTES.md` lists the readings of
+//! sentences that are open.
+//!
+//! * [`Session::message`] takes one message of the tool,
+//! * [`Session::ready`] and [`Session::enter`] are the host's calls,
+//! * [`Session::write_image`] and [`Session::read_image`] hand the tables from
+//!   one host to another.
+
+#![forbid(unsafe_code)]
+
+mod event;
+mod image;
+mod message;
+mod session;
+mod standing;
+mod wire;
+
+pub use session::Session;
+
+/// Document 01, "Settings, and a session's standing": the first paragraph.
+#[derive(Clone, Debug, PartialEq, Eq)]
+pub struct Settings {
+    /// vCPU count, 1..=16.
+    pub vcpus: u32,
+    /// View count, 1..=8.
+    pub views: u32,
+    /// Allowed commands: bit k for command k, unknown bits ignored.
+    pub commands: u32,
+    /// Allowed events: bit k for event k, unknown bits ignored.
+    pub events: u32,
+    /// The eight-byte TSC speed that VCPU_GET_INFO tells.
+    pub tsc: u64,
+    /// The five feature bytes that GET_VERSION tells; the first is singlestep
+    /// (0 lacking, any other value present).
+    pub features: [u8; 5],
+    /// Whether descriptor events (event 8) can be caught.
+    pub descriptors: bool,
+    /// Whether breakpoints (event 4) are already taken by the host.
+    pub breakpoints: bool,
+}
+
+impl Settings {
+    /// Answer 7: "a count out of its range".
+    fn check(&self) -> Result<(), Answer> {
+        if (1..=16).contains(&self.vcpus) && (1..=8).contains(&self.views) {
+            Ok(())
+        } else {
+            Err(Answer::BadSettings)
+        }
+    }
+
+    /// "1, 2, 3 and 16 are always allowed"; the others as the bit set says.
+    fn allows_command(&self, id: u16) -> bool {
+        match id {
+            1 | 2 | 3 | 16 => true,
+            4..=15 => self.commands & (1 << id) != 0,
+            _ => false,
+        }
+    }
+
+    /// Whether each event in `bits` (bit e for event e) is allowed.
+    fn allows_events(&self, bits: u16) -> bool {
+        u32::from(bits) & !self.events == 0
+    }
+
+    /// "the singlestep feature (first feature byte 0)" is the lacking one.
+    fn singlestep(&self) -> bool {
+        self.features[0] != 0
+    }
+}
+
+/// What a handled call asks of the host beside the bytes written.
+#[derive(Clone, Copy, Debug, PartialEq, Eq)]
+pub enum Signal {
+    None,
+    /// An accepted pause: kick the vCPU out of the guest, and wait for it or not.
+    Kick {
+        vcpu: u16,
+        wait: bool,
+    },
+    /// An event reply with the crash action.
+    Crash {
+        vcpu: u16,
+    },
+}
+
+/// Document 01, "Host answers"; the number of each is named beside it.
+#[derive(Clone, Copy, Debug, PartialEq, Eq)]
+pub enum Answer {
+    /// 0: handled; so many bytes were written.
+    Handled { count: usize, signal: Signal },
+    /// 1: this call closed the session.
+    Closing,
+    /// 2: the session was closed before.
+    Closed,
+    /// 3: the output is too short.
+    ShortOut,
+    /// 4: a host call names a vCPU not below the count.
+    BadVcpu,
+    /// 5: the lent register block is not 536 bytes.
+    BadState,
+    /// 6: that vCPU's event reply is awaited.
+    Waiting,
+    /// 7: a count of the settings is out of its range.
+    BadSettings,
+    /// 8: the image breaks a rule of form at this offset.
+    BadForm { offset: usize },
+    /// 9: the image wants, at this offset, what the settings lack.
+    Forbidden { offset: usize },
+    /// 10: an image is asked while a reply is awaited.
+    Busy,
+}
+
+impl Answer {
+    /// Document 01's number of this answer.
+    pub fn number(self) -> u32 {
+        match self {
+            Answer::Handled { .. } => 0,
+            Answer::Closing => 1,
+            Answer::Closed => 2,
+            Answer::ShortOut => 3,
+            Answer::BadVcpu => 4,
+            Answer::BadState => 5,
+            Answer::Waiting => 6,
+            Answer::BadSettings => 7,
+            Answer::BadForm { .. } => 8,
+            Answer::Forbidden { .. } => 9,
+            Answer::Busy => 10,
+        }
+    }
+
+    /// Handled, with nothing asked of the host.
+    fn handled(count: usize) -> Answer {
+        Answer::Handled { count, signal: Signal::None }
+    }
+}

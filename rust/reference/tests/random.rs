@@ -1,0 +1,469 @@
+//! Random lists of calls against a book kept beside the session: document 01,
+//! "Demand 3 is one claim about a list", and demand 1's untouched memory.
+
+mod common;
+
+use common::*;
+use reference::{Answer, Session, Settings, Signal};
+use std::collections::{BTreeMap, BTreeSet};
+
+/// xorshift64*.
+struct Random(u64);
+
+impl Random {
+    fn next(&mut self) -> u64 {
+        self.0 ^= self.0 >> 12;
+        self.0 ^= self.0 << 25;
+        self.0 ^= self.0 >> 27;
+        self.0.wrapping_mul(0x2545_F491_4F6C_DD1D)
+    }
+
+    fn below(&mut self, end: u64) -> u64 {
+        (self.next() >> 16) % end
+    }
+
+    /// True once in so many.
+    fn once_in(&mut self, times: u64) -> bool {
+        self.below(times) == 0
+    }
+
+    fn pick<T: Copy>(&mut self, from: &[T]) -> T {
+        from[self.below(from.len() as u64) as usize]
+    }
+}
+
+/// The standing that image and messages are about, kept in the plainest way.
+#[derive(Default)]
+struct Book {
+    ready: BTreeSet<u16>,
+    vm_events: BTreeSet<u16>,
+    vcpu_events: BTreeSet<(u16, u16)>,
+    crs: BTreeSet<(u16, u32)>,
+    msrs: BTreeSet<(u16, u32)>,
+    singlestep: BTreeSet<u16>,
+    pauses: BTreeMap<u16, u8>,
+    pages: BTreeMap<(u16, u64), u8>,
+}
+
+fn switch<T: Ord>(set: &mut BTreeSet<T>, switch: T, enable: u8) {
+    if enable == 1 {
+        set.insert(switch);
+    } else {
+        set.remove(&switch);
+    }
+}
+
+impl Book {
+    /// A message that was handled without error, or message 13 with -12.
+    fn acted(&mut self, message: &[u8]) {
+        let data = &message[8..];
+        let u16_at = |at: usize| u16::from_le_bytes([data[at], data[at + 1]]);
+        let u32_at = |at: usize| u32::from_le_bytes(data[at..at + 4].try_into().unwrap());
+        match message[0] {
+            5 => switch(&mut self.vm_events, u16_at(0), data[2]),
+            9 => *self.pauses.entry(u16_at(0)).or_default() += 1,
+            10 => switch(&mut self.vcpu_events, (u16_at(0), u16_at(8)), data[10]),
+            11 => switch(&mut self.crs, (u16_at(0), u32_at(12)), data[8]),
+            12 => switch(&mut self.msrs, (u16_at(0), u32_at(12)), data[8]),
+            13 => {
+                for entry in data[8..].chunks(16) {
+                    let gpa = u64::from_le_bytes(entry[..8].try_into().unwrap());
+                    let key = (u16_at(2), gpa >> 12);
+                    if entry[8] == 7 {
+                        self.pages.remove(&key);
+                    } else if self.pages.contains_key(&key) || self.pages.len() < 1024 {
+                        self.pages.insert(key, entry[8]);
+                    }
+                }
+            }
+            14 => switch(&mut self.singlestep, u16_at(0), data[8]),
+            _ => {}
+        }
+    }
+
+    fn image(&self, vcpus: u16) -> Vec<u8> {
+        let mut image = Vec::new();
+        let mut records = 0u32;
+        let mut record = |parts: &[&[u8]]| {
+            image.extend(parts.concat());
+            records += 1;
+            records - 1
+        };
+        let bits = |events: &[u16]| events.iter().fold(0u16, |bits, event| bits | 1 << event);
+        let vm: Vec<u16> = self.vm_events.iter().copied().collect();
+        record(&[b"VM\x01\0", &vcpus.to_le_bytes(), &bits(&vm).to_le_bytes()]);
+        for vcpu in 0..vcpus {
+            let events: Vec<u16> = (1..15).filter(|&event| self.vcpu_events.contains(&(vcpu, event))).collect();
+            let flags = u8::from(self.ready.contains(&vcpu)) + 2 * u8::from(self.singlestep.contains(&vcpu));
+            let crs = u8::from(self.crs.contains(&(vcpu, 0)))
+                + 2 * u8::from(self.crs.contains(&(vcpu, 3)))
+                + 4 * u8::from(self.crs.contains(&(vcpu, 4)));
+            let pauses = self.pauses.get(&vcpu).copied().unwrap_or(0);
+            record(&[b"VC", &vcpu.to_le_bytes(), &[flags, crs], &bits(&events).to_le_bytes(), &[pauses, 0]]);
+        }
+        for (vcpu, msr) in &self.msrs {
+            record(&[b"MS", &vcpu.to_le_bytes(), &msr.to_le_bytes()]);
+        }
+        for ((view, page), access) in &self.pages {
+            record(&[b"PA", &view.to_le_bytes(), &[*access, 0], &page.to_le_bytes()]);
+        }
+        let count = record(&[]);
+        image.extend(b"EN");
+        image.extend(count.to_le_bytes());
+        image
+    }
+}
+
+fn random_settings(random: &mut Random) -> Settings {
+    let mut bits = || match random.below(4) {
+        0 => !(1 << random.below(16)),
+        1 => random.next() as u32 | 1 << 15,
+        _ => !0,
+    };
+    let (commands, events) = (bits(), bits());
+    Settings {
+        vcpus: random.pick(&[1, 2, 3, 16]),
+        views: random.pick(&[1, 2, 8]),
+        commands,
+        events,
+        tsc: random.next(),
+        features: random.next().to_le_bytes()[..5].try_into().unwrap(),
+        descriptors: random.once_in(2),
+        breakpoints: random.once_in(2),
+    }
+}
+
+/// A message that mostly is well formed.
+fn random_message(random: &mut Random, settings: &Settings, seq: u32) -> Vec<u8> {
+    let vcpu = if random.once_in(20) {
+        random.next() as u16
+    } else {
+        random.below(u64::from(settings.vcpus) + 1) as u16 % settings.vcpus as u16
+    };
+    let flag = random.below(2) as u8;
+    let event = random.below(16) as u16;
+    let mut message = match random.below(18) {
+        0 => msg(1, 0, &[]),
+        1 => check_command(random.below(18) as u16),
+        2 => check_event(event),
+        3 => msg(4, 0, &[]),
+        4 => vm_event(random.pick(&[1, 12, event]), flag),
+        5 => read_physical(random.below(0x4000), random.below(0x800)),
+        6 => {
+            let bytes = vec![random.next() as u8; random.below(300) as usize];
+            write_physical(random.below(0x4000), &bytes)
+        }
+        7 => vcpu_info(vcpu),
+        8 | 9 => pause(vcpu, flag),
+        10 => vcpu_event(vcpu, event, flag),
+        11 => control_cr(vcpu, random.pick(&[0, 3, 4, 3, 0, 4, 8]), flag),
+        12 => {
+            let upper = random.pick(&[0, 0xC000_0000]);
+            control_msr(vcpu, upper + random.below(0x2001) as u32, flag)
+        }
+        13 | 14 => {
+            let end = if random.once_in(3) { 600 } else { 4 };
+            let count = random.below(end);
+            let top = random.pick(&[0, 0, 0, 1 << 50, u64::MAX << 23]);
+            let entries: Vec<_> = (0..count)
+                .map(|_| {
+                    let access = random.pick(&[0, 1, 3, 4, 5, 7]);
+                    (top | random.below(2000 << 12), access)
+                })
+                .collect();
+            page_access(random.below(u64::from(settings.views)) as u16, &entries)
+        }
+        15 => singlestep(vcpu, flag),
+        16 => response(random.pick(&[0, 1, 1]), flag, random.below(2) as u8),
+        _ => event_reply(seq, vcpu, random.pick(&[0, 2]), 2),
+    };
+    if random.once_in(30) {
+        let at = random.below(message.len() as u64) as usize;
+        message[at] = random.next() as u8;
+    }
+    message
+}
+
+#[test]
+fn lists_of_calls_against_a_book() {
+    let mut random = Random(0x5EED);
+    let (mut images, mut closings, mut events) = (0, 0, 0);
+    for _ in 0..200 {
+        let settings = random_settings(&mut random);
+        let vcpus = settings.vcpus as u16;
+        let mut bench = Bench::unready(settings.clone());
+        let mut book = Book::default();
+        let mut awaited: BTreeMap<u16, u32> = BTreeMap::new();
+        let mut next_seq = 0;
+        // (replies on, flag)
+        let mut mode = (true, false);
+        for _ in 0..300 {
+            match random.below(20) {
+                0 | 1 => {
+                    let vcpu = random.below(u64::from(vcpus) + 1) as u16;
+                    let expected = if vcpu < vcpus {
+                        book.ready.insert(vcpu);
+                        handled(0)
+                    } else {
+                        Answer::BadVcpu
+                    };
+                    assert_eq!(bench.session.ready(vcpu), expected);
+                }
+                2 | 3 => {
+                    let vcpu = random.below(u64::from(vcpus)) as u16;
+                    let state = [random.next() as u8; 536];
+                    let (answer, event) = bench.enter(vcpu, &state);
+                    let waiting = awaited.contains_key(&vcpu);
+                    let pauses = book.pauses.entry(vcpu).or_default();
+                    if waiting {
+                        assert_eq!(answer, Answer::Waiting);
+                    } else if *pauses == 0 {
+                        assert_eq!(answer, handled(0));
+                    } else {
+                        assert_eq!(answer, handled(552));
+                        assert_eq!(event[4..8], u32::to_le_bytes(next_seq));
+                        assert_eq!(event[10..12], vcpu.to_le_bytes());
+                        assert_eq!(event[16..], state);
+                        *pauses -= 1;
+                        awaited.insert(vcpu, next_seq);
+                        next_seq += 1;
+                        events += 1;
+                    }
+                }
+                4 => {
+                    // Refusals change nothing.
+                    let mut short = [UNTOUCHED; 551];
+                    let message = random_message(&mut random, &settings, 0);
+                    let answer = bench.session.message(&message, &mut short, &mut bench.guest);
+                    assert_eq!(answer, Answer::ShortOut);
+                    let answer = bench.session.enter(0, &[0; 536], &mut short);
+                    assert_eq!(answer, Answer::ShortOut);
+                    assert_eq!(short, [UNTOUCHED; 551]);
+                }
+                _ => {
+                    // Mostly an event reply that fits.
+                    let fit = awaited.iter().next().map(|(&vcpu, &seq)| (vcpu, seq));
+                    let mut message = random_message(&mut random, &settings, next_seq);
+                    if message.first() == Some(&16) {
+                        match fit {
+                            Some((vcpu, seq)) => message = event_reply(seq, vcpu, 0, 2),
+                            None => continue,
+                        }
+                    }
+                    let guest = bench.guest.clone();
+                    let (answer, bytes) = bench.send(&message);
+                    let Answer::Handled { signal, .. } = answer else {
+                        assert_eq!(answer, Answer::Closing);
+                        assert!(bench.guest == guest);
+                        closings += 1;
+                        break;
+                    };
+                    let id = u16::from_le_bytes([message[0], message[1]]);
+                    let succeeds = succeeded(&book, &settings, &message);
+                    assert_eq!(matches!(signal, Signal::Kick { .. }), id == 9 && succeeds);
+                    let new_mode = (message.get(8) == Some(&1), message.get(10) == Some(&1));
+                    let own = match (id, succeeds) {
+                        (15, true) if message[9] == 1 => new_mode.0,
+                        _ => mode.0,
+                    };
+                    if id == 16 {
+                        assert!(bytes.is_empty());
+                        awaited.remove(&fit.unwrap().0);
+                    } else if own {
+                        let error = i32::from_le_bytes(bytes[8..12].try_into().unwrap());
+                        assert_eq!(error == 0, succeeds, "{message:?}");
+                        if succeeds || id == 13 && error == ENOMEM {
+                            book.acted(&message);
+                        }
+                    } else if !succeeds && mode.1 {
+                        assert_eq!(bytes.len(), 568);
+                        assert_eq!(bytes[4..8], u32::to_le_bytes(next_seq));
+                        let error = i32::from_le_bytes(bytes[552..556].try_into().unwrap());
+                        assert_ne!(error, 0);
+                        next_seq += 1;
+                        events += 1;
+                        if id == 13 && error == ENOMEM {
+                            book.acted(&message);
+                        }
+                    } else {
+                        assert!(bytes.is_empty());
+                        if succeeds || id == 13 && well_formed_13(&settings, &message) {
+                            book.acted(&message);
+                        }
+                    }
+                    if id == 15 && succeeds {
+                        mode = (new_mode.0, new_mode.1 && !new_mode.0);
+                    }
+                    if id == 7 && succeeds {
+                        let gpa = u64::from_le_bytes(message[8..16].try_into().unwrap()) as usize;
+                        let mut expected = guest;
+                        expected[gpa..gpa + message.len() - 24].copy_from_slice(&message[24..]);
+                        assert!(bench.guest == expected);
+                    } else {
+                        assert!(bench.guest == guest);
+                    }
+                }
+            }
+            if awaited.is_empty() {
+                let image = bench.image();
+                assert_eq!(image, book.image(vcpus));
+                if random.once_in(5) {
+                    let loaded = Session::read_image(settings.clone(), &image).unwrap();
+                    let mut again = vec![0; image.len()];
+                    assert_eq!(loaded.write_image(&mut again), handled(image.len()));
+                    assert_eq!(again, image);
+                    images += 1;
+                }
+            } else {
+                assert_eq!(bench.session.write_image(&mut [0; 9]), Answer::Busy);
+                assert_eq!(bench.session.image_size(), book.image(vcpus).len());
+            }
+        }
+    }
+    assert!(images > 1000 && closings > 20 && events > 100);
+}
+
+/// Whether message 13 would pass all but the page limit.
+fn well_formed_13(settings: &Settings, message: &[u8]) -> bool {
+    let data = &message[8..];
+    settings.commands & 1 << 13 != 0
+        && data.len() == 8 + 16 * usize::from(u16::from_le_bytes([data[0], data[1]]))
+        && u32::from(u16::from_le_bytes([data[2], data[3]])) < settings.views
+        && data[4..8] == [0; 4]
+        && data[8..].chunks(16).all(|entry| [0, 1, 3, 4, 5, 7].contains(&entry[8]) && entry[9..].iter().all(|&byte| byte == 0))
+}
+
+/// Whether a message that did not close has no error, said in another way than
+/// the library does: all conditions of a success at once.
+fn succeeded(book: &Book, settings: &Settings, message: &[u8]) -> bool {
+    let id = u16::from_le_bytes([message[0], message[1]]);
+    let data = &message[8..];
+    let allowed = |id: u16| [1, 2, 3, 16].contains(&id) || (4..=15).contains(&id) && settings.commands >> id & 1 == 1;
+    let may = |event: u16| settings.events >> event & 1 == 1;
+    if !allowed(id) {
+        return false;
+    }
+    let u16_at = |at: usize| u16::from_le_bytes([data[at], data[at + 1]]);
+    let u32_at = |at: usize| u32::from_le_bytes(data[at..at + 4].try_into().unwrap());
+    let u64_at = |at: usize| u64::from_le_bytes(data[at..at + 8].try_into().unwrap());
+    let zero = |from: usize, to: usize| data[from..to].iter().all(|&byte| byte == 0);
+    let vcpu = || zero(2, 8) && book.ready.contains(&u16_at(0));
+    match id {
+        1 | 4 | 16 => true,
+        2 => zero(2, 8) && u16_at(0) != 16 && allowed(u16_at(0)),
+        3 => zero(2, 8) && (1..15).contains(&u16_at(0)) && may(u16_at(0)),
+        5 => zero(3, 8) && data[2] < 2 && [1, 12].contains(&u16_at(0)) && may(u16_at(0)),
+        6 | 7 => {
+            let (gpa, size) = (u128::from(u64_at(0)), u128::from(u64_at(8)));
+            size > 0 && gpa % 4096 + size <= 4096 && gpa < 0x4000
+        }
+        8 => vcpu(),
+        9 => vcpu() && data[8] < 2 && zero(9, 16) && { book.pauses.get(&u16_at(0)).copied().unwrap_or(0) < 8 },
+        10 => {
+            let event = u16_at(8);
+            vcpu()
+                && data[10] < 2
+                && zero(11, 16)
+                && [3, 4, 5, 7, 8, 9, 10, 11, 14].contains(&event)
+                && may(event)
+                && (data[10] == 0 || event != 8 || settings.descriptors)
+                && (data[10] == 0 || event != 4 || !settings.breakpoints)
+        }
+        11 => vcpu() && data[8] < 2 && zero(9, 12) && [0, 3, 4].contains(&u32_at(12)),
+        12 => vcpu() && data[8] < 2 && zero(9, 12) && u32_at(12) & 0x3FFF_E000 == 0 && { [0, 3].contains(&(u32_at(12) >> 30)) },
+        13 => {
+            well_formed_13(settings, message) && {
+                let mut below: BTreeSet<(u16, u64)> = book.pages.keys().copied().collect();
+                data[8..].chunks(16).all(|entry| {
+                    let gpa = u64::from_le_bytes(entry[..8].try_into().unwrap());
+                    if entry[8] == 7 {
+                        below.remove(&(u16_at(2), gpa >> 12));
+                    } else {
+                        below.insert((u16_at(2), gpa >> 12));
+                    }
+                    below.len() <= 1024
+                })
+            }
+        }
+        14 => vcpu() && data[8] < 2 && zero(9, 16) && settings.features[0] != 0,
+        15 => data[..3].iter().all(|&byte| byte < 2) && zero(3, 8),
+        _ => false,
+    }
+}
+
+/// Images with a byte changed, cut or put in: never a panic, and what is
+/// accepted is written again with the same bytes.
+#[test]
+fn spoiled_images() {
+    let mut random = Random(0x1CE);
+    let (mut accepted, mut bad, mut lacking) = (0, 0, 0);
+    for _ in 0..40 {
+        let settings = random_settings(&mut random);
+        let mut bench = Bench::new(settings.clone());
+        for _ in 0..200 {
+            let mut message = random_message(&mut random, &settings, 0);
+            if message[0] == 13 {
+                message = page_access(0, &[(random.next(), 1)]);
+            }
+            if matches!(message[0], 5 | 9..=14) && !bench.closes(&message) {
+                bench.send(&message);
+            }
+        }
+        let image = bench.image();
+        for _ in 0..500 {
+            let mut spoiled = image.clone();
+            for _ in 0..=random.below(2) {
+                let at = random.below(spoiled.len() as u64) as usize;
+                match random.below(8) {
+                    0 => spoiled.truncate(at + 1),
+                    1 => spoiled.insert(at, random.next() as u8),
+                    2 => drop(spoiled.remove(at)),
+                    3 | 4 => spoiled[at] ^= 1 << random.below(8),
+                    _ => spoiled[at] = random.below(18) as u8,
+                }
+                if spoiled.is_empty() {
+                    break;
+                }
+            }
+            match Session::read_image(settings.clone(), &spoiled) {
+                Ok(session) => {
+                    let mut again = vec![0; spoiled.len()];
+                    assert_eq!(session.write_image(&mut again), handled(spoiled.len()));
+                    assert_eq!(again, spoiled);
+                    accepted += 1;
+                }
+                Err(Answer::BadForm { offset }) => {
+                    assert!(offset <= spoiled.len());
+                    bad += 1;
+                }
+                Err(Answer::Forbidden { offset }) => {
+                    assert!(offset < spoiled.len());
+                    lacking += 1;
+                }
+                Err(answer) => panic!("{answer:?}"),
+            }
+        }
+    }
+    assert!(accepted > 100 && bad > 100 && lacking > 100);
+}
+
+/// Any bytes at all, to any call.
+#[test]
+fn any_bytes() {
+    let mut random = Random(0xB17E5);
+    for _ in 0..20_000 {
+        let mut session = Session::fresh(settings()).unwrap();
+        let mut message: Vec<u8> = (0..random.below(64)).map(|_| random.next() as u8).collect();
+        if message.len() >= 8 {
+            let size = (message.len() - 8) as u16;
+            message[0] = random.below(20) as u8;
+            message[1] = 0;
+            message[2..4].copy_from_slice(&size.to_le_bytes());
+        }
+        let mut guest = vec![0; random.below(8193) as usize];
+        let mut out = vec![UNTOUCHED; 4112 + random.below(3) as usize];
+        let answer = session.message(&message, &mut out, &mut guest);
+        written(answer, out);
+        let _ = Session::read_image(settings(), &message);
+    }
+}
