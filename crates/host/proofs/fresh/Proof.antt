@@ -1,6 +1,5 @@
 -- What `begin` tells, as a host has it. Assumes nothing.
 use mathlib.Core.Path.{_∙_, ap}
-use mathlib.Core.List.{[]}
 use Rattle.session.specs.Calls.{Told}
 use Rattle.host.specs.Host.{given, freshGiven}
 use borrow.Author.Needs.{needs}

@@ -1,6 +1,5 @@
 -- What the session tells of a message, as a host has it. Assumes nothing.
 use mathlib.Core.Path.{_∙_, ap}
-use mathlib.Core.List.{[]}
 use Rattle.session.specs.Calls.{Told}
 use Rattle.host.specs.Host.{given, messageGiven}
 use borrow.Author.Needs.{needs}

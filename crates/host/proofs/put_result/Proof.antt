@@ -1,7 +1,7 @@
 -- The five words and the number, each as its function says. Assumes nothing.
-use mathlib.Core.Path.{_≡_, ap, _∙_}
+use mathlib.Core.Path.{_≡_}
 use Prim.Native.Nat.{ℕ}
-use mathlib.Core.List.{List, [], _∷_}
+use mathlib.Core.List.{[], _∷_}
 use Rattle.kvmi.specs.Answer.{Paper, paper}
 use Rattle.kvmi.specs.declared.Signal.{Signal}
 use Rattle.host.specs.Host.{signalNumber, signalVcpu, signalWaits, resultWords}
