@@ -37,6 +37,8 @@ pub use names::{Command, CommandSet, Errno, Event, EventSet};
 pub const MESSAGE_OUT: usize = 4112;
 /// The least output for [`Session::enter`].
 pub const ENTRY_OUT: usize = 552;
+/// The bytes of a CMD_ERROR event.
+const COMMAND_ERROR: usize = 568;
 /// The bytes of a vCPU's register block.
 pub const STATE_BYTES: usize = 536;
 /// The bytes of the longest image.
@@ -147,7 +149,8 @@ impl Answer<'_> {
     /// there are no bytes.
     pub fn error(&self) -> Option<Errno> {
         let Answer::Handled { bytes, .. } = self else { return None };
-        let at = if bytes.len() >= 2 && bytes[..2] == [17, 0] { 552 } else { 8 };
+        // a reply to an unknown message with id 17 begins alike, but has 16 bytes
+        let at = if bytes.len() == COMMAND_ERROR && bytes[..2] == [17, 0] { 552 } else { 8 };
         let code = bytes.get(at..at + 4)?;
         Errno::from_number(i32::from_le_bytes([code[0], code[1], code[2], code[3]]))
     }

@@ -1,0 +1,170 @@
+//! Calls, and their text: one call a line, a word and then `name=value` pairs.
+
+use reference::Settings;
+use std::fmt;
+use std::fmt::Write;
+
+/// The most that calls can lend: output, guest memory and register block.
+pub const OUT_ROOM: usize = 4200;
+pub const GUEST_ROOM: usize = 4 * 4096 + 64;
+pub const STATE_ROOM: usize = 1100;
+
+/// One call on both sides. All but `Fresh` and `Load` need a session and do nothing without one.
+#[derive(Clone, Debug, PartialEq, Eq)]
+pub enum Call {
+    /// Begins a session; it takes the place of the one before, unless it is refused.
+    Fresh { settings: Settings },
+    /// Reads an image. The session is dropped once compared, unless it is to be kept.
+    Load { settings: Settings, keep: bool, image: Vec<u8> },
+    /// Marks a vCPU ready.
+    Ready { vcpu: u32 },
+    /// A message, with so many bytes of output and guest memory lent.
+    Message { out: usize, guest: usize, bytes: Vec<u8> },
+    /// An entry, with so many bytes of a register block, chosen by `fill`, and of output lent.
+    Enter { vcpu: u32, state: usize, fill: u8, out: usize },
+    /// Writes the image, with so many bytes more lent than it has.
+    Image { room: i64 },
+}
+
+impl Call {
+    pub fn word(&self) -> &'static str {
+        match self {
+            Call::Fresh { .. } => "fresh",
+            Call::Load { .. } => "load",
+            Call::Ready { .. } => "ready",
+            Call::Message { .. } => "message",
+            Call::Enter { .. } => "enter",
+            Call::Image { .. } => "image",
+        }
+    }
+
+    /// A message in full room.
+    pub fn message(bytes: Vec<u8>) -> Call {
+        Call::Message { out: 4112, guest: 4 * 4096, bytes }
+    }
+}
+
+impl fmt::Display for Call {
+    fn fmt(&self, f: &mut fmt::Formatter<'_>) -> fmt::Result {
+        f.write_str(self.word())?;
+        match self {
+            Call::Fresh { settings } => put_settings(f, settings),
+            Call::Load { settings, keep, image } => {
+                put_settings(f, settings)?;
+                write!(f, " keep={} image=", u8::from(*keep))?;
+                put_hex(f, image)
+            }
+            Call::Ready { vcpu } => write!(f, " vcpu={vcpu}"),
+            Call::Message { out, guest, bytes } => {
+                write!(f, " out={out} guest={guest} bytes=")?;
+                put_hex(f, bytes)
+            }
+            Call::Enter { vcpu, state, fill, out } => write!(f, " vcpu={vcpu} state={state} fill={fill} out={out}"),
+            Call::Image { room } => write!(f, " room={room}"),
+        }
+    }
+}
+
+fn put_settings(f: &mut fmt::Formatter<'_>, s: &Settings) -> fmt::Result {
+    write!(f, " vcpus={} views={} commands={:#x} events={:#x} tsc={}", s.vcpus, s.views, s.commands, s.events, s.tsc)?;
+    f.write_str(" features=")?;
+    put_hex(f, &s.features)?;
+    write!(f, " descriptors={} breakpoints={}", u8::from(s.descriptors), u8::from(s.breakpoints))
+}
+
+fn put_hex(f: &mut fmt::Formatter<'_>, bytes: &[u8]) -> fmt::Result {
+    let digit = |nibble: u8| char::from(b"0123456789abcdef"[usize::from(nibble)]);
+    bytes.iter().try_for_each(|byte| {
+        f.write_char(digit(byte >> 4))?;
+        f.write_char(digit(byte & 15))
+    })
+}
+
+/// Reads a list of calls; empty lines and those with `#` first are passed over.
+pub fn parse(text: &str) -> Result<Vec<Call>, String> {
+    let lines = text.lines().enumerate().map(|(index, line)| (index + 1, line.trim()));
+    let lines = lines.filter(|(_, line)| !line.is_empty() && !line.starts_with('#'));
+    lines.map(|(number, line)| parse_call(line).map_err(|why| format!("line {number}: {why}"))).collect()
+}
+
+fn parse_call(line: &str) -> Result<Call, String> {
+    let mut words = line.split_whitespace();
+    let word = words.next().ok_or("no word")?;
+    let mut fields = Fields(words.map(|word| word.split_once('=').ok_or(format!("no = in {word}"))).collect::<Result<_, _>>()?);
+    let call = match word {
+        "fresh" => Call::Fresh { settings: fields.settings()? },
+        "load" => Call::Load { settings: fields.settings()?, keep: fields.flag("keep")?, image: fields.hex("image")? },
+        "ready" => Call::Ready { vcpu: fields.number("vcpu")? },
+        "message" => Call::Message {
+            out: fields.up_to("out", OUT_ROOM)?,
+            guest: fields.up_to("guest", GUEST_ROOM)?,
+            bytes: fields.hex("bytes")?,
+        },
+        "enter" => Call::Enter {
+            vcpu: fields.number("vcpu")?,
+            state: fields.up_to("state", STATE_ROOM)?,
+            fill: fields.number("fill")?,
+            out: fields.up_to("out", OUT_ROOM)?,
+        },
+        "image" => Call::Image { room: fields.number("room")? },
+        _ => return Err(format!("unknown word {word}")),
+    };
+    match fields.0.first() {
+        Some((name, _)) => Err(format!("{word} has no {name}")),
+        None => Ok(call),
+    }
+}
+
+/// The pairs of a line that are not taken yet.
+struct Fields<'a>(Vec<(&'a str, &'a str)>);
+
+impl<'a> Fields<'a> {
+    fn take(&mut self, name: &str) -> Result<&'a str, String> {
+        let at = self.0.iter().position(|(known, _)| *known == name).ok_or(format!("no {name}"))?;
+        Ok(self.0.remove(at).1)
+    }
+
+    fn number<T: TryFrom<i128>>(&mut self, name: &str) -> Result<T, String> {
+        let text = self.take(name)?;
+        let number = match text.strip_prefix("0x") {
+            Some(digits) => i128::from_str_radix(digits, 16),
+            None => text.parse(),
+        };
+        number.ok().and_then(|number| number.try_into().ok()).ok_or(format!("{name}={text} is no such number"))
+    }
+
+    fn up_to(&mut self, name: &str, most: usize) -> Result<usize, String> {
+        match self.number(name)? {
+            number if number <= most => Ok(number),
+            _ => Err(format!("{name} is above {most}")),
+        }
+    }
+
+    fn flag(&mut self, name: &str) -> Result<bool, String> {
+        match self.number(name)? {
+            0u8 => Ok(false),
+            1 => Ok(true),
+            _ => Err(format!("{name} is neither 0 nor 1")),
+        }
+    }
+
+    fn hex(&mut self, name: &str) -> Result<Vec<u8>, String> {
+        let text = self.take(name)?;
+        let nibble = |at: usize| text.get(at..at + 1).and_then(|digit| u8::from_str_radix(digit, 16).ok());
+        let bytes: Option<Vec<u8>> = (0..text.len()).step_by(2).map(|at| Some(nibble(at)? << 4 | nibble(at + 1)?)).collect();
+        bytes.ok_or(format!("{name} is not in hex digits, two for a byte"))
+    }
+
+    fn settings(&mut self) -> Result<Settings, String> {
+        Ok(Settings {
+            vcpus: self.number("vcpus")?,
+            views: self.number("views")?,
+            commands: self.number("commands")?,
+            events: self.number("events")?,
+            tsc: self.number("tsc")?,
+            features: self.hex("features")?.try_into().map_err(|_| "features are not five bytes")?,
+            descriptors: self.flag("descriptors")?,
+            breakpoints: self.flag("breakpoints")?,
+        })
+    }
+}

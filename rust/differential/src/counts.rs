@@ -1,0 +1,247 @@
+//! What a run has seen.
+
+use crate::Call;
+use reference::{Answer, Signal};
+use std::fmt;
+
+/// Every error code of a reply.
+pub const CODES: [i32; 9] = [0, -1, -2, -11, -12, -16, -22, -95, -1000];
+
+/// The kinds of calls, as rows of the answers.
+const WORDS: [&str; 6] = ["fresh", "load", "ready", "message", "enter", "image"];
+
+/// The answers that each kind has.
+const ANSWERS: [&[usize]; 6] = [&[0, 7], &[0, 7, 8, 9], &[0, 2, 4], &[0, 1, 2, 3], &[0, 2, 3, 4, 5, 6], &[0, 2, 3, 10]];
+
+/// The signals, told apart by whether the call wrote a reply: a kick does, with replies on, and a crash never.
+const SIGNALS: [&str; 6] =
+    ["none", "kick, no wait, reply", "kick and wait, reply", "kick, no wait, no reply", "kick and wait, no reply", "crash"];
+
+/// Where an image can be refused.
+const PLACES: [&str; 8] = ["VM", "VC", "MS", "PA", "EN", "the length", "after EN", "another mark"];
+
+/// What entries can give.
+const ENTRIES: [&str; 2] = ["no pause queued", "a pause event"];
+
+/// The errors that each of the messages 1 to 15 gives in a reply.
+const REPLIES: [&[i32]; 15] = [
+    &[0],
+    &[0, -1, -22],
+    &[0, -1, -22],
+    &[0, -1],
+    &[0, -1, -22],
+    &[0, -1, -2, -22],
+    &[0, -1, -2, -22],
+    &[0, -1, -11, -22],
+    &[0, -1, -11, -16, -22],
+    &[0, -1, -11, -16, -22, -95],
+    &[0, -1, -11, -22],
+    &[0, -1, -11, -22],
+    &[0, -1, -12, -22],
+    &[0, -1, -11, -22, -95],
+    &[0, -1, -22],
+];
+
+/// With replies off: messages with reply data close, and so do those not allowed, so that -1 is about an event, or in message
+/// 2 about a command.
+fn off(id: usize) -> impl Iterator<Item = i32> {
+    let codes = if matches!(id, 1 | 4 | 6 | 8) { &[] } else { REPLIES[id - 1] };
+    codes.iter().copied().filter(move |&code| code != -1 || matches!(id, 2 | 3 | 5 | 10))
+}
+
+/// What a message wrote.
+enum Wrote {
+    Reply,
+    CommandError,
+    Nothing,
+}
+
+#[derive(Clone, Default)]
+pub struct Counts {
+    pub sessions: u64,
+    pub messages: u64,
+    pub images_read: u64,
+    pub images_written: u64,
+    /// The most messages of a session, and the most pages and bytes of an image.
+    pub longest: u64,
+    pub most_pages: u64,
+    pub largest: u64,
+    answers: [[u64; 11]; 6],
+    /// By message, 0 for an unknown one, and by error.
+    replies: [[u64; 9]; 17],
+    command_errors: [[u64; 9]; 17],
+    /// Handled without a byte, by message.
+    silent: [u64; 17],
+    closing: [u64; 17],
+    signals: [u64; 6],
+    entries: [u64; 2],
+    refused: [[u64; 2]; 8],
+}
+
+impl Counts {
+    /// Takes note of a call that both sides answered alike; `bytes` are those written.
+    pub fn saw(&mut self, call: &Call, answer: Answer, bytes: &[u8]) {
+        let row = WORDS.iter().position(|word| *word == call.word()).expect("a row for each word");
+        self.answers[row][answer.number() as usize] += 1;
+        match call {
+            Call::Message { bytes: message, .. } => self.saw_message(message, answer, bytes),
+            Call::Load { image, .. } => self.saw_load(image, answer),
+            Call::Enter { .. } => {
+                if let Answer::Handled { count, .. } = answer {
+                    self.entries[usize::from(count > 0)] += 1;
+                }
+            }
+            Call::Image { .. } => {
+                self.images_written += 1;
+                self.saw_image(bytes);
+            }
+            Call::Fresh { .. } | Call::Ready { .. } => {}
+        }
+    }
+
+    fn saw_message(&mut self, message: &[u8], answer: Answer, bytes: &[u8]) {
+        self.messages += 1;
+        let id = match message {
+            [id @ 1..=16, 0, ..] => usize::from(*id),
+            _ => 0,
+        };
+        match answer {
+            Answer::Closing => self.closing[id] += 1,
+            Answer::Handled { count, signal } => {
+                let silent = 2 * usize::from(count == 0);
+                self.signals[match signal {
+                    Signal::None => 0,
+                    Signal::Kick { wait, .. } => 1 + silent + usize::from(wait),
+                    Signal::Crash { .. } => 5,
+                }] += 1;
+                let code = crate::told_error(bytes).unwrap_or(0);
+                let column = CODES.iter().position(|known| *known == code);
+                let column = column.unwrap_or_else(|| panic!("both sides gave the error {code}"));
+                match written(bytes) {
+                    Wrote::Nothing => self.silent[id] += 1,
+                    Wrote::Reply => self.replies[id][column] += 1,
+                    Wrote::CommandError => self.command_errors[id][column] += 1,
+                }
+            }
+            _ => {}
+        }
+    }
+
+    fn saw_load(&mut self, image: &[u8], answer: Answer) {
+        self.images_read += 1;
+        let (column, offset) = match answer {
+            Answer::BadForm { offset } => (0, offset),
+            Answer::Forbidden { offset } => (1, offset),
+            Answer::Handled { .. } => return self.saw_image(image),
+            _ => return,
+        };
+        let place = match image.get(offset..) {
+            None | Some([]) => 5,
+            _ if offset >= 6 && image[offset - 6..].starts_with(b"EN") => 6,
+            Some([first, second, ..]) => {
+                let mark = [*first, *second];
+                PLACES[..5].iter().position(|place| place.as_bytes() == mark).unwrap_or(7)
+            }
+            Some(_) => 7,
+        };
+        self.refused[place][column] += 1;
+    }
+
+    /// An image that a session wrote or took.
+    fn saw_image(&mut self, image: &[u8]) {
+        self.largest = self.largest.max(image.len() as u64);
+        // PA records are the last ones before EN
+        let body = &image[..image.len().saturating_sub(6)];
+        let pages = body.rchunks_exact(14).take_while(|record| record.starts_with(b"PA")).count();
+        self.most_pages = self.most_pages.max(pages as u64);
+    }
+
+    pub fn add(&mut self, other: &Counts) {
+        self.sessions += other.sessions;
+        self.messages += other.messages;
+        self.images_read += other.images_read;
+        self.images_written += other.images_written;
+        self.longest = self.longest.max(other.longest);
+        self.most_pages = self.most_pages.max(other.most_pages);
+        self.largest = self.largest.max(other.largest);
+        sum(self.answers.as_flattened_mut(), other.answers.as_flattened());
+        sum(self.replies.as_flattened_mut(), other.replies.as_flattened());
+        sum(self.command_errors.as_flattened_mut(), other.command_errors.as_flattened());
+        sum(&mut self.silent, &other.silent);
+        sum(&mut self.closing, &other.closing);
+        sum(&mut self.signals, &other.signals);
+        sum(&mut self.entries, &other.entries);
+        sum(self.refused.as_flattened_mut(), other.refused.as_flattened());
+    }
+
+    /// Everything that a run has to see, with how often it did.
+    pub fn wanted(&self) -> Vec<(String, u64)> {
+        let mut list = Vec::new();
+        for (row, numbers) in ANSWERS.iter().enumerate() {
+            list.extend(numbers.iter().map(|&n| (format!("{}: answer {n}", WORDS[row]), self.answers[row][n])));
+        }
+        for (column, code) in CODES.iter().enumerate() {
+            list.push((format!("error {code}"), self.replies.iter().chain(&self.command_errors).map(|row| row[column]).sum()));
+        }
+        for id in 1..16 {
+            for code in REPLIES[id - 1] {
+                list.push((format!("message {id}: reply {code}"), self.replies[id][column(*code)]));
+            }
+            for code in off(id) {
+                let (what, count) = match code {
+                    0 => ("silence".into(), self.silent[id]),
+                    _ => (format!("CMD_ERROR {code}"), self.command_errors[id][column(code)]),
+                };
+                list.push((format!("message {id}: {what}"), count));
+            }
+        }
+        list.push(("unknown message: reply -1000".into(), self.replies[0][column(-1000)]));
+        list.push(("message 16: taken".into(), self.silent[16]));
+        list.extend((0..17).map(|id| (format!("message {id}: closing"), self.closing[id])));
+        list.extend(SIGNALS.iter().zip(self.signals).map(|(name, count)| (format!("signal: {name}"), count)));
+        list.extend(ENTRIES.iter().zip(self.entries).map(|(name, count)| (format!("entry: {name}"), count)));
+        for (place, [form, forbidden]) in PLACES.iter().zip(self.refused) {
+            list.push((format!("image: bad form at {place}"), form));
+            if matches!(*place, "VM" | "VC" | "PA") {
+                list.push((format!("image: forbidden at {place}"), forbidden));
+            }
+        }
+        list.push(("image: 1,024 pages".into(), u64::from(self.most_pages == 1024)));
+        list.push(("image: the longest".into(), u64::from(self.largest == semblurick::IMAGE_MAX as u64)));
+        list
+    }
+
+    /// What a run had to see and did not.
+    pub fn missing(&self) -> Vec<String> {
+        self.wanted().into_iter().filter(|(_, count)| *count == 0).map(|(name, _)| name).collect()
+    }
+}
+
+/// What these bytes of a message's output are.
+fn written(bytes: &[u8]) -> Wrote {
+    match bytes.len() {
+        0 => Wrote::Nothing,
+        568 if bytes[..2] == [17, 0] => Wrote::CommandError,
+        _ => Wrote::Reply,
+    }
+}
+
+fn column(code: i32) -> usize {
+    CODES.iter().position(|known| *known == code).expect("a known code")
+}
+
+fn sum(into: &mut [u64], from: &[u64]) {
+    into.iter_mut().zip(from).for_each(|(into, from)| *into += from);
+}
+
+impl fmt::Display for Counts {
+    fn fmt(&self, f: &mut fmt::Formatter<'_>) -> fmt::Result {
+        writeln!(f, "{} sessions, {} messages, the longest with {}", self.sessions, self.messages, self.longest)?;
+        writeln!(
+            f,
+            "{} images read, {} written, the largest of {} bytes",
+            self.images_read, self.images_written, self.largest
+        )?;
+        self.wanted().iter().try_for_each(|(name, count)| writeln!(f, "{count:>9}  {name}"))
+    }
+}

@@ -1,0 +1,242 @@
+//! Whole runs: sessions and images from a seed, on two threads.
+
+use crate::guide::Guide;
+use crate::{image, settings, shrink, Answer, Call, Counts, Filter, Mismatch, Random, Runner, Settings};
+use std::fmt;
+use std::sync::atomic::{AtomicBool, Ordering};
+use std::thread;
+
+/// How much a worker has to do.
+#[derive(Clone, Copy)]
+pub struct Quota {
+    pub messages: u64,
+    pub images: u64,
+}
+
+/// A mismatch, and the shortest list found that shows it.
+pub struct Failure {
+    pub seed: u64,
+    pub worker: u64,
+    pub session: u64,
+    /// How many calls there were at first.
+    pub calls: usize,
+    pub list: Vec<Call>,
+    pub mismatch: Mismatch,
+    /// What this worker had seen until then.
+    pub seen: Counts,
+}
+
+/// As a file to be replayed: what is not a call has # first.
+impl fmt::Display for Failure {
+    fn fmt(&self, f: &mut fmt::Formatter<'_>) -> fmt::Result {
+        let Failure { seed, worker, session, calls, list, mismatch, .. } = self;
+        writeln!(f, "# the two sides differ in {}", mismatch.to_string().replace('\n', "\n# "))?;
+        writeln!(f, "# seed {seed}, worker {worker}, session {session}; of {calls} calls these {} are left", list.len())?;
+        writeln!(f, "# to replay them, name a file with these lines in SEMBLURICK_REPLAY")?;
+        list.iter().try_for_each(|call| writeln!(f, "{call}"))
+    }
+}
+
+/// A run of `workers` threads, each with this quota.
+pub fn drive<L: Filter, R: Filter>(seed: u64, workers: u64, quota: Quota) -> Result<Counts, Box<Failure>> {
+    let stop = AtomicBool::new(false);
+    let results: Vec<_> = thread::scope(|scope| {
+        let stop = &stop;
+        let threads: Vec<_> = (0..workers).map(|worker| scope.spawn(move || work::<L, R>(seed, worker, quota, stop))).collect();
+        threads.into_iter().map(|thread| thread.join().expect("a worker does not panic")).collect()
+    });
+    let mut counts = Counts::default();
+    for result in results {
+        counts.add(&result?);
+    }
+    Ok(counts)
+}
+
+/// One worker: sessions until the quota is done, and the longest image at last; or until a mismatch is found.
+pub fn work<L: Filter, R: Filter>(seed: u64, worker: u64, quota: Quota, stop: &AtomicBool) -> Result<Counts, Box<Failure>> {
+    let mut player = Player::<L, R> { runner: Runner::new(), calls: Vec::new(), images: Vec::new() };
+    for session in 0.. {
+        let mut random = Random::part(seed, worker, session);
+        let counts = &player.runner.counts;
+        let done = counts.messages >= quota.messages && counts.images_read >= quota.images;
+        let result = if done { player.longest(&mut random) } else { player.session(&mut random) };
+        if let Err(mismatch) = result {
+            stop.store(true, Ordering::Relaxed);
+            let Player { mut runner, calls, .. } = player;
+            let (length, seen) = (calls.len(), runner.counts.clone());
+            let (list, mismatch) = shrink::shrink(&mut runner, calls, mismatch);
+            return Err(Box::new(Failure { seed, worker, session, calls: length, list, mismatch, seen }));
+        }
+        if done || stop.load(Ordering::Relaxed) {
+            break;
+        }
+    }
+    Ok(player.runner.counts)
+}
+
+/// Plays sessions and keeps the calls of the present one.
+struct Player<L, R> {
+    runner: Runner<L, R>,
+    calls: Vec<Call>,
+    /// Images of sessions before, with their settings.
+    images: Vec<(Settings, Vec<u8>)>,
+}
+
+/// How many images are kept.
+const KEPT: usize = 32;
+
+impl<L: Filter, R: Filter> Player<L, R> {
+    fn call(&mut self, call: Call) -> Result<Option<Answer>, Mismatch> {
+        self.calls.push(call);
+        let at = self.calls.len() - 1;
+        self.runner.step(at, &self.calls[at])
+    }
+
+    /// A call that the guide is told of.
+    fn guided(&mut self, guide: &mut Guide, call: Call) -> Result<(), Mismatch> {
+        let answer = self.call(call)?.expect("there is a session");
+        guide.saw(self.calls.last().expect("the call made"), answer, self.runner.bytes());
+        Ok(())
+    }
+
+    fn session(&mut self, random: &mut Random) -> Result<(), Mismatch> {
+        self.calls.clear();
+        self.runner.reset();
+        self.runner.counts.sessions += 1;
+        let before = self.runner.counts.messages;
+
+        let mut settings = settings::good(random);
+        if random.one_in(30) {
+            self.call(Call::Fresh { settings: settings::bad(random) })?;
+        }
+        match random.below(20) {
+            0..5 => {
+                let image = image::made(random, &settings);
+                self.call(Call::Load { settings: settings.clone(), keep: true, image })?;
+            }
+            // the table is full, or nearly so
+            5 => {
+                let count = random.pick(&[1000, 1023, 1024]);
+                let image = image::full(random, &settings, count);
+                self.call(Call::Load { settings: settings.clone(), keep: true, image })?;
+            }
+            6..8 if !self.images.is_empty() => {
+                let (known, image) = self.images[random.index(self.images.len())].clone();
+                settings = known;
+                self.call(Call::Load { settings: settings.clone(), keep: true, image })?;
+            }
+            _ => {
+                self.call(Call::Fresh { settings: settings.clone() })?;
+            }
+        }
+
+        let mut guide = Guide::new(random, &settings);
+        for call in guide.marks(random) {
+            self.guided(&mut guide, call)?;
+        }
+        let length = random.pick(&[30, 100, 200, 400]);
+        for _ in 0..length {
+            let call = guide.call(random);
+            self.guided(&mut guide, call)?;
+            if guide.closed {
+                break;
+            }
+            if random.one_in(150) {
+                self.hand_over(random, &mut guide)?;
+            }
+        }
+        let image = self.end(random, &mut guide)?;
+        self.runner.counts.longest = self.runner.counts.longest.max(self.runner.counts.messages - before);
+
+        let settings = guide.settings;
+        let image = image.unwrap_or_else(|| image::made(random, &settings));
+        self.mutated(random, &settings, &image)?;
+        match self.images.len() {
+            KEPT => self.images[random.index(KEPT)] = (settings, image),
+            _ => self.images.push((settings, image)),
+        }
+        Ok(())
+    }
+
+    /// The session's image, once no reply is awaited; none of a closed one.
+    fn image(&mut self, guide: &mut Guide) -> Result<Option<Vec<u8>>, Mismatch> {
+        for call in guide.replies() {
+            self.guided(guide, call)?;
+        }
+        let answer = self.call(Call::Image { room: 0 })?;
+        Ok(matches!(answer, Some(Answer::Handled { .. })).then(|| self.runner.image().to_vec()))
+    }
+
+    /// The session goes on in the one that its image makes, with the same settings or others.
+    fn hand_over(&mut self, random: &mut Random, guide: &mut Guide) -> Result<(), Mismatch> {
+        let Some(image) = self.image(guide)? else { return Ok(()) };
+        let settings = match random.below(2) {
+            0 => settings::other(random, &guide.settings),
+            _ => guide.settings.clone(),
+        };
+        self.guided(guide, Call::Load { settings, keep: true, image })
+    }
+
+    /// A session's last calls, and its image if it was open until then.
+    fn end(&mut self, random: &mut Random, guide: &mut Guide) -> Result<Option<Vec<u8>>, Mismatch> {
+        if random.one_in(8) {
+            // with replies awaited too
+            self.call(Call::Image { room: 0 })?;
+        }
+        let image = self.image(guide)?;
+        if !guide.closed && random.percent(60) {
+            for vcpu in 0..guide.settings.vcpus.min(3) {
+                self.guided(guide, Call::Enter { vcpu, state: 536, fill: 0, out: 552 })?;
+            }
+            if random.one_in(4) {
+                let call = guide.quiet(random);
+                self.guided(guide, call)?;
+            }
+            let call = guide.farewell(random);
+            self.guided(guide, call)?;
+        }
+        // mostly it is closed now, whatever is asked of it
+        for _ in 0..random.below(4) {
+            let call = guide.call(random);
+            self.guided(guide, call)?;
+        }
+        self.call(Call::Image { room: 0 })?;
+        Ok(image)
+    }
+
+    /// Images made of this one.
+    fn mutated(&mut self, random: &mut Random, settings: &Settings, image: &[u8]) -> Result<(), Mismatch> {
+        for _ in 0..12 {
+            let image = image::mutated(random, image, settings);
+            let settings = match random.below(40) {
+                0 => settings::bad(random),
+                1..8 => settings::other(random, settings),
+                _ => settings.clone(),
+            };
+            self.call(Call::Load { settings, keep: false, image })?;
+        }
+        Ok(())
+    }
+
+    /// The longest image there is, and some like it.
+    fn longest(&mut self, random: &mut Random) -> Result<(), Mismatch> {
+        self.calls.clear();
+        self.runner.reset();
+        let settings = Settings {
+            vcpus: 16,
+            views: 8,
+            commands: !0,
+            events: !0,
+            tsc: 0,
+            features: [1; 5],
+            descriptors: true,
+            breakpoints: false,
+        };
+        let image = image::longest(random);
+        self.call(Call::Load { settings: settings.clone(), keep: true, image: image.clone() })?;
+        for room in [0, -1, 1] {
+            self.call(Call::Image { room })?;
+        }
+        self.mutated(random, &settings, &image)
+    }
+}

@@ -1,0 +1,188 @@
+//! The two filters, seen through one interface.
+
+use reference::{Answer, Settings, Signal};
+
+/// What can be asked of a filter. `fresh` and `load` begin a session or refuse it.
+pub trait Filter: Sized {
+    fn fresh(settings: &Settings) -> Result<Self, Answer>;
+    fn load(settings: &Settings, image: &[u8]) -> Result<Self, Answer>;
+    fn ready(&mut self, vcpu: u32) -> Answer;
+    /// The answer, and the error that the bytes written tell.
+    fn message(&mut self, message: &[u8], out: &mut [u8], guest: &mut [u8]) -> (Answer, Option<i32>);
+    fn enter(&mut self, vcpu: u32, state: &[u8], out: &mut [u8]) -> Answer;
+    fn image_size(&self) -> usize;
+    fn write_image(&self, out: &mut [u8]) -> Answer;
+    fn is_closed(&self) -> bool;
+
+    /// Whether a vCPU is ready, where the filter tells.
+    fn is_ready(&self, _vcpu: u32) -> Option<bool> {
+        None
+    }
+
+    /// The settings, where the filter tells them.
+    fn settings(&self) -> Option<Settings> {
+        None
+    }
+}
+
+/// The proved filter, in its wrapper.
+pub struct Proved(Box<semblurick::Session>);
+
+impl Filter for Proved {
+    fn fresh(settings: &Settings) -> Result<Proved, Answer> {
+        semblurick::Session::fresh(&wrapped(settings)).map(|session| Proved(Box::new(session))).map_err(refused)
+    }
+
+    fn load(settings: &Settings, image: &[u8]) -> Result<Proved, Answer> {
+        semblurick::Session::from_image(&wrapped(settings), image).map(|session| Proved(Box::new(session))).map_err(refused)
+    }
+
+    fn ready(&mut self, vcpu: u32) -> Answer {
+        self.0.ready(vcpu).map_or_else(refused, |()| handled(0))
+    }
+
+    fn message(&mut self, message: &[u8], out: &mut [u8], guest: &mut [u8]) -> (Answer, Option<i32>) {
+        match self.0.message(message, out, guest) {
+            Err(refusal) => (refused(refusal), None),
+            Ok(answer) => {
+                let error = answer.error().map(semblurick::Errno::number);
+                match answer {
+                    semblurick::Answer::Closing => (Answer::Closing, error),
+                    semblurick::Answer::Handled { bytes, signal } => {
+                        let signal = match signal {
+                            semblurick::Signal::None => Signal::None,
+                            semblurick::Signal::Kick { vcpu, wait } => Signal::Kick { vcpu, wait },
+                            semblurick::Signal::Crash { vcpu } => Signal::Crash { vcpu },
+                        };
+                        (Answer::Handled { count: bytes.len(), signal }, error)
+                    }
+                }
+            }
+        }
+    }
+
+    fn enter(&mut self, vcpu: u32, state: &[u8], out: &mut [u8]) -> Answer {
+        self.0.enter(vcpu, state, out).map_or_else(refused, |bytes| handled(bytes.len()))
+    }
+
+    fn image_size(&self) -> usize {
+        self.0.image_size()
+    }
+
+    fn write_image(&self, out: &mut [u8]) -> Answer {
+        self.0.write_image(out).map_or_else(refused, handled)
+    }
+
+    fn is_closed(&self) -> bool {
+        self.0.is_closed()
+    }
+
+    fn is_ready(&self, vcpu: u32) -> Option<bool> {
+        Some(self.0.is_ready(vcpu))
+    }
+
+    fn settings(&self) -> Option<Settings> {
+        let told = self.0.settings();
+        let f = told.features;
+        Some(Settings {
+            vcpus: told.vcpus,
+            views: told.views,
+            commands: told.commands.bits(),
+            events: told.events.bits(),
+            tsc: told.tsc_speed,
+            features: [f.singlestep, f.vmfunc, f.eptp, f.ve, f.spp],
+            descriptors: told.descriptors,
+            breakpoints: told.breakpoints,
+        })
+    }
+}
+
+fn handled(count: usize) -> Answer {
+    Answer::Handled { count, signal: Signal::None }
+}
+
+fn refused(refusal: semblurick::Refusal) -> Answer {
+    use semblurick::Refusal;
+    let answer = match refusal {
+        Refusal::Closed => Answer::Closed,
+        Refusal::ShortOut => Answer::ShortOut,
+        Refusal::BadVcpu => Answer::BadVcpu,
+        Refusal::BadState => Answer::BadState,
+        Refusal::Waiting => Answer::Waiting,
+        Refusal::BadSettings => Answer::BadSettings,
+        Refusal::BadForm { offset } => Answer::BadForm { offset },
+        Refusal::Forbidden { offset } => Answer::Forbidden { offset },
+        Refusal::Busy => Answer::Busy,
+    };
+    assert_eq!(refusal.number(), answer.number());
+    answer
+}
+
+fn wrapped(settings: &Settings) -> semblurick::Settings {
+    let [singlestep, vmfunc, eptp, ve, spp] = settings.features;
+    semblurick::Settings {
+        vcpus: settings.vcpus,
+        views: settings.views,
+        commands: semblurick::CommandSet::from_bits(settings.commands),
+        events: semblurick::EventSet::from_bits(settings.events),
+        tsc_speed: settings.tsc,
+        features: semblurick::Features { singlestep, vmfunc, eptp, ve, spp },
+        descriptors: settings.descriptors,
+        breakpoints: settings.breakpoints,
+    }
+}
+
+/// The plain implementation.
+#[derive(Clone)]
+pub struct Plain(pub reference::Session);
+
+impl Filter for Plain {
+    fn fresh(settings: &Settings) -> Result<Plain, Answer> {
+        reference::Session::fresh(settings.clone()).map(Plain)
+    }
+
+    fn load(settings: &Settings, image: &[u8]) -> Result<Plain, Answer> {
+        reference::Session::read_image(settings.clone(), image).map(Plain)
+    }
+
+    fn ready(&mut self, vcpu: u32) -> Answer {
+        self.0.ready(narrow(vcpu))
+    }
+
+    fn message(&mut self, message: &[u8], out: &mut [u8], guest: &mut [u8]) -> (Answer, Option<i32>) {
+        let answer = self.0.message(message, out, guest);
+        match answer {
+            Answer::Handled { count, .. } => (answer, told_error(&out[..count])),
+            _ => (answer, None),
+        }
+    }
+
+    fn enter(&mut self, vcpu: u32, state: &[u8], out: &mut [u8]) -> Answer {
+        self.0.enter(narrow(vcpu), state, out)
+    }
+
+    fn image_size(&self) -> usize {
+        self.0.image_size()
+    }
+
+    fn write_image(&self, out: &mut [u8]) -> Answer {
+        self.0.write_image(out)
+    }
+
+    fn is_closed(&self) -> bool {
+        self.0.is_closed()
+    }
+}
+
+/// A number that 16 bits can't hold is a vCPU that isn't there, like the highest of them.
+fn narrow(vcpu: u32) -> u16 {
+    vcpu.try_into().unwrap_or(u16::MAX)
+}
+
+/// The error that written bytes tell, if it is not 0: a CMD_ERROR's own, told by id 17 and 568 bytes together, or a reply's.
+pub fn told_error(bytes: &[u8]) -> Option<i32> {
+    let at = if bytes.len() == 568 && bytes[..2] == [17, 0] { 552 } else { 8 };
+    let code = bytes.get(at..at + 4)?;
+    let code = i32::from_le_bytes(code.try_into().expect("four bytes"));
+    (code != 0).then_some(code)
+}

@@ -1,0 +1,29 @@
+//! Differential tests: the proved filter and the plain implementation of document 01 take the same calls, and everything that
+//! can be seen of them is compared.
+//!
+//! * [`Call`] is one call, with a text form that can be replayed;
+//! * [`Runner`] makes calls on both sides and compares answers, outputs, guest memory and images;
+//! * [`settings`], [`guide`] and [`image`] make settings, calls and images, good and damaged;
+//! * [`shrink`] makes a failing list of calls short;
+//! * [`drive`] does all this for a seed, and [`Counts`] says what was seen.
+
+#![forbid(unsafe_code)]
+
+mod call;
+mod counts;
+pub mod drive;
+mod filter;
+pub mod guide;
+pub mod image;
+mod message;
+mod random;
+mod run;
+pub mod settings;
+pub mod shrink;
+
+pub use call::{parse, Call, GUEST_ROOM, OUT_ROOM, STATE_ROOM};
+pub use counts::{Counts, CODES};
+pub use filter::{told_error, Filter, Plain, Proved};
+pub use random::Random;
+pub use reference::{Answer, Settings, Signal};
+pub use run::{run, Mismatch, Runner};

@@ -1,0 +1,308 @@
+//! Calls on both sides, and the comparing.
+
+use crate::{Call, Counts, Filter, Random, GUEST_ROOM, OUT_ROOM, STATE_ROOM};
+use reference::{Answer, Settings, Signal};
+use std::fmt;
+use std::panic::{catch_unwind, AssertUnwindSafe};
+
+/// Bytes that no call is lent, after each output and guest memory: they are compared too.
+const GUARD: usize = 64;
+
+/// What stands in an image's output before it is written.
+const BLANK: u8 = 0xC3;
+
+/// The first difference of a list of calls.
+#[derive(Clone, Debug)]
+pub struct Mismatch {
+    /// Which call of the list it was.
+    pub at: usize,
+    /// The call's word and what was unlike; for a message, its number too.
+    pub word: &'static str,
+    pub part: &'static str,
+    pub id: u16,
+    pub left: String,
+    pub right: String,
+}
+
+impl Mismatch {
+    /// Whether two are of the same kind. Of images it does not matter what is unlike.
+    pub fn is_like(&self, other: &Mismatch) -> bool {
+        (self.word, self.id) == (other.word, other.id) && (self.part == other.part || self.word == "image")
+    }
+}
+
+impl fmt::Display for Mismatch {
+    fn fmt(&self, f: &mut fmt::Formatter<'_>) -> fmt::Result {
+        let Mismatch { at, word, part, left, right, .. } = self;
+        write!(f, "call {} ({word}): {part}\nleft:  {left}\nright: {right}", at + 1)
+    }
+}
+
+/// What a side lends to its filter.
+struct Lent {
+    out: Vec<u8>,
+    guest: Vec<u8>,
+    image: Vec<u8>,
+}
+
+struct Pair<L, R> {
+    left: L,
+    right: R,
+    settings: Settings,
+}
+
+/// Makes calls on a left and a right filter, each with memory of its own.
+pub struct Runner<L, R> {
+    session: Option<Pair<L, R>>,
+    left: Lent,
+    right: Lent,
+    /// What stands in the outputs and guest memories at first, and what register blocks are taken from: no byte is zero.
+    pattern: Vec<u8>,
+    guest: Vec<u8>,
+    states: Vec<u8>,
+    /// How many bytes of the outputs the last call wrote, and how many of the images.
+    written: usize,
+    image: usize,
+    pub counts: Counts,
+}
+
+/// Both results, or which side panicked.
+fn both<A, B>(left: impl FnOnce() -> A, right: impl FnOnce() -> B) -> Result<(A, B), Unlike> {
+    let told = |panic: Box<dyn std::any::Any + Send>| {
+        let text = panic.downcast_ref::<String>().cloned();
+        let text = text.or(panic.downcast_ref::<&str>().map(|text| (*text).to_owned()));
+        format!("panicked: {}", text.unwrap_or_default())
+    };
+    let answered = || "did not panic".to_owned();
+    match (catch_unwind(AssertUnwindSafe(left)), catch_unwind(AssertUnwindSafe(right))) {
+        (Ok(left), Ok(right)) => Ok((left, right)),
+        (Err(left), Ok(_)) => Err(Unlike { part: "panic", left: told(left), right: answered() }),
+        (Ok(_), Err(right)) => Err(Unlike { part: "panic", left: answered(), right: told(right) }),
+        (Err(left), Err(right)) => Err(Unlike { part: "panic", left: told(left), right: told(right) }),
+    }
+}
+
+/// A mismatch whose place is not known yet.
+struct Unlike {
+    part: &'static str,
+    left: String,
+    right: String,
+}
+
+fn same<T: PartialEq + fmt::Debug>(part: &'static str, left: &T, right: &T) -> Result<(), Unlike> {
+    if left == right {
+        Ok(())
+    } else {
+        Err(Unlike { part, left: format!("{left:?}"), right: format!("{right:?}") })
+    }
+}
+
+fn same_bytes(part: &'static str, left: &[u8], right: &[u8]) -> Result<(), Unlike> {
+    if left == right {
+        return Ok(());
+    }
+    let at = left.iter().zip(right).position(|(left, right)| left != right).unwrap_or(left.len().min(right.len()));
+    let told = |bytes: &[u8]| {
+        let end = bytes.len().min(at + 16);
+        format!("{} bytes, from byte {at}: {:02x?}", bytes.len(), &bytes[at.min(end)..end])
+    };
+    Err(Unlike { part, left: told(left), right: told(right) })
+}
+
+impl<L: Filter, R: Filter> Default for Runner<L, R> {
+    fn default() -> Self {
+        Runner::new()
+    }
+}
+
+impl<L: Filter, R: Filter> Runner<L, R> {
+    pub fn new() -> Runner<L, R> {
+        let bytes = |seed, length| -> Vec<u8> { Random::new(seed).bytes(length).into_iter().map(|byte| byte.max(1)).collect() };
+        let (pattern, guest, states) = (bytes(0, OUT_ROOM + GUARD), bytes(1, GUEST_ROOM + GUARD), bytes(2, STATE_ROOM + 256));
+        let lent = || Lent { out: pattern.clone(), guest: guest.clone(), image: Vec::new() };
+        let (left, right) = (lent(), lent());
+        Runner { session: None, left, right, pattern, guest, states, written: 0, image: 0, counts: Counts::default() }
+    }
+
+    /// No session, and lent memory as at first.
+    pub fn reset(&mut self) {
+        self.session = None;
+        (self.written, self.image) = (0, 0);
+        for lent in [&mut self.left, &mut self.right] {
+            lent.out.copy_from_slice(&self.pattern);
+            lent.guest.copy_from_slice(&self.guest);
+        }
+    }
+
+    /// The bytes that the last call wrote, images excepted.
+    pub fn bytes(&self) -> &[u8] {
+        &self.left.out[..self.written]
+    }
+
+    /// The image that the last call wrote.
+    pub fn image(&self) -> &[u8] {
+        &self.left.image[..self.image]
+    }
+
+    /// Makes one call, the `at`th. No answer where there is no session.
+    pub fn step(&mut self, at: usize, call: &Call) -> Result<Option<Answer>, Mismatch> {
+        // the outputs as at first
+        for lent in [&mut self.left, &mut self.right] {
+            lent.out[..self.written].copy_from_slice(&self.pattern[..self.written]);
+        }
+        (self.written, self.image) = (0, 0);
+        self.make(call).map_err(|Unlike { part, left, right }| {
+            let id = match call {
+                Call::Message { bytes, .. } => bytes.first_chunk().map_or(0, |id| u16::from_le_bytes(*id)),
+                _ => 0,
+            };
+            Mismatch { at, word: call.word(), part, id, left, right }
+        })
+    }
+
+    fn make(&mut self, call: &Call) -> Result<Option<Answer>, Unlike> {
+        let answer = match call {
+            Call::Fresh { settings } => self.fresh(settings)?,
+            Call::Load { settings, keep, image } => self.load(settings, *keep, image)?,
+            _ => {
+                let Some(mut pair) = self.session.take() else { return Ok(None) };
+                let answer = self.on(&mut pair, call)?;
+                same("is_closed", &pair.left.is_closed(), &pair.right.is_closed())?;
+                self.session = Some(pair);
+                answer
+            }
+        };
+        let bytes = if self.image > 0 { &self.left.image[..self.image] } else { &self.left.out[..self.written] };
+        self.counts.saw(call, answer, bytes);
+        Ok(Some(answer))
+    }
+
+    fn fresh(&mut self, settings: &Settings) -> Result<Answer, Unlike> {
+        let (left, right) = both(|| L::fresh(settings), || R::fresh(settings))?;
+        self.begun(settings, left, right)
+    }
+
+    fn load(&mut self, settings: &Settings, keep: bool, image: &[u8]) -> Result<Answer, Unlike> {
+        let (left, right) = both(|| L::load(settings, image), || R::load(settings, image))?;
+        let before = self.session.take();
+        let answer = self.begun(settings, left, right)?;
+        if let Some(mut pair) = self.session.take() {
+            // an image that is taken is the one that is written
+            let written = self.write_image(&mut pair, 0)?;
+            same("answer to writing the image read", &written, &Answer::Handled { count: image.len(), signal: Signal::None })?;
+            same_bytes("image written after reading", self.image(), image)?;
+            self.session = Some(pair).filter(|_| keep);
+        }
+        self.image = 0;
+        self.session = self.session.take().or(before);
+        Ok(answer)
+    }
+
+    /// Both sides have begun a session, or both have refused for the same reason.
+    fn begun(&mut self, settings: &Settings, left: Result<L, Answer>, right: Result<R, Answer>) -> Result<Answer, Unlike> {
+        match (left, right) {
+            (Ok(left), Ok(right)) => {
+                same("is_closed", &left.is_closed(), &right.is_closed())?;
+                self.session = Some(Pair { left, right, settings: settings.clone() });
+                Ok(Answer::Handled { count: 0, signal: Signal::None })
+            }
+            (left, right) => {
+                let (left, right) = (left.map(|_| "a session"), right.map(|_| "a session"));
+                same("answer", &left, &right)?;
+                Ok(left.expect_err("one of them was refused"))
+            }
+        }
+    }
+
+    fn on(&mut self, pair: &mut Pair<L, R>, call: &Call) -> Result<Answer, Unlike> {
+        match call {
+            Call::Ready { vcpu } => {
+                let (left, right) = both(|| pair.left.ready(*vcpu), || pair.right.ready(*vcpu))?;
+                same("answer", &left, &right)?;
+                Ok(left)
+            }
+            Call::Message { out, guest, bytes } => {
+                let (ours, theirs) = (&mut self.left, &mut self.right);
+                let (left, right) = both(
+                    || pair.left.message(bytes, &mut ours.out[..*out], &mut ours.guest[..*guest]),
+                    || pair.right.message(bytes, &mut theirs.out[..*out], &mut theirs.guest[..*guest]),
+                )?;
+                same("answer and error", &left, &right)?;
+                self.same_output(left.0)?;
+                same_bytes("guest memory", &self.left.guest, &self.right.guest)?;
+                Ok(left.0)
+            }
+            Call::Enter { vcpu, state, fill, out } => {
+                let state = &self.states[usize::from(*fill)..][..*state];
+                let (ours, theirs) = (&mut self.left.out[..*out], &mut self.right.out[..*out]);
+                let (left, right) = both(|| pair.left.enter(*vcpu, state, ours), || pair.right.enter(*vcpu, state, theirs))?;
+                same("answer", &left, &right)?;
+                self.same_output(left)?;
+                Ok(left)
+            }
+            Call::Image { room } => self.write_image(pair, *room),
+            Call::Fresh { .. } | Call::Load { .. } => unreachable!("these begin sessions"),
+        }
+    }
+
+    /// Compares the outputs in full; past the count they have to be as they were.
+    fn same_output(&mut self, answer: Answer) -> Result<(), Unlike> {
+        if let Answer::Handled { count, .. } = answer {
+            self.written = count;
+        }
+        same_bytes("output", &self.left.out, &self.right.out)?;
+        same_bytes("output past the count", &self.left.out[self.written..], &self.pattern[self.written..])
+    }
+
+    /// Writes the images with so many bytes more lent than they need.
+    fn write_image(&mut self, pair: &mut Pair<L, R>, room: i64) -> Result<Answer, Unlike> {
+        let (size, other) = both(|| pair.left.image_size(), || pair.right.image_size())?;
+        same("image_size", &size, &other)?;
+        // no image is longer than this by far
+        let out = (size as i64).saturating_add(room).clamp(0, 1 << 23) as usize;
+        for lent in [&mut self.left, &mut self.right] {
+            lent.image.clear();
+            lent.image.resize(out + GUARD, BLANK);
+        }
+        let (ours, theirs) = (&mut self.left.image[..out], &mut self.right.image[..out]);
+        let (left, right) = both(|| pair.left.write_image(ours), || pair.right.write_image(theirs))?;
+        same("answer", &left, &right)?;
+        if let Answer::Handled { count, .. } = left {
+            same("count of an image's bytes", &count, &size)?;
+            self.image = count;
+        }
+        same_bytes("image", &self.left.image, &self.right.image)?;
+        let rest = &self.left.image[self.image..];
+        same_bytes("image's output past the count", rest, &vec![BLANK; rest.len()])?;
+        self.same_told(pair)?;
+        Ok(left)
+    }
+
+    /// What only one side may tell: settings as they were given, and ready marks as the image has them.
+    fn same_told(&self, pair: &Pair<L, R>) -> Result<(), Unlike> {
+        for told in [pair.left.settings(), pair.right.settings()].iter().flatten() {
+            same("settings told and given", told, &pair.settings)?;
+        }
+        let image = self.image();
+        if image.is_empty() && !pair.left.is_closed() {
+            return Ok(());
+        }
+        let is_ready = |vcpu: u32| {
+            let record = image.get(8 + 10 * vcpu as usize..).filter(|record| record.starts_with(b"VC"));
+            record.is_some_and(|record| record[4] & 1 == 1)
+        };
+        for vcpu in (0..17).chain([32, 63, 64, 65, u32::MAX]) {
+            let known = vcpu < pair.settings.vcpus && is_ready(vcpu);
+            for told in [pair.left.is_ready(vcpu), pair.right.is_ready(vcpu)].into_iter().flatten() {
+                same("ready mark told and in the image", &told, &known)?;
+            }
+        }
+        Ok(())
+    }
+}
+
+/// Makes a list of calls from the beginning.
+pub fn run<L: Filter, R: Filter>(runner: &mut Runner<L, R>, calls: &[Call]) -> Result<(), Mismatch> {
+    runner.reset();
+    calls.iter().enumerate().try_for_each(|(at, call)| runner.step(at, call).map(|_| ()))
+}

@@ -1,0 +1,277 @@
+//! Makes a failing list of calls short.
+
+use crate::{image, Call, Filter, Mismatch, Runner};
+use std::ops::Range;
+use std::time::{Duration, Instant};
+
+/// How long to go on.
+const PATIENCE: Duration = Duration::from_secs(30);
+
+/// Lists up to this length are tried without any two of their calls.
+const PAIRS: usize = 40;
+
+/// The shortest list found that fails in the same way as these calls do.
+pub fn shrink<L: Filter, R: Filter>(runner: &mut Runner<L, R>, calls: Vec<Call>, first: Mismatch) -> (Vec<Call>, Mismatch) {
+    let events = vec![0; calls.len()];
+    let mut search = Search { runner, calls, events, mismatch: first, until: Instant::now() + PATIENCE };
+    // a list that fails only now and then is given as it is
+    if !search.offer(search.calls.clone()) {
+        return (search.calls, search.mismatch);
+    }
+    loop {
+        let before = search.calls.clone();
+        search.drop_calls();
+        search.drop_pairs();
+        for at in 0..search.calls.len() {
+            // the list may get shorter on the way
+            if at < search.calls.len() {
+                search.simplify(at);
+            }
+        }
+        if search.calls == before || search.late() {
+            return (search.calls, search.mismatch);
+        }
+    }
+}
+
+struct Search<'a, L, R> {
+    runner: &'a mut Runner<L, R>,
+    /// The best list so far, how many events each call wrote, and how it fails.
+    calls: Vec<Call>,
+    events: Vec<u32>,
+    mismatch: Mismatch,
+    until: Instant,
+}
+
+impl<L: Filter, R: Filter> Search<'_, L, R> {
+    fn late(&self) -> bool {
+        Instant::now() > self.until
+    }
+
+    /// Takes a list if it fails as the best one does.
+    fn offer(&mut self, mut calls: Vec<Call>) -> bool {
+        if self.late() {
+            return false;
+        }
+        self.runner.reset();
+        let mut events = Vec::with_capacity(calls.len());
+        for (at, call) in calls.iter().enumerate() {
+            match self.runner.step(at, call) {
+                Ok(_) => events.push(u32::from(is_event(self.runner.bytes()))),
+                Err(mismatch) if !mismatch.is_like(&self.mismatch) => return false,
+                Err(mismatch) => {
+                    events.push(0);
+                    calls.truncate(at + 1);
+                    (self.calls, self.events, self.mismatch) = (calls, events, mismatch);
+                    return true;
+                }
+            }
+        }
+        false
+    }
+
+    /// Tries the list without these calls; then too with the seqs of the event replies behind them moved.
+    fn without(&mut self, dropped: &[Range<usize>]) -> bool {
+        let kept = |at: usize| !dropped.iter().any(|range| range.contains(&at));
+        let shorter = |calls: &[Call]| -> Vec<Call> {
+            calls.iter().enumerate().filter(|(at, _)| kept(*at)).map(|(_, call)| call.clone()).collect()
+        };
+        if self.offer(shorter(&self.calls)) {
+            return true;
+        }
+        let mut calls = self.calls.clone();
+        let mut fewer = 0;
+        for (at, call) in calls.iter_mut().enumerate() {
+            match call {
+                Call::Fresh { .. } | Call::Load { keep: true, .. } if kept(at) => fewer = 0,
+                Call::Message { bytes, .. } if bytes.starts_with(&[16, 0]) && bytes.len() >= 8 => {
+                    let seq = u32::from_le_bytes([bytes[4], bytes[5], bytes[6], bytes[7]]);
+                    bytes[4..8].copy_from_slice(&seq.wrapping_sub(fewer).to_le_bytes());
+                }
+                _ => {}
+            }
+            fewer += if kept(at) { 0 } else { self.events[at] };
+        }
+        calls != self.calls && self.offer(shorter(&calls))
+    }
+
+    /// Drops calls: halves, then quarters, and at last one by one.
+    fn drop_calls(&mut self) {
+        let mut size = self.calls.len().div_ceil(2);
+        while size > 0 {
+            let mut at = 0;
+            while at < self.calls.len() {
+                if !self.without(std::slice::from_ref(&(at..at + size))) {
+                    at += size;
+                }
+            }
+            size /= 2;
+        }
+    }
+
+    /// Drops two calls at once: an event and its reply, or a switch and its way back.
+    fn drop_pairs(&mut self) {
+        let mut first = 0;
+        while first < self.calls.len() && self.calls.len() <= PAIRS {
+            let mut rest = first + 1..self.calls.len();
+            if !rest.any(|second| self.without(&[first..first + 1, second..second + 1])) {
+                first += 1;
+            }
+        }
+    }
+
+    /// Puts another call in the place of one.
+    fn replace(&mut self, at: usize, call: Call) -> bool {
+        if self.calls.get(at).is_none_or(|old| *old == call) {
+            return false;
+        }
+        let mut calls = self.calls.clone();
+        calls[at] = call;
+        self.offer(calls)
+    }
+
+    fn simplify(&mut self, at: usize) {
+        match &self.calls[at] {
+            Call::Message { bytes, .. } if bytes.starts_with(&[13, 0]) && bytes.len() >= 16 => self.drop_entries(at),
+            Call::Load { .. } => {
+                self.drop_vcpus(at);
+                self.drop_records(at);
+            }
+            _ => {}
+        }
+        let ways: &[fn(&mut Call)] = match self.calls.get(at) {
+            Some(Call::Fresh { .. } | Call::Load { .. }) => BEGINNINGS,
+            Some(Call::Message { .. }) => MESSAGES,
+            Some(Call::Enter { .. } | Call::Image { .. }) => OTHERS,
+            Some(Call::Ready { .. }) | None => &[],
+        };
+        for way in ways {
+            if let Some(mut call) = self.calls.get(at).cloned() {
+                way(&mut call);
+                self.replace(at, call);
+            }
+        }
+    }
+
+    /// Drops entries of a message 13; their count stays right where it was.
+    fn drop_entries(&mut self, at: usize) {
+        let Call::Message { bytes, out, guest } = self.calls[at].clone() else { return };
+        let (head, entries) = bytes.split_at(16);
+        let entries: Vec<&[u8]> = entries.chunks(16).collect();
+        let counted = head[8..10] == (entries.len() as u16).to_le_bytes();
+        self.fewer(at, entries, |entries| {
+            let mut bytes = [head, &entries.concat()].concat();
+            let size = bytes.len() as u16 - 8;
+            bytes[2..4].copy_from_slice(&size.to_le_bytes());
+            if counted {
+                bytes[8..10].copy_from_slice(&(entries.len() as u16).to_le_bytes());
+            }
+            Call::Message { bytes, out, guest }
+        });
+    }
+
+    /// Drops vCPUs, from the settings and from the image.
+    fn drop_vcpus(&mut self, at: usize) {
+        let Call::Load { settings, keep, image } = self.calls[at].clone() else { return };
+        for vcpus in 1..settings.vcpus {
+            let settings = reference::Settings { vcpus, ..settings.clone() };
+            let image = image::with_vcpus(&image, vcpus as u16);
+            if self.replace(at, Call::Load { settings, keep, image }) {
+                return;
+            }
+        }
+    }
+
+    /// Drops records of an image; EN's count stays right where it was.
+    fn drop_records(&mut self, at: usize) {
+        let Call::Load { settings, keep, image } = self.calls[at].clone() else { return };
+        let counted = image::is_counted(&image);
+        // the last record goes with what follows it, known or not
+        let mut bounds = image::starts(&image);
+        bounds.push(image.len());
+        let records: Vec<&[u8]> = bounds.windows(2).map(|bound| &image[bound[0]..bound[1]]).collect();
+        self.fewer(at, records, |records| {
+            let mut image = records.concat();
+            if counted {
+                image::count_again(&mut image);
+            }
+            Call::Load { settings: settings.clone(), keep, image }
+        });
+    }
+
+    /// Drops parts of a call, as [`Search::drop_calls`] does with calls.
+    fn fewer<T: Clone>(&mut self, at: usize, mut parts: Vec<T>, call: impl Fn(&[T]) -> Call) {
+        let mut size = parts.len().div_ceil(2);
+        while size > 0 && !self.late() {
+            let mut from = 0;
+            while from < parts.len() {
+                let mut fewer = parts.clone();
+                fewer.drain(from..(from + size).min(fewer.len()));
+                if self.replace(at, call(&fewer)) {
+                    parts = fewer;
+                } else {
+                    from += size;
+                }
+            }
+            size /= 2;
+        }
+    }
+}
+
+/// Whether these bytes are an event: a pause event or a CMD_ERROR.
+fn is_event(bytes: &[u8]) -> bool {
+    matches!(bytes.len(), 552 | 568) && bytes.starts_with(&[17, 0])
+}
+
+/// Ways to make calls plainer.
+const BEGINNINGS: &[fn(&mut Call)] = &[
+    |call| {
+        if let Call::Load { settings, keep: true, .. } = call {
+            *call = Call::Fresh { settings: settings.clone() };
+        }
+    },
+    |call| with_settings(call, |settings| settings.commands = !0),
+    |call| with_settings(call, |settings| settings.events = !0),
+    |call| with_settings(call, |settings| settings.tsc = 0),
+    |call| with_settings(call, |settings| settings.features = [1; 5]),
+    |call| with_settings(call, |settings| settings.descriptors = true),
+    |call| with_settings(call, |settings| settings.breakpoints = false),
+    |call| with_settings(call, |settings| settings.views = 1),
+    |call| with_settings(call, |settings| settings.vcpus = 2),
+    |call| with_settings(call, |settings| settings.vcpus = 1),
+];
+
+const MESSAGES: &[fn(&mut Call)] = &[
+    |call| {
+        if let Call::Message { out, .. } = call {
+            *out = 4112;
+        }
+    },
+    |call| {
+        if let Call::Message { guest, .. } = call {
+            *guest = 4096;
+        }
+    },
+    |call| {
+        if let Call::Message { guest, .. } = call {
+            *guest = 0;
+        }
+    },
+    |call| {
+        if let Call::Message { bytes, .. } = call {
+            bytes.iter_mut().skip(4).take(4).for_each(|byte| *byte = 0);
+        }
+    },
+];
+
+const OTHERS: &[fn(&mut Call)] = &[|call| match call {
+    Call::Enter { state, fill, out, .. } => (*state, *fill, *out) = (536, 0, 552),
+    Call::Image { room } => *room = 0,
+    _ => {}
+}];
+
+fn with_settings(call: &mut Call, change: impl Fn(&mut reference::Settings)) {
+    if let Call::Fresh { settings } | Call::Load { settings, .. } = call {
+        change(settings);
+    }
+}

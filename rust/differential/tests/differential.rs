@@ -1,0 +1,59 @@
+//! The proved filter against the plain implementation of document 01.
+//!
+//! SEMBLURICK_SEED fixes a run; SEMBLURICK_REPLAY names a file of calls to be made again.
+
+use differential::drive::{drive, Quota};
+use differential::{parse, run, Plain, Proved, Runner};
+use std::io::Write;
+use std::time::{Instant, SystemTime, UNIX_EPOCH};
+
+/// Least numbers for a run; a million messages and 100,000 images are asked for.
+const MESSAGES: u64 = 3_000_000;
+const IMAGES: u64 = 300_000;
+const WORKERS: u64 = 2;
+const _: () = assert!(MESSAGES >= 1_000_000 && IMAGES >= 100_000);
+
+/// Prints even where a test's own output is kept back.
+fn say(text: &str) {
+    let mut line = text.trim_end().to_owned();
+    line.push('\n');
+    std::io::stderr().write_all(line.as_bytes()).expect("a line can be printed");
+}
+
+fn seed() -> u64 {
+    match std::env::var("SEMBLURICK_SEED") {
+        Ok(text) => text.trim().parse().expect("SEMBLURICK_SEED is a number"),
+        Err(_) => SystemTime::now().duration_since(UNIX_EPOCH).expect("a clock").as_nanos() as u64,
+    }
+}
+
+#[test]
+fn both_sides_agree() {
+    let seed = seed();
+    say(&format!("differential: seed {seed} (SEMBLURICK_SEED={seed})"));
+    let begun = Instant::now();
+    let quota = Quota { messages: MESSAGES.div_ceil(WORKERS), images: IMAGES.div_ceil(WORKERS) };
+    let counts = drive::<Proved, Plain>(seed, WORKERS, quota)
+        .unwrap_or_else(|failure| panic!("\n# left is the proved filter, right the plain one\n{failure}"));
+    let time = begun.elapsed().as_secs_f64();
+    println!("{counts}");
+    say(&format!(
+        "differential: {} messages, {} images read and {} written in {} sessions, alike on both sides; {time:.1} s",
+        counts.messages, counts.images_read, counts.images_written, counts.sessions
+    ));
+    assert!(counts.messages >= MESSAGES && counts.images_read >= IMAGES);
+    assert_eq!(counts.missing(), Vec::<String>::new(), "not seen with seed {seed}");
+}
+
+/// Makes the calls of a file again, if one is named.
+#[test]
+fn replay() {
+    let Some(file) = std::env::var_os("SEMBLURICK_REPLAY") else { return };
+    let text = std::fs::read_to_string(&file).expect("the file named in SEMBLURICK_REPLAY can be read");
+    let calls = parse(&text).unwrap_or_else(|why| panic!("{}: {why}", file.display()));
+    let mut runner = Runner::<Proved, Plain>::new();
+    if let Err(mismatch) = run(&mut runner, &calls) {
+        panic!("the two sides differ in {mismatch}\n{}", calls[mismatch.at]);
+    }
+    say(&format!("differential: {} calls replayed, alike on both sides", calls.len()));
+}

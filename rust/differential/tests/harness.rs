@@ -1,0 +1,539 @@
+//! The harness itself: it finds a fault, shows it in a short list of calls, and finds none where there is none.
+
+use differential::drive::{work, Failure, Quota};
+use differential::{
+    parse, run, Answer, Call, Counts, Filter, Plain, Runner, Settings, Signal, GUEST_ROOM, OUT_ROOM, STATE_ROOM,
+};
+use std::cell::Cell;
+use std::collections::BTreeMap;
+use std::sync::atomic::AtomicBool;
+
+/// A way to be wrong: each function does what the right filter does, unless a fault says otherwise.
+trait Fault {
+    fn load(&self, settings: &Settings, image: &[u8]) -> Result<Plain, Answer> {
+        Plain::load(settings, image)
+    }
+
+    fn message(&mut self, right: &mut Plain, message: &[u8], out: &mut [u8], guest: &mut [u8]) -> (Answer, Option<i32>) {
+        right.message(message, out, guest)
+    }
+
+    fn enter(&mut self, right: &mut Plain, vcpu: u32, state: &[u8], out: &mut [u8]) -> Answer {
+        right.enter(vcpu, state, out)
+    }
+
+    fn image_size(&self, right: &Plain) -> usize {
+        right.image_size()
+    }
+
+    fn write_image(&self, right: &Plain, out: &mut [u8]) -> Answer {
+        right.write_image(out)
+    }
+}
+
+type MakeFault = fn() -> Box<dyn Fault>;
+
+thread_local! {
+    /// The fault of the sessions that this thread begins.
+    static FAULT: Cell<Option<MakeFault>> = const { Cell::new(None) };
+}
+
+struct Wrong {
+    right: Plain,
+    fault: Box<dyn Fault>,
+}
+
+fn fault() -> Box<dyn Fault> {
+    FAULT.get().expect("a fault was chosen")()
+}
+
+impl Filter for Wrong {
+    fn fresh(settings: &Settings) -> Result<Wrong, Answer> {
+        Ok(Wrong { right: Plain::fresh(settings)?, fault: fault() })
+    }
+
+    fn load(settings: &Settings, image: &[u8]) -> Result<Wrong, Answer> {
+        let fault = fault();
+        Ok(Wrong { right: fault.load(settings, image)?, fault })
+    }
+
+    fn ready(&mut self, vcpu: u32) -> Answer {
+        self.right.ready(vcpu)
+    }
+
+    fn message(&mut self, message: &[u8], out: &mut [u8], guest: &mut [u8]) -> (Answer, Option<i32>) {
+        self.fault.message(&mut self.right, message, out, guest)
+    }
+
+    fn enter(&mut self, vcpu: u32, state: &[u8], out: &mut [u8]) -> Answer {
+        self.fault.enter(&mut self.right, vcpu, state, out)
+    }
+
+    fn image_size(&self) -> usize {
+        self.fault.image_size(&self.right)
+    }
+
+    fn write_image(&self, out: &mut [u8]) -> Answer {
+        self.fault.write_image(&self.right, out)
+    }
+
+    fn is_closed(&self) -> bool {
+        self.right.is_closed()
+    }
+}
+
+const QUOTA: Quota = Quota { messages: 100_000, images: 10_000 };
+
+/// The fault is found soon, and the list that shows it has few calls, which show it again when read from their text.
+fn found(most: usize, fault: MakeFault) -> Box<Failure> {
+    FAULT.set(Some(fault));
+    let failure = work::<Wrong, Plain>(1, 0, QUOTA, &AtomicBool::new(false)).err().expect("the fault is found");
+    println!("after {} messages and {} images:\n{failure}", failure.seen.messages, failure.seen.images_read);
+    assert!(failure.list.len() <= most, "{} calls, and not at most {most}", failure.list.len());
+
+    let calls = parse(&failure.to_string()).expect("what is printed can be replayed");
+    assert_eq!(calls, failure.list);
+    let again = run(&mut Runner::<Wrong, Plain>::new(), &calls).expect_err("it fails again");
+    assert!(again.is_like(&failure.mismatch) && again.at == calls.len() - 1);
+    run(&mut Runner::<Plain, Plain>::new(), &calls).expect("the right filter agrees with itself");
+    failure
+}
+
+fn number(bytes: &[u8], at: usize) -> u64 {
+    u64::from_le_bytes(bytes[at..at + 8].try_into().unwrap())
+}
+
+#[test]
+fn agrees_with_itself() {
+    let result = work::<Plain, Plain>(1, 0, QUOTA, &AtomicBool::new(false));
+    let counts = result.unwrap_or_else(|failure| panic!("{failure}"));
+    assert!(counts.messages >= QUOTA.messages && counts.images_read >= QUOTA.images);
+}
+
+/// What was not seen is told: at first, all that a run has to see.
+#[test]
+fn tells_what_is_missing() {
+    let counts = Counts::default();
+    assert!(counts.missing().len() == counts.wanted().len() && counts.missing().len() > 100);
+    let result = work::<Plain, Plain>(1, 0, Quota { messages: 1000, images: 100 }, &AtomicBool::new(false));
+    let counts = result.unwrap_or_else(|failure| panic!("{failure}"));
+    assert!((1..counts.wanted().len()).contains(&counts.missing().len()), "{counts}");
+}
+
+/// Calls are read back from their text, and other lines are refused.
+#[test]
+fn texts_are_read_back() {
+    let settings = Settings {
+        vcpus: u32::MAX,
+        views: 0,
+        commands: 0x8000_0001,
+        events: 0,
+        tsc: u64::MAX,
+        features: [0, 1, 2, 0x80, 0xFF],
+        descriptors: false,
+        breakpoints: true,
+    };
+    let calls = [
+        Call::Fresh { settings: settings.clone() },
+        Call::Load { settings, keep: true, image: vec![0, 0xFF, 0x10] },
+        Call::Ready { vcpu: u32::MAX },
+        Call::Message { out: 0, guest: 1, bytes: Vec::new() },
+        Call::Message { out: OUT_ROOM, guest: GUEST_ROOM, bytes: (0..=255).collect() },
+        Call::Enter { vcpu: 0, state: STATE_ROOM, fill: 255, out: 552 },
+        Call::Image { room: -1_000_000 },
+    ];
+    let lines: Vec<String> = calls.iter().map(Call::to_string).collect();
+    assert_eq!(parse(&format!("# calls\n\n{}\n", lines.join("\n"))).unwrap(), calls);
+    for line in ["wake vcpu=0", "ready", "ready vcpu=-1", "ready vcpu=1 out=2", "image room", "message out=4201 guest=0 bytes="]
+    {
+        parse(line).expect_err(line);
+    }
+    parse("message out=16 guest=0 bytes=0").expect_err("half a byte");
+}
+
+/// "Keeping a record at rwx."
+#[derive(Default)]
+struct KeepsRwx(BTreeMap<(u16, u64), Vec<u8>>);
+
+impl Fault for KeepsRwx {
+    fn message(&mut self, right: &mut Plain, message: &[u8], out: &mut [u8], guest: &mut [u8]) -> (Answer, Option<i32>) {
+        let (answer, error) = right.message(message, out, guest);
+        if let (Answer::Handled { count: 16, .. }, None, [13, 0, ..]) = (answer, error, message) {
+            for entry in message[16..].chunks(16) {
+                let (view, page) = (u16::from_le_bytes([message[10], message[11]]), number(entry, 0) >> 12);
+                match entry[8] {
+                    7 => self.0.insert((view, page), [&b"PA"[..], &view.to_le_bytes(), &[7, 0], &page.to_le_bytes()].concat()),
+                    _ => self.0.remove(&(view, page)),
+                };
+            }
+        }
+        (answer, error)
+    }
+
+    fn image_size(&self, right: &Plain) -> usize {
+        right.image_size() + 14 * self.0.len()
+    }
+
+    fn write_image(&self, right: &Plain, out: &mut [u8]) -> Answer {
+        let size = right.image_size();
+        let Some((room, more)) = out.split_at_mut_checked(size) else { return right.write_image(&mut []) };
+        match right.write_image(room) {
+            Answer::Handled { count, signal } if more.len() >= 14 * self.0.len() => {
+                more[..14 * self.0.len()].copy_from_slice(&self.0.values().flatten().copied().collect::<Vec<_>>());
+                Answer::Handled { count: count + 14 * self.0.len(), signal }
+            }
+            Answer::Handled { .. } => Answer::ShortOut,
+            answer => answer,
+        }
+    }
+}
+
+#[test]
+fn keeps_a_record_at_rwx() {
+    let failure = found(3, || Box::new(KeepsRwx::default()));
+    assert!(matches!(failure.list[..], [Call::Fresh { .. }, Call::Message { .. }, Call::Image { .. }]));
+}
+
+/// A fault in messages alone.
+macro_rules! wrong_message {
+    ($(#[$doc:meta])* $test:ident, $fault:ident, $most:literal, |$right:ident, $message:ident, $out:ident, $guest:ident| $body:expr) => {
+        struct $fault;
+
+        impl Fault for $fault {
+            fn message(&mut self, $right: &mut Plain, $message: &[u8], $out: &mut [u8], $guest: &mut [u8]) -> (Answer, Option<i32>) {
+                $body
+            }
+        }
+
+        $(#[$doc])*
+        #[test]
+        fn $test() {
+            found($most, || Box::new($fault));
+        }
+    };
+}
+
+/// A reply's error, changed.
+fn told((answer, _): (Answer, Option<i32>), out: &mut [u8], error: i32) -> (Answer, Option<i32>) {
+    out[8..12].copy_from_slice(&error.to_le_bytes());
+    (answer, Some(error))
+}
+
+wrong_message! {
+    /// "Counting page entries from the size."
+    counts_entries_from_the_size, CountsFromSize, 4, |right, message, out, guest| {
+        let mut message = message.to_vec();
+        if message.starts_with(&[13, 0]) && message.len() >= 16 && message.len().is_multiple_of(16) {
+            let count = message.len() / 16 - 1;
+            message[8..10].copy_from_slice(&(count as u16).to_le_bytes());
+        }
+        right.message(&message, out, guest)
+    }
+}
+
+wrong_message! {
+    /// "Stopping at the first skipped entry."
+    stops_at_the_first_skipped_entry, StopsAtSkip, 12, |right, message, out, guest| {
+        let mut trial = right.clone();
+        let result = trial.message(message, out, guest);
+        if result.1 != Some(-12) {
+            *right = trial;
+            return result;
+        }
+        // one entry at a time, up to the one that is skipped
+        for entry in message[16..].chunks(16) {
+            let mut one = message[..16].to_vec();
+            (one[2], one[3], one[8], one[9]) = (24, 0, 1, 0);
+            one.extend(entry);
+            if right.message(&one, out, guest).1.is_some() {
+                break;
+            }
+        }
+        result
+    }
+}
+
+wrong_message! {
+    /// "Testing gpa + size with a sum that wraps."
+    adds_with_a_sum_that_wraps, WrapsSum, 2, |right, message, out, guest| {
+        let result = right.message(message, out, guest);
+        match message {
+            [6, 0, ..] if result.1 == Some(-22) && (number(message, 8) % 4096).wrapping_add(number(message, 16)) <= 4096 => {
+                told(result, out, -2)
+            }
+            _ => result,
+        }
+    }
+}
+
+wrong_message! {
+    writes_past_the_count, PastTheCount, 2, |right, message, out, guest| {
+        let result = right.message(message, out, guest);
+        if let (Answer::Handled { count: 24, .. }, [8, 0, ..]) = (result.0, message) {
+            out[24] = 0;
+        }
+        result
+    }
+}
+
+wrong_message! {
+    writes_guest_memory_on_an_error, GuestOnError, 2, |right, message, out, guest| {
+        let result = right.message(message, out, guest);
+        if let ([7, 0, ..], Some(-22), [.., last]) = (message, result.1, guest) {
+            *last = 0;
+        }
+        result
+    }
+}
+
+wrong_message! {
+    forgets_the_kick_with_replies_off, KickLost, 4, |right, message, out, guest| {
+        match right.message(message, out, guest) {
+            (Answer::Handled { count: 0, signal: Signal::Kick { .. } }, error) => {
+                (Answer::Handled { count: 0, signal: Signal::None }, error)
+            }
+            result => result,
+        }
+    }
+}
+
+wrong_message! {
+    takes_a_retry, RetryTaken, 5, |right, message, out, guest| {
+        let mut message = message.to_vec();
+        if let [16, 0, 16, 0, _, _, _, _, _, _, _, _, _, _, _, _, action, ..] = &mut message[..] {
+            *action &= !1;
+        }
+        right.message(&message, out, guest)
+    }
+}
+
+wrong_message! {
+    applies_the_mode_too_late, NowIgnored, 2, |right, message, out, guest| {
+        let mut message = message.to_vec();
+        if let [15, 0, 8, 0, _, _, _, _, _, now, ..] = &mut message[..] {
+            *now &= !1;
+        }
+        right.message(&message, out, guest)
+    }
+}
+
+wrong_message! {
+    refuses_the_last_msr, LastMsr, 5, |right, message, out, guest| {
+        match message {
+            [12, 0, .., 0xFF, 0x1F, 0, 0xC0] => {
+                let mut message = message.to_vec();
+                message[21] = 0x20;
+                right.message(&message, out, guest)
+            }
+            _ => right.message(message, out, guest),
+        }
+    }
+}
+
+wrong_message! {
+    loses_a_pages_highest_bit, HighPage, 3, |right, message, out, guest| {
+        let mut message = message.to_vec();
+        if message.starts_with(&[13, 0]) {
+            message.iter_mut().skip(16 + 7).step_by(16).for_each(|byte| *byte &= 0x7F);
+        }
+        right.message(&message, out, guest)
+    }
+}
+
+wrong_message! {
+    mistakes_a_full_queue, FullQueue, 11, |right, message, out, guest| {
+        match right.message(message, out, guest) {
+            result @ (Answer::Handled { count: 16, .. }, Some(-16)) if message[0] == 9 => told(result, out, -11),
+            result => result,
+        }
+    }
+}
+
+wrong_message! {
+    takes_an_output_one_too_short, ShortTaken, 2, |right, message, out, guest| {
+        if out.len() != 4111 {
+            return right.message(message, out, guest);
+        }
+        let mut room = vec![0; 4112];
+        let result = right.message(message, &mut room, guest);
+        if let Answer::Handled { count, .. } = result.0 {
+            let count = count.min(4111);
+            out[..count].copy_from_slice(&room[..count]);
+        }
+        result
+    }
+}
+
+wrong_message! {
+    takes_padding_as_it_is, PaddingTaken, 3, |right, message, out, guest| {
+        let mut message = message.to_vec();
+        if let [14, 0, 16, 0, ..] = message[..] {
+            if let Some(last) = message.get_mut(23) {
+                *last = 0;
+            }
+        }
+        right.message(&message, out, guest)
+    }
+}
+
+wrong_message! {
+    panics_on_an_empty_message, Panics, 2, |right, message, out, guest| {
+        assert!(!message.is_empty());
+        right.message(message, out, guest)
+    }
+}
+
+/// Tells the error that a reply holds wrongly, though its bytes are right.
+struct TellsWrongly;
+
+impl Fault for TellsWrongly {
+    fn message(&mut self, right: &mut Plain, message: &[u8], out: &mut [u8], guest: &mut [u8]) -> (Answer, Option<i32>) {
+        let (answer, error) = right.message(message, out, guest);
+        (answer, error.filter(|_| !message.starts_with(&[17, 0])))
+    }
+}
+
+#[test]
+fn tells_no_error_of_an_unknown_message() {
+    found(2, || Box::new(TellsWrongly));
+}
+
+/// The seqs of a session's events, without those of CMD_ERROR.
+struct SeqUncounted(u32);
+
+impl Fault for SeqUncounted {
+    fn message(&mut self, right: &mut Plain, message: &[u8], out: &mut [u8], guest: &mut [u8]) -> (Answer, Option<i32>) {
+        let result = right.message(message, out, guest);
+        self.0 += u32::from(matches!(result.0, Answer::Handled { count: 568, .. }) && out[0] == 17);
+        result
+    }
+
+    fn enter(&mut self, right: &mut Plain, vcpu: u32, state: &[u8], out: &mut [u8]) -> Answer {
+        let answer = right.enter(vcpu, state, out);
+        if let Answer::Handled { count: 552, .. } = answer {
+            let seq = u32::from_le_bytes(out[4..8].try_into().unwrap()) - self.0;
+            out[4..8].copy_from_slice(&seq.to_le_bytes());
+        }
+        answer
+    }
+}
+
+#[test]
+fn counts_command_errors_apart() {
+    found(6, || Box::new(SeqUncounted(0)));
+}
+
+/// An entry is handled while its vCPU waits.
+struct EntersWaiting;
+
+impl Fault for EntersWaiting {
+    fn enter(&mut self, right: &mut Plain, vcpu: u32, state: &[u8], out: &mut [u8]) -> Answer {
+        match right.enter(vcpu, state, out) {
+            Answer::Waiting => Answer::Handled { count: 0, signal: Signal::None },
+            answer => answer,
+        }
+    }
+}
+
+#[test]
+fn enters_while_waiting() {
+    found(5, || Box::new(EntersWaiting));
+}
+
+/// Closing leaves the tables as they were.
+struct CloseKeeps(usize);
+
+impl Fault for CloseKeeps {
+    fn message(&mut self, right: &mut Plain, message: &[u8], out: &mut [u8], guest: &mut [u8]) -> (Answer, Option<i32>) {
+        if !right.is_closed() {
+            self.0 = right.image_size();
+        }
+        right.message(message, out, guest)
+    }
+
+    fn image_size(&self, right: &Plain) -> usize {
+        match right.is_closed() {
+            true => self.0,
+            false => right.image_size(),
+        }
+    }
+}
+
+#[test]
+fn keeps_tables_on_closing() {
+    found(5, || Box::new(CloseKeeps(0)));
+}
+
+/// A fault in reading images alone.
+macro_rules! wrong_load {
+    ($(#[$doc:meta])* $test:ident, $fault:ident, |$settings:ident, $image:ident| $body:expr) => {
+        struct $fault;
+
+        impl Fault for $fault {
+            fn load(&self, $settings: &Settings, $image: &[u8]) -> Result<Plain, Answer> {
+                $body
+            }
+        }
+
+        $(#[$doc])*
+        #[test]
+        fn $test() {
+            let failure = found(1, || Box::new($fault));
+            // and the image is short too
+            let Call::Load { image, .. } = &failure.list[0] else { panic!("one image") };
+            assert!(image.len() < 200, "{} bytes", image.len());
+        }
+    };
+}
+
+wrong_load! {
+    takes_what_follows_the_end, TailTaken, |settings, image| {
+        match Plain::load(settings, image) {
+            Err(Answer::BadForm { offset }) if image[..offset].len() > 6 && image[offset - 6..].starts_with(b"EN") => {
+                Plain::load(settings, &image[..offset])
+            }
+            result => result,
+        }
+    }
+}
+
+wrong_load! {
+    refuses_a_cut_record_at_its_end, CutAtEnd, |settings, image| {
+        match Plain::load(settings, image) {
+            Err(Answer::BadForm { offset }) if image[offset..].starts_with(b"MS") && image.len() < offset + 8 => {
+                Err(Answer::BadForm { offset: image.len() })
+            }
+            result => result,
+        }
+    }
+}
+
+wrong_load! {
+    tests_form_of_all_before_answer_9, FormFirst, |settings, image| {
+        let lenient = Settings { views: 8, events: !0, features: [1; 5], descriptors: true, breakpoints: false, ..settings.clone() };
+        match Plain::load(settings, image) {
+            Err(Answer::Forbidden { offset }) => Plain::load(&lenient, image).and(Err(Answer::Forbidden { offset })),
+            result => result,
+        }
+    }
+}
+
+wrong_load! {
+    takes_nine_pauses, NinePauses, |settings, image| {
+        let mut image = image.to_vec();
+        let vcpus = image.get_mut(8..).unwrap_or_default().chunks_exact_mut(10);
+        vcpus.filter(|record| record.starts_with(b"VC") && record[8] == 9).for_each(|record| record[8] = 8);
+        Plain::load(settings, &image)
+    }
+}
+
+wrong_load! {
+    takes_pairs_twice, PairTwice, |settings, image| {
+        match Plain::load(settings, image) {
+            Err(Answer::BadForm { offset }) if offset >= 8 && image.get(offset..offset + 8) == Some(&image[offset - 8..offset]) => {
+                Plain::load(settings, &[&image[..offset], &image[offset + 8..]].concat())
+            }
+            result => result,
+        }
+    }
+}
