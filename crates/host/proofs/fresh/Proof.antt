@@ -1,0 +1,21 @@
+-- What `begin` tells, as a host has it. Assumes nothing.
+use mathlib.Core.Path.{_∙_, ap}
+use mathlib.Core.List.{[]}
+use Rattle.session.specs.Calls.{Told}
+use Rattle.host.specs.Host.{given, freshGiven}
+use borrow.Author.Needs.{needs}
+use Rattle.host.proofs.fresh.Statement.{statement}
+use Rattle.host.proofs.fresh.Tie as tie
+
+begin-requires : tie.Need-begin-requires
+begin-requires c κs = search needs
+
+finish-requires : tie.Need-finish-requires
+finish-requires c κs = search needs
+
+returns : tie.Need-returns
+unfolding freshGiven
+returns c = (c .finish .ensures .0 ∙ ap (λ (t : Told). given t .done) (c .before .before .begin .ensures), ap (λ (t : Told). t .state .vcpus) (c .before .before .begin .ensures), ap (λ (t : Told). t .state .pages) (c .before .before .begin .ensures), c .finish .ensures .1 ∙ ap (λ (t : Told). given t .result) (c .before .before .begin .ensures))
+
+pub fresh-spec : {M : Type 1} → statement M
+fresh-spec = tie.close (tie.spec begin-requires finish-requires returns)

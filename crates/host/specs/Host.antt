@@ -1,0 +1,78 @@
+-- What an exported call gives: document 01's number of its answer, the session after it, every lent word and byte, and the answer's values as words.
+use Prim.Native.Nat.{ℕ, min}
+use mathlib.Core.List.{List, [], _∷_}
+use lib.ListN.{length}
+use Rattle.kvmi.specs.declared.Signal.{Signal}
+use Rattle.kvmi.specs.declared.Signal.the-variants.{Quiet, Kick, Crash}
+use Rattle.kvmi.specs.Answer.{Paper}
+use Rattle.kvmi.specs.Bits.{bit}
+use Rattle.kvmi.specs.Image.{image}
+use Rattle.session.specs.declared.Session.{Session}
+use Rattle.session.specs.State.{state}
+use Rattle.session.specs.Calls.{Told, freshOf, readyOf, messageOf, enterOf}
+use Rattle.image_writer.specs.Write.{statedTables, imageOf}
+use Rattle.image_reader.specs.Read.{readOf}
+use Rattle.host.specs.declared.Done.{Done}
+
+-- "signal: none, kick(vCPU, wait), crash(vCPU)"
+abbrev pub signalNumber : Signal → ℕ
+signalNumber Quiet = 0
+signalNumber (Kick vcpu wait) = 1
+signalNumber (Crash vcpu) = 2
+
+abbrev pub signalVcpu : Signal → ℕ
+signalVcpu Quiet = 0
+signalVcpu (Kick vcpu wait) = vcpu
+signalVcpu (Crash vcpu) = vcpu
+
+abbrev pub signalWaits : Signal → ℕ
+signalWaits Quiet = 0
+signalWaits (Kick vcpu wait) = bit wait
+signalWaits (Crash vcpu) = 0
+
+-- an answer's values, as struct semblurick_result has them
+abbrev pub resultWords : Paper → List ℕ
+resultWords p = p .count ∷ p .offset ∷ signalNumber (p .signal) ∷ signalVcpu (p .signal) ∷ signalWaits (p .signal) ∷ []
+
+pub record Given : Type 0 where
+  pub done : Done
+  pub vcpus : List ℕ
+  pub pages : List ℕ
+  pub out : List ℕ
+  pub guest : List ℕ
+  pub result : List ℕ
+
+abbrev pub given : Told → Given
+given t =
+    record {
+      done = record { code = t .answer .number; session = t .state .session };
+      vcpus = t .state .vcpus;
+      pages = t .state .pages;
+      out = t .out;
+      guest = t .guest;
+      result = resultWords (t .answer);
+    }
+
+-- ---- the calls, by what `session`, `image_writer` and `image_reader` promise
+-- the settings are those in the session; the rest of it may be anything
+unfoldable pub freshGiven : Session → List ℕ → List ℕ → List ℕ → Given
+freshGiven s vcpus pages result = given (freshOf (s .settings) vcpus pages)
+
+-- a vCPU number past u16 is taken as 65,535
+unfoldable pub readyGiven : Session → ℕ → List ℕ → Given
+readyGiven s vcpu result = given (readyOf (state s [] []) (min vcpu 65535))
+
+unfoldable pub messageGiven : Session → List ℕ → List ℕ → List ℕ → List ℕ → List ℕ → List ℕ → Given
+messageGiven s vcpus pages msg out guest result = given (messageOf (state s vcpus pages) msg out guest)
+
+unfoldable pub enterGiven : Session → List ℕ → ℕ → List ℕ → List ℕ → List ℕ → Given
+enterGiven s vcpus vcpu block out result = given (enterOf (state s vcpus []) (min vcpu 65535) block out)
+
+unfoldable pub sizeGiven : Session → List ℕ → List ℕ → ℕ
+sizeGiven s vcpus pages = length (image (statedTables (state s vcpus pages)))
+
+unfoldable pub writeGiven : Session → List ℕ → List ℕ → List ℕ → List ℕ → Given
+writeGiven s vcpus pages out result = given (imageOf (state s vcpus pages) out)
+
+unfoldable pub readGiven : Session → List ℕ → List ℕ → List ℕ → List ℕ → Given
+readGiven s vcpus pages image result = given (readOf (s .settings) image vcpus pages)

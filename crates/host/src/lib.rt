@@ -1,0 +1,355 @@
+// The filter as hosts in C and Rust call it (include/semblurick.h). The host owns a session, a small struct, and its two tables; each call is lent
+// them, moves them and gives the answer's number. What is done is a covered function on the session by value (`fresh`, `ready`, ..); the exported
+// function copies the session out of the reference, calls that function, and stores the session back.
+use kvmi::Answer;
+use kvmi::Signal;
+use session::Session;
+ghost use mathlib.Core.Path.{_≡_};
+ghost use Prim.Native.Nat.{min};
+ghost use mathlib.Core.List.{[]};
+ghost use Rattle.kvmi.specs.Answer.{paper};
+ghost use Rattle.session.specs.Calls.{told};
+ghost use Rattle.host.specs.Host.{signalNumber, signalVcpu, signalWaits, resultWords, given, freshGiven, readyGiven, messageGiven, enterGiven, sizeGiven, writeGiven, readGiven};
+
+// What a call gives: the answer's number, and the session after it.
+pub struct Done {
+    pub code: u32,
+    pub session: Session,
+}
+
+// ---- an answer as numbers
+
+// The offset of a refused image; 0 for any other answer.
+fn offset_of(a: Answer) -> usize
+    ensures { λ r. ⌜ r ≡ paper a .offset ⌝ }
+{
+    match a {
+        Answer::Handled {
+            count: _,
+            signal: _,
+        } => 0,
+        Answer::Closing => 0,
+        Answer::Closed => 0,
+        Answer::ShortOut => 0,
+        Answer::BadVcpu => 0,
+        Answer::BadState => 0,
+        Answer::Waiting => 0,
+        Answer::BadSettings => 0,
+        Answer::BadForm { offset } => offset,
+        Answer::Forbidden { offset } => offset,
+        Answer::Busy => 0,
+        Answer::NotApplicable => 0,
+    }
+}
+
+// What the host is to do for the guest.
+fn signal_of(a: Answer) -> Signal
+    ensures { λ r. ⌜ r ≡ paper a .signal ⌝ }
+{
+    match a {
+        Answer::Handled { count: _, signal } => signal,
+        Answer::Closing => Signal::Quiet,
+        Answer::Closed => Signal::Quiet,
+        Answer::ShortOut => Signal::Quiet,
+        Answer::BadVcpu => Signal::Quiet,
+        Answer::BadState => Signal::Quiet,
+        Answer::Waiting => Signal::Quiet,
+        Answer::BadSettings => Signal::Quiet,
+        Answer::BadForm { offset: _ } => Signal::Quiet,
+        Answer::Forbidden { offset: _ } => Signal::Quiet,
+        Answer::Busy => Signal::Quiet,
+        Answer::NotApplicable => Signal::Quiet,
+    }
+}
+
+// 0 none, 1 kick, 2 crash.
+fn signal_number(s: Signal) -> u64
+    ensures { λ r. ⌜ r ≡ signalNumber s ⌝ }
+{
+    match s {
+        Signal::Quiet => 0,
+        Signal::Kick { vcpu: _, wait: _ } => 1,
+        Signal::Crash { vcpu: _ } => 2,
+    }
+}
+
+// The vCPU that is signalled; 0 where none is.
+fn signal_vcpu(s: Signal) -> u64
+    ensures { λ r. ⌜ r ≡ signalVcpu s ⌝ }
+{
+    match s {
+        Signal::Quiet => 0,
+        Signal::Kick { vcpu, wait: _ } => vcpu as u64,
+        Signal::Crash { vcpu } => vcpu as u64,
+    }
+}
+
+// Whether the tool waits for the kick: 1, else 0.
+fn signal_waits(s: Signal) -> u64
+    ensures { λ r. ⌜ r ≡ signalWaits s ⌝ }
+{
+    match s {
+        Signal::Quiet => 0,
+        Signal::Kick { vcpu: _, wait } => wait as u64,
+        Signal::Crash { vcpu: _ } => 0,
+    }
+}
+
+// An answer's values, into the words lent for them; its number is given back.
+fn put_result(result: &mut [u64; 5], a: Answer) -> u32
+    ensures { λ r. ⌜ (r ≡ paper a .number) × (now (result .exit) ≡ resultWords (paper a)) ⌝ }
+{
+    let signal = signal_of(a);
+    let count = stream::answer_count(a) as u64;
+    let offset = offset_of(a) as u64;
+    let kind = signal_number(signal);
+    let vcpu = signal_vcpu(signal);
+    let waits = signal_waits(signal);
+    *result = [count, offset, kind, vcpu, waits];
+    stream::answer_number(a) as u32
+}
+
+// What a call of `session` gave, as a host has it.
+fn finish(done: session::Done, result: &mut [u64; 5]) -> Done
+    ensures { λ r. ⌜ (r ≡ given (told done [] [] [] []) .done) × (now (result .exit) ≡ given (told done [] [] [] []) .result) ⌝ }
+{
+    let answer = done.answer;
+    let session = done.session;
+    let code = put_result(result, answer);
+    Done { code, session }
+}
+
+// A vCPU number of a host, which may be any: past u16, the last u16, which no session has.
+fn vcpu_number(vcpu: u32) -> u16
+    ensures { λ r. ⌜ r ≡ min vcpu 65535 ⌝ }
+{
+    if vcpu < 65535 { vcpu as u16 } else { 65535 }
+}
+
+// ---- the calls
+
+// Of the session only its settings are read.
+fn fresh(
+    s: Session,
+    vcpus: &mut [u64; 4352],
+    pages: &mut [u64; 1024],
+    result: &mut [u64; 5],
+) -> Done
+    ensures { λ r. ⌜ (r ≡ freshGiven s (now (vcpus .entry)) (now (pages .entry)) (now (result .entry)) .done)
+        × (now (vcpus .exit) ≡ freshGiven s (now (vcpus .entry)) (now (pages .entry)) (now (result .entry)) .vcpus)
+        × (now (pages .exit) ≡ freshGiven s (now (vcpus .entry)) (now (pages .entry)) (now (result .entry)) .pages)
+        × (now (result .exit) ≡ freshGiven s (now (vcpus .entry)) (now (pages .entry)) (now (result .entry)) .result) ⌝ }
+{
+    let settings = s.settings;
+    let done = session::begin(settings, vcpus, pages);
+    finish(done, result)
+}
+
+// A session begins fresh, by the settings that stand in it, on whatever words are lent.
+#[no_mangle]
+pub extern "C" fn semblurick_fresh(
+    s: &mut Session,
+    vcpus: &mut [u64; 4352],
+    pages: &mut [u64; 1024],
+    result: &mut [u64; 5],
+) -> u32
+    ensures { λ r. ⌜ (r ≡ freshGiven (now (s .entry)) (now (vcpus .entry)) (now (pages .entry)) (now (result .entry)) .done .code)
+        × (now (s .exit) ≡ freshGiven (now (s .entry)) (now (vcpus .entry)) (now (pages .entry)) (now (result .entry)) .done .session)
+        × (now (vcpus .exit) ≡ freshGiven (now (s .entry)) (now (vcpus .entry)) (now (pages .entry)) (now (result .entry)) .vcpus)
+        × (now (pages .exit) ≡ freshGiven (now (s .entry)) (now (vcpus .entry)) (now (pages .entry)) (now (result .entry)) .pages)
+        × (now (result .exit) ≡ freshGiven (now (s .entry)) (now (vcpus .entry)) (now (pages .entry)) (now (result .entry)) .result) ⌝ }
+{
+    let d = fresh(*s, vcpus, pages, result);
+    *s = d.session;
+    d.code
+}
+
+fn ready(s: Session, vcpu: u32, result: &mut [u64; 5]) -> Done
+    ensures { λ r. ⌜ (r ≡ readyGiven s vcpu (now (result .entry)) .done)
+        × (now (result .exit) ≡ readyGiven s vcpu (now (result .entry)) .result) ⌝ }
+{
+    let done = s.ready(vcpu_number(vcpu));
+    finish(done, result)
+}
+
+// A vCPU can be introspected from now on.
+#[no_mangle]
+pub extern "C" fn semblurick_ready(s: &mut Session, vcpu: u32, result: &mut [u64; 5]) -> u32
+    ensures { λ r. ⌜ (r ≡ readyGiven (now (s .entry)) vcpu (now (result .entry)) .done .code)
+        × (now (s .exit) ≡ readyGiven (now (s .entry)) vcpu (now (result .entry)) .done .session)
+        × (now (result .exit) ≡ readyGiven (now (s .entry)) vcpu (now (result .entry)) .result) ⌝ }
+{
+    let d = ready(*s, vcpu, result);
+    *s = d.session;
+    d.code
+}
+
+fn message(
+    s: Session,
+    vcpus: &mut [u64; 4352],
+    pages: &mut [u64; 1024],
+    msg: &[u8],
+    out: &mut [u8],
+    guest: &mut [u8],
+    result: &mut [u64; 5],
+) -> Done
+    ensures { λ r. ⌜ (r ≡ messageGiven s (now (vcpus .entry)) (now (pages .entry)) (now (msg .entry)) (now (out .entry)) (now (guest .entry)) (now (result .entry)) .done)
+        × (now (vcpus .exit) ≡ messageGiven s (now (vcpus .entry)) (now (pages .entry)) (now (msg .entry)) (now (out .entry)) (now (guest .entry)) (now (result .entry)) .vcpus)
+        × (now (pages .exit) ≡ messageGiven s (now (vcpus .entry)) (now (pages .entry)) (now (msg .entry)) (now (out .entry)) (now (guest .entry)) (now (result .entry)) .pages)
+        × (now (out .exit) ≡ messageGiven s (now (vcpus .entry)) (now (pages .entry)) (now (msg .entry)) (now (out .entry)) (now (guest .entry)) (now (result .entry)) .out)
+        × (now (guest .exit) ≡ messageGiven s (now (vcpus .entry)) (now (pages .entry)) (now (msg .entry)) (now (out .entry)) (now (guest .entry)) (now (result .entry)) .guest)
+        × (now (result .exit) ≡ messageGiven s (now (vcpus .entry)) (now (pages .entry)) (now (msg .entry)) (now (out .entry)) (now (guest .entry)) (now (result .entry)) .result) ⌝ }
+{
+    let done = s.message(vcpus, pages, msg, out, guest);
+    finish(done, result)
+}
+
+// One message of the tool.
+#[no_mangle]
+pub extern "C" fn semblurick_message(
+    s: &mut Session,
+    vcpus: &mut [u64; 4352],
+    pages: &mut [u64; 1024],
+    msg: &[u8],
+    out: &mut [u8],
+    guest: &mut [u8],
+    result: &mut [u64; 5],
+) -> u32
+    ensures { λ r. ⌜ (r ≡ messageGiven (now (s .entry)) (now (vcpus .entry)) (now (pages .entry)) (now (msg .entry)) (now (out .entry)) (now (guest .entry)) (now (result .entry)) .done .code)
+        × (now (s .exit) ≡ messageGiven (now (s .entry)) (now (vcpus .entry)) (now (pages .entry)) (now (msg .entry)) (now (out .entry)) (now (guest .entry)) (now (result .entry)) .done .session)
+        × (now (vcpus .exit) ≡ messageGiven (now (s .entry)) (now (vcpus .entry)) (now (pages .entry)) (now (msg .entry)) (now (out .entry)) (now (guest .entry)) (now (result .entry)) .vcpus)
+        × (now (pages .exit) ≡ messageGiven (now (s .entry)) (now (vcpus .entry)) (now (pages .entry)) (now (msg .entry)) (now (out .entry)) (now (guest .entry)) (now (result .entry)) .pages)
+        × (now (out .exit) ≡ messageGiven (now (s .entry)) (now (vcpus .entry)) (now (pages .entry)) (now (msg .entry)) (now (out .entry)) (now (guest .entry)) (now (result .entry)) .out)
+        × (now (guest .exit) ≡ messageGiven (now (s .entry)) (now (vcpus .entry)) (now (pages .entry)) (now (msg .entry)) (now (out .entry)) (now (guest .entry)) (now (result .entry)) .guest)
+        × (now (result .exit) ≡ messageGiven (now (s .entry)) (now (vcpus .entry)) (now (pages .entry)) (now (msg .entry)) (now (out .entry)) (now (guest .entry)) (now (result .entry)) .result) ⌝ }
+{
+    let d = message(*s, vcpus, pages, msg, out, guest, result);
+    *s = d.session;
+    d.code
+}
+
+fn enter(
+    s: Session,
+    vcpus: &mut [u64; 4352],
+    vcpu: u32,
+    block: &[u8],
+    out: &mut [u8],
+    result: &mut [u64; 5],
+) -> Done
+    ensures { λ r. ⌜ (r ≡ enterGiven s (now (vcpus .entry)) vcpu (now (block .entry)) (now (out .entry)) (now (result .entry)) .done)
+        × (now (vcpus .exit) ≡ enterGiven s (now (vcpus .entry)) vcpu (now (block .entry)) (now (out .entry)) (now (result .entry)) .vcpus)
+        × (now (out .exit) ≡ enterGiven s (now (vcpus .entry)) vcpu (now (block .entry)) (now (out .entry)) (now (result .entry)) .out)
+        × (now (result .exit) ≡ enterGiven s (now (vcpus .entry)) vcpu (now (block .entry)) (now (out .entry)) (now (result .entry)) .result) ⌝ }
+{
+    let done = s.enter(vcpus, vcpu_number(vcpu), block, out);
+    finish(done, result)
+}
+
+// A vCPU enters the guest, with its register block.
+#[no_mangle]
+pub extern "C" fn semblurick_enter(
+    s: &mut Session,
+    vcpus: &mut [u64; 4352],
+    vcpu: u32,
+    block: &[u8],
+    out: &mut [u8],
+    result: &mut [u64; 5],
+) -> u32
+    ensures { λ r. ⌜ (r ≡ enterGiven (now (s .entry)) (now (vcpus .entry)) vcpu (now (block .entry)) (now (out .entry)) (now (result .entry)) .done .code)
+        × (now (s .exit) ≡ enterGiven (now (s .entry)) (now (vcpus .entry)) vcpu (now (block .entry)) (now (out .entry)) (now (result .entry)) .done .session)
+        × (now (vcpus .exit) ≡ enterGiven (now (s .entry)) (now (vcpus .entry)) vcpu (now (block .entry)) (now (out .entry)) (now (result .entry)) .vcpus)
+        × (now (out .exit) ≡ enterGiven (now (s .entry)) (now (vcpus .entry)) vcpu (now (block .entry)) (now (out .entry)) (now (result .entry)) .out)
+        × (now (result .exit) ≡ enterGiven (now (s .entry)) (now (vcpus .entry)) vcpu (now (block .entry)) (now (out .entry)) (now (result .entry)) .result) ⌝ }
+{
+    let d = enter(*s, vcpus, vcpu, block, out, result);
+    *s = d.session;
+    d.code
+}
+
+// Of the session only its settings are read.
+fn image_read(
+    s: Session,
+    vcpus: &mut [u64; 4352],
+    pages: &mut [u64; 1024],
+    image: &[u8],
+    result: &mut [u64; 5],
+) -> Done
+    ensures { λ r. ⌜ (r ≡ readGiven s (now (vcpus .entry)) (now (pages .entry)) (now (image .entry)) (now (result .entry)) .done)
+        × (now (vcpus .exit) ≡ readGiven s (now (vcpus .entry)) (now (pages .entry)) (now (image .entry)) (now (result .entry)) .vcpus)
+        × (now (pages .exit) ≡ readGiven s (now (vcpus .entry)) (now (pages .entry)) (now (image .entry)) (now (result .entry)) .pages)
+        × (now (result .exit) ≡ readGiven s (now (vcpus .entry)) (now (pages .entry)) (now (image .entry)) (now (result .entry)) .result) ⌝ }
+{
+    let settings = s.settings;
+    let done = image_reader::read_image(settings, image, vcpus, pages);
+    finish(done, result)
+}
+
+// A session begins with what an image states.
+#[no_mangle]
+pub extern "C" fn semblurick_image_read(
+    s: &mut Session,
+    vcpus: &mut [u64; 4352],
+    pages: &mut [u64; 1024],
+    image: &[u8],
+    result: &mut [u64; 5],
+) -> u32
+    ensures { λ r. ⌜ (r ≡ readGiven (now (s .entry)) (now (vcpus .entry)) (now (pages .entry)) (now (image .entry)) (now (result .entry)) .done .code)
+        × (now (s .exit) ≡ readGiven (now (s .entry)) (now (vcpus .entry)) (now (pages .entry)) (now (image .entry)) (now (result .entry)) .done .session)
+        × (now (vcpus .exit) ≡ readGiven (now (s .entry)) (now (vcpus .entry)) (now (pages .entry)) (now (image .entry)) (now (result .entry)) .vcpus)
+        × (now (pages .exit) ≡ readGiven (now (s .entry)) (now (vcpus .entry)) (now (pages .entry)) (now (image .entry)) (now (result .entry)) .pages)
+        × (now (result .exit) ≡ readGiven (now (s .entry)) (now (vcpus .entry)) (now (pages .entry)) (now (image .entry)) (now (result .entry)) .result) ⌝ }
+{
+    let d = image_read(*s, vcpus, pages, image, result);
+    *s = d.session;
+    d.code
+}
+
+fn image_write(
+    s: Session,
+    vcpus: &[u64; 4352],
+    pages: &[u64; 1024],
+    out: &mut [u8],
+    result: &mut [u64; 5],
+) -> u32
+    ensures { λ r. ⌜ (r ≡ writeGiven s (now (vcpus .entry)) (now (pages .entry)) (now (out .entry)) (now (result .entry)) .done .code)
+        × (now (out .exit) ≡ writeGiven s (now (vcpus .entry)) (now (pages .entry)) (now (out .entry)) (now (result .entry)) .out)
+        × (now (result .exit) ≡ writeGiven s (now (vcpus .entry)) (now (pages .entry)) (now (out .entry)) (now (result .entry)) .result) ⌝ }
+{
+    let done = image_writer::write_image(s, vcpus, pages, out);
+    let d = finish(done, result);
+    d.code
+}
+
+// The image of a session, which stays as it is.
+#[no_mangle]
+pub extern "C" fn semblurick_image_write(
+    s: &Session,
+    vcpus: &[u64; 4352],
+    pages: &[u64; 1024],
+    out: &mut [u8],
+    result: &mut [u64; 5],
+) -> u32
+    ensures { λ r. ⌜ (r ≡ writeGiven (now (s .entry)) (now (vcpus .entry)) (now (pages .entry)) (now (out .entry)) (now (result .entry)) .done .code)
+        × (now (out .exit) ≡ writeGiven (now (s .entry)) (now (vcpus .entry)) (now (pages .entry)) (now (out .entry)) (now (result .entry)) .out)
+        × (now (result .exit) ≡ writeGiven (now (s .entry)) (now (vcpus .entry)) (now (pages .entry)) (now (out .entry)) (now (result .entry)) .result) ⌝ }
+{
+    image_write(*s, vcpus, pages, out, result)
+}
+
+fn image_size(s: Session, vcpus: &[u64; 4352], pages: &[u64; 1024]) -> usize
+    ensures { λ r. ⌜ r ≡ sizeGiven s (now (vcpus .entry)) (now (pages .entry)) ⌝ }
+{
+    image_writer::image_size(s, vcpus, pages)
+}
+
+// How many bytes the image of a session has.
+#[no_mangle]
+pub extern "C" fn semblurick_image_size(
+    s: &Session,
+    vcpus: &[u64; 4352],
+    pages: &[u64; 1024],
+) -> usize
+    ensures { λ r. ⌜ r ≡ sizeGiven (now (s .entry)) (now (vcpus .entry)) (now (pages .entry)) ⌝ }
+{
+    image_size(*s, vcpus, pages)
+}
