@@ -218,7 +218,6 @@ module _ (w : List ℕ) (v : ℕ) where
       → restFrom w v i ≡ bitsFrom (getD w i 0) (v * 16384 + (i - (v * 272 + 16)) * 64) 64 ++ restFrom w v (i + 1)
   unfolding restFrom
   rest-word i h g =
-      let j = i - (v * 272 + 16) in
       let many : (v * 272 + 272 - i) * 64 ≡ 64 + (v * 272 + 272 - (i + 1)) * 64 = omega arith in
       let next : v * 16384 + (i + 1 - (v * 272 + 16)) * 64 ≡ v * 16384 + (i - (v * 272 + 16)) * 64 + 64 = omega arith in
       let word : v * 272 + (16 + (i - (v * 272 + 16))) ≡ i = omega arith in

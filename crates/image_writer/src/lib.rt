@@ -4,6 +4,8 @@ use kvmi::Answer;
 use kvmi::Signal;
 use session::Done;
 use session::Session;
+use store::words::BLOCK_WORDS;
+use store::words::MSRS;
 ghost use mathlib.Core.Path.{_≡_};
 ghost use mathlib.Core.List.{[]};
 ghost use mathlib.Core.Bool.{true, not};
@@ -107,13 +109,10 @@ fn count_vcpu(words: &[u64], v: usize) -> usize
     requires { ⌜ v < 16 ⌝ }
     ensures { λ r. ⌜ r ≡ length (switchesFrom (now (words .entry)) (v * 16384) 16384) ⌝ }
 {
-    let end = v * store::words::BLOCK_WORDS + store::words::BLOCK_WORDS;
+    let first = v * BLOCK_WORDS + MSRS;
+    let end = v * BLOCK_WORDS + BLOCK_WORDS;
     let mut n = 0;
-    let mut i = scan(
-        words,
-        v * store::words::BLOCK_WORDS + store::words::MSRS,
-        end,
-    );
+    let mut i = scan(words, first, end);
     while i < end {
         n += u64::count_ones(words[i]) as usize;
         i = scan(words, i + 1, end);
@@ -269,8 +268,8 @@ fn put_vcpu(out: &mut [u8], at: usize, words: &[u64], v: usize) -> usize
     requires { ⌜ (v < 16) × (at + 8 * length (switchesFrom (now words) (v * 16384) 16384) ≤ length (now out)) ⌝ }
     ensures { λ r. ⌜ Put (now (out .entry)) at (switchesFrom (now (words .entry)) (v * 16384) 16384) (now (out .exit)) r ⌝ }
 {
-    let first = v * store::words::BLOCK_WORDS + store::words::MSRS;
-    let end = v * store::words::BLOCK_WORDS + store::words::BLOCK_WORDS;
+    let first = v * BLOCK_WORDS + MSRS;
+    let end = v * BLOCK_WORDS + BLOCK_WORDS;
     let mut to = at;
     let mut i = scan(words, first, end);
     while i < end {

@@ -9,22 +9,22 @@ use Rattle.image_writer.proofs.count_vcpu.Statement.{statement}
 use Rattle.image_writer.proofs.count_vcpu.Tie as tie
 
 abbrev Inv-loop : tie.InvT-loop
-Inv-loop words v end n₀ i₀ n i = (v * 272 + 16 ≤ i) × (i ≤ end) × (i < end → i < length words) × (n + length (restFrom words v i) ≡ length (switchesFrom words (v * 16384) 16384))
+Inv-loop words v first end n₀ i₀ n i = (v * 272 + 16 ≤ i) × (i ≤ end) × (i < end → i < length words) × (n + length (restFrom words v i) ≡ length (switchesFrom words (v * 16384) 16384))
 
 abbrev μ-loop : tie.MeasureT-loop
-μ-loop words v end n₀ i₀ n i = end - i
+μ-loop words v first end n₀ i₀ n i = end - i
+
+mul-first : tie.Need-mul-first Inv-loop μ-loop
+mul-first c = omega arith
+
+add-first : tie.Need-add-first Inv-loop μ-loop
+add-first c = omega arith
 
 mul-end : tie.Need-mul-end Inv-loop μ-loop
 mul-end c = omega arith
 
 add-end : tie.Need-add-end Inv-loop μ-loop
 add-end c = omega arith
-
-mul-scan : tie.Need-mul-scan Inv-loop μ-loop
-mul-scan c = omega arith
-
-add-scan : tie.Need-add-scan Inv-loop μ-loop
-add-scan c = omega arith
 
 scan-requires : tie.Need-scan-requires Inv-loop μ-loop
 scan-requires c κs = omega arith
@@ -56,8 +56,8 @@ add-n c =
     let all = from-bound (c .before .before .before .before .before .args .words .now) (c .before .before .before .before .before .args .v * 16384) 16384 in
     omega (arith, c .before .before .loop .inv .3)
 
-add-scan-2 : tie.Need-add-scan-2 Inv-loop μ-loop
-add-scan-2 c = omega arith
+add-scan : tie.Need-add-scan Inv-loop μ-loop
+add-scan c = omega arith
 
 scan-requires-2 : tie.Need-scan-requires-2 Inv-loop μ-loop
 scan-requires-2 c κs = omega arith
@@ -83,17 +83,17 @@ count-vcpu-spec =
     (tie.spec
     Inv-loop
     μ-loop
+    mul-first
+    add-first
     mul-end
     add-end
-    mul-scan
-    add-scan
     scan-requires
     loop-holds
     mul-n
     shared-slice-read-n
     cast-n
     add-n
-    add-scan-2
+    add-scan
     scan-requires-2
     loop-less
     loop-again
