@@ -1,8 +1,11 @@
 -- The parts of an image: the bytes of each kind's records, and the MSR switches of all vCPUs as one row of places, 16,384 for each vCPU.
 use mathlib.Core.Path.{_≡_}
-use Prim.Native.Nat.{ℕ, zero, suc, _+_, _-_, _/_, _%_, _≤_, _<_}
+use Prim.Native.Nat.{ℕ, zero, suc, _+_, _*_, _/_, _%_, _≤_, _<_}
 use mathlib.Core.List.{List, [], _∷_}
-use mathlib.Core.Bool.{Bool, true, cond}
+use mathlib.Core.Bool.{Bool, cond}
+use lib.Dec.{eqb}
+use lib.ListN.{length, getD}
+use Rattle.wire.specs.Bytes.{store}
 use Rattle.kvmi.specs.Bits.{isOn}
 use Rattle.kvmi.specs.Record.{writeAll}
 use Rattle.kvmi.specs.Tables.{Vcpu, Msr, Page, Tables}
@@ -33,12 +36,28 @@ unfoldable pub switchesFrom : List ℕ → ℕ → ℕ → List Msr
 switchesFrom w g zero = []
 switchesFrom w g (suc n) = cond (switchAt w g) (msrOfPlace g ∷ switchesFrom w (suc g) n) (switchesFrom w (suc g) n)
 
--- the first place from one on whose switch is on, or the end
-pub record NextOn (w : List ℕ) (first end r : ℕ) : Type 0 where
-  pub after : first ≤ r
-  pub inside : r ≤ end
-  pub on : r < end → switchAt w r ≡ true
-  pub same : switchesFrom w first (end - first) ≡ switchesFrom w r (end - r)
+-- those that are on among the n lowest bits of a word, whose lowest has the place g
+unfoldable pub bitsFrom : ℕ → ℕ → ℕ → List Msr
+bitsFrom x g zero = []
+bitsFrom x g (suc n) = cond (eqb (x % 2) 1) (msrOfPlace g ∷ bitsFrom (x / 2) (suc g) n) (bitsFrom (x / 2) (suc g) n)
+
+-- ---- words that are 0
+-- all of them from one up to another
+pub record Blank (w : List ℕ) (from to : ℕ) : Type 0 where
+  pub zeros : (j : ℕ) → from ≤ j → j < to → getD w j 0 ≡ 0
+
+-- r is the end, or the place of a word, and all words before it are 0
+pub record Scanned (w : List ℕ) (from to r : ℕ) : Type 0 where
+  pub after : from ≤ r
+  pub inside : r ≤ to
+  pub there : r < to → r < length w
+  pub blank : Blank w from r
+
+-- ---- records written
+-- what was s has the MS records at a place, and r is the place behind them
+pub record Put (s : List ℕ) (at : ℕ) (ms : List Msr) (out : List ℕ) (r : ℕ) : Type 0 where
+  pub there : out ≡ store s at (msBytes ms)
+  pub next : r ≡ at + 8 * length ms
 
 -- ---- the tables of n vCPUs and `used` page words
 abbrev pub tables : ℕ → ℕ → ℕ → ℕ → List ℕ → List ℕ → Tables

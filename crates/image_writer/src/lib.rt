@@ -1,11 +1,14 @@
-// The image writer: one pass over the session's words to measure, and one to write.
+// The image writer: one pass over the session's words to measure, and one to write. Both skip the words that are 0, and
+// a record is stored into the part of the output that it fills, so that its stores need no tests.
 use kvmi::Answer;
 use kvmi::Signal;
 use session::Done;
 use session::Session;
+use store::words::BLOCK_WORDS;
+use store::words::MSRS;
 ghost use mathlib.Core.Path.{_≡_};
 ghost use mathlib.Core.List.{[]};
-ghost use mathlib.Core.Bool.{not};
+ghost use mathlib.Core.Bool.{true, not};
 ghost use Prim.Native.Nat.{_+_, _*_, _≤_, _<_, _/_, _%_, _^_, min};
 ghost use lib.Dec.{eqb};
 ghost use lib.ListN.{length};
@@ -20,7 +23,7 @@ ghost use Rattle.session.specs.State.{state};
 ghost use Rattle.session.specs.Calls.{told};
 ghost use Rattle.session.specs.Meaning.{awaitedOf};
 ghost use Rattle.image_writer.specs.Write.{statedTables, imageOf};
-ghost use Rattle.image_writer.specs.Parts.{vcBytes, msBytes, paBytes, msrOfPlace, switchesFrom, NextOn, tables};
+ghost use Rattle.image_writer.specs.Parts.{vcBytes, msBytes, paBytes, msrOfPlace, switchesFrom, bitsFrom, Blank, Scanned, Put, tables};
 
 // The marks of the records, ASCII.
 const VM: u16 = 0x4D56;
@@ -74,50 +77,61 @@ fn awaits(words: &[u64], n: u16) -> bool
     false
 }
 
-// The word with the switch of a place.
-fn word_of(words: &[u64], g: usize) -> u64
-    requires { ⌜ g < 262144 ⌝ }
-    ensures { λ r. ⌜ r ≡ field (now (words .entry)) (g / 16384) (16 + g % 16384 / 64) ⌝ }
+// Whether the 4 words at a place are all 0.
+fn blank(words: &[u64], i: usize) -> bool
+    requires { ⌜ i + 4 ≤ length (now words) ⌝ }
+    ensures { λ r. ⌜ (r ≡ true → Blank (now (words .entry)) i (i + 4)) ⌝ }
 {
-    store::words::read_field(
-        words,
-        (g / SWITCHES) as u16,
-        store::words::MSRS + g % SWITCHES / BITS,
-    )
+    (words[i] | words[i + 1] | words[i + 2] | words[i + 3]) == 0
 }
 
-// The first place from one on whose switch is on, or the end. A word that is 0 is skipped whole.
-fn next_on(words: &[u64], first: usize, end: usize) -> usize
-    requires { ⌜ (first ≤ end) × (end ≤ 262144) ⌝ }
-    ensures { λ r. ⌜ NextOn (now (words .entry)) first end r ⌝ }
+// The place of the first word that is not 0, from one on, or the end. Words past the end of the slice count as 0.
+fn scan(words: &[u64], from: usize, to: usize) -> usize
+    requires { ⌜ (from ≤ to) × (to ≤ 4352) ⌝ }
+    ensures { λ r. ⌜ Scanned (now (words .entry)) from to r ⌝ }
 {
-    let mut g = first;
-    while g < end {
-        let w = word_of(words, g);
-        if w == 0 {
-            g = g - g % BITS + BITS;
-        } else {
-            if store::bits::bit_on(w, (g % SWITCHES % BITS) as u32) {
-                return g;
-            }
-            g += 1;
-        }
+    let last = smaller(to, words.len());
+    let mut i = from;
+    while i + 4 <= last && blank(words, i) {
+        i += 4;
     }
-    end
+    while i < last {
+        if words[i] != 0 {
+            return i;
+        }
+        i += 1;
+    }
+    to
 }
 
-// How many switches are on before a place.
-fn count_on(words: &[u64], end: usize) -> usize
-    requires { ⌜ end ≤ 262144 ⌝ }
-    ensures { λ r. ⌜ r ≡ length (switchesFrom (now (words .entry)) 0 end) ⌝ }
+// How many switches of a vCPU are on.
+fn count_vcpu(words: &[u64], v: usize) -> usize
+    requires { ⌜ v < 16 ⌝ }
+    ensures { λ r. ⌜ r ≡ length (switchesFrom (now (words .entry)) (v * 16384) 16384) ⌝ }
 {
+    let first = v * BLOCK_WORDS + MSRS;
+    let end = v * BLOCK_WORDS + BLOCK_WORDS;
     let mut n = 0;
-    let mut g = next_on(words, 0, end);
-    while g < end {
-        n += 1;
-        g = next_on(words, g + 1, end);
+    let mut i = scan(words, first, end);
+    while i < end {
+        n += u64::count_ones(words[i]) as usize;
+        i = scan(words, i + 1, end);
     }
     n
+}
+
+// How many switches of the first n vCPUs are on.
+fn count_on(words: &[u64], n: usize) -> usize
+    requires { ⌜ n ≤ 16 ⌝ }
+    ensures { λ r. ⌜ r ≡ length (switchesFrom (now (words .entry)) 0 (n * 16384)) ⌝ }
+{
+    let mut on = 0;
+    let mut v = 0;
+    while v < n {
+        on += count_vcpu(words, v);
+        v += 1;
+    }
+    on
 }
 
 // How many bytes an image of n vCPUs has, with so many switches on and so many pages.
@@ -173,13 +187,15 @@ fn vc_record(out: &mut [u8], at: usize, ready: u64, words: &[u64], i: u16)
     let events = store::words::read_field(words, i, store::words::EVENTS);
     let pauses = store::words::read_field(words, i, store::words::PAUSES);
     let flags = flags_of(is_ready, singlestep);
-    wire::store16(out, at, VC);
-    wire::store16(out, at + 2, i);
-    wire::store8(out, at + 4, flags);
-    wire::store8(out, at + 5, (crs % 256) as u8);
-    wire::store16(out, at + 6, (events % 65536) as u16);
-    wire::store8(out, at + 8, (pauses % 256) as u8);
-    wire::store8(out, at + 9, 0);
+    let end = at + 10;
+    let r = &mut out[at..end];
+    wire::store16(r, 0, VC);
+    wire::store16(r, 2, i);
+    wire::store8(r, 4, flags);
+    wire::store8(r, 5, (crs % 256) as u8);
+    wire::store16(r, 6, (events % 65536) as u16);
+    wire::store8(r, 8, (pauses % 256) as u8);
+    wire::store8(r, 9, 0);
 }
 
 // The MS record of a place.
@@ -187,10 +203,11 @@ fn ms_record(out: &mut [u8], at: usize, g: usize)
     requires { ⌜ (at + 8 ≤ length (now out)) × (g < 262144) ⌝ }
     ensures { λ _. ⌜ now (out .exit) ≡ store (now (out .entry)) at (write (msRecord (msrOfPlace g))) ⌝ }
 {
-    let msr = msr_at(g % SWITCHES);
-    wire::store16(out, at, MS);
-    wire::store16(out, at + 2, (g / SWITCHES) as u16);
-    wire::store32(out, at + 4, msr);
+    let end = at + 8;
+    let r = &mut out[at..end];
+    wire::store16(r, 0, MS);
+    wire::store16(r, 2, (g / SWITCHES) as u16);
+    wire::store32(r, 4, msr_at(g % SWITCHES));
 }
 
 // The PA record of a page word.
@@ -198,11 +215,13 @@ fn pa_record(out: &mut [u8], at: usize, w: u64)
     requires { ⌜ at + 14 ≤ length (now out) ⌝ }
     ensures { λ _. ⌜ now (out .exit) ≡ store (now (out .entry)) at (write (paRecord (pageOfWord w))) ⌝ }
 {
-    wire::store16(out, at, PA);
-    wire::store16(out, at + 2, (w / VIEW) as u16);
-    wire::store8(out, at + 4, (w % 8) as u8);
-    wire::store8(out, at + 5, 0);
-    wire::store64(out, at + 6, w / 8 % PAGES);
+    let end = at + 14;
+    let r = &mut out[at..end];
+    wire::store16(r, 0, PA);
+    wire::store16(r, 2, (w / VIEW) as u16);
+    wire::store8(r, 4, (w % 8) as u8);
+    wire::store8(r, 5, 0);
+    wire::store64(r, 6, w / 8 % PAGES);
 }
 
 // The EN record.
@@ -226,17 +245,50 @@ fn put_vcpus(out: &mut [u8], at: usize, ready: u64, words: &[u64], n: u16)
     }
 }
 
-// The MS records of the places before the end.
-fn put_switches(out: &mut [u8], at: usize, words: &[u64], end: usize)
-    requires { ⌜ (end ≤ 262144) × (at + 8 * length (switchesFrom (now words) 0 end) ≤ length (now out)) ⌝ }
-    ensures { λ _. ⌜ now (out .exit) ≡ store (now (out .entry)) at (msBytes (switchesFrom (now (words .entry)) 0 end)) ⌝ }
+// The MS records of the bits of a word, whose lowest has the place g. Gives the place behind them.
+fn put_bits(out: &mut [u8], at: usize, g: usize, w: u64) -> usize
+    requires { ⌜ (g + 64 ≤ 262144) × (at + 8 * length (bitsFrom w g 64) ≤ length (now out)) ⌝ }
+    ensures { λ r. ⌜ Put (now (out .entry)) at (bitsFrom w g 64) (now (out .exit)) r ⌝ }
 {
     let mut to = at;
-    let mut g = next_on(words, 0, end);
-    while g < end {
-        ms_record(out, to, g);
+    let mut p = g;
+    let mut x = w;
+    while x != 0 {
+        let k = u64::trailing_zeros(x);
+        ms_record(out, to, p + (k as usize));
         to += 8;
-        g = next_on(words, g + 1, end);
+        p += (k as usize) + 1;
+        x = x >> k >> 1;
+    }
+    to
+}
+
+// The MS records of a vCPU. Gives the place behind them.
+fn put_vcpu(out: &mut [u8], at: usize, words: &[u64], v: usize) -> usize
+    requires { ⌜ (v < 16) × (at + 8 * length (switchesFrom (now words) (v * 16384) 16384) ≤ length (now out)) ⌝ }
+    ensures { λ r. ⌜ Put (now (out .entry)) at (switchesFrom (now (words .entry)) (v * 16384) 16384) (now (out .exit)) r ⌝ }
+{
+    let first = v * BLOCK_WORDS + MSRS;
+    let end = v * BLOCK_WORDS + BLOCK_WORDS;
+    let mut to = at;
+    let mut i = scan(words, first, end);
+    while i < end {
+        to = put_bits(out, to, v * SWITCHES + (i - first) * BITS, words[i]);
+        i = scan(words, i + 1, end);
+    }
+    to
+}
+
+// The MS records of the first n vCPUs.
+fn put_switches(out: &mut [u8], at: usize, words: &[u64], n: usize)
+    requires { ⌜ (n ≤ 16) × (at + 8 * length (switchesFrom (now words) 0 (n * 16384)) ≤ length (now out)) ⌝ }
+    ensures { λ _. ⌜ now (out .exit) ≡ store (now (out .entry)) at (msBytes (switchesFrom (now (words .entry)) 0 (n * 16384))) ⌝ }
+{
+    let mut to = at;
+    let mut v = 0;
+    while v < n {
+        to = put_vcpu(out, to, words, v);
+        v += 1;
     }
 }
 
@@ -271,7 +323,7 @@ fn put_image(
     let last = rest + 14 * used;
     vm_record(out, n, events);
     put_vcpus(out, 8, ready, vcpus, n);
-    put_switches(out, switches, vcpus, (n as usize) * SWITCHES);
+    put_switches(out, switches, vcpus, n as usize);
     put_pages(out, rest, pages, used);
     en_record(out, last, 1 + (n as usize) + on + used);
 }
@@ -282,7 +334,7 @@ pub fn image_size(s: Session, vcpus: &[u64], pages: &[u64]) -> usize
 {
     let n = stated(s.settings.vcpus);
     let used = smaller(s.tool.pages as usize, pages.len());
-    let on = count_on(vcpus, (n as usize) * SWITCHES);
+    let on = count_on(vcpus, n as usize);
     size_of(n, on, used)
 }
 
@@ -304,7 +356,7 @@ pub fn write_image(s: Session, vcpus: &[u64], pages: &[u64], out: &mut [u8]) -> 
         };
     }
     let used = smaller(s.tool.pages as usize, pages.len());
-    let on = count_on(vcpus, (n as usize) * SWITCHES);
+    let on = count_on(vcpus, n as usize);
     let count = size_of(n, on, used);
     if out.len() < count {
         return Done {

@@ -1,56 +1,47 @@
--- The loop's invariant: so many switches were on, and those that are left are as many as were left out. The measure is what is left of the places. Assumes nothing.
+-- The loop's invariant: so many switches were on, and those that are left are as many as were left out. The measure is what is left of the vCPUs. Assumes nothing.
 use mathlib.Core.Path.{_≡_, ap, _∙_}
-use mathlib.Core.List.{List}
-use mathlib.Core.Bool.{true}
-use Prim.Native.Nat.{suc, _≤_, _<_, _+_, _-_}
+use Prim.Native.Nat.{_≤_, _+_, _-_, _*_}
 use native.Mathlib.Omega.{arith}
-use lib.ListN.{length}
-use Rattle.kvmi.specs.Tables.{Msr}
-use Rattle.image_writer.specs.Parts.{switchAt, switchesFrom}
-use Rattle.image_writer.proofs.Written.{from-none, from-on}
+use lib.ListN.{length, length-append}
+use Rattle.image_writer.specs.Parts.{switchesFrom}
+use Rattle.image_writer.proofs.Written.{vcpu-from, vcpus-none, from-bound}
 use Rattle.image_writer.proofs.count_on.Statement.{statement}
 use Rattle.image_writer.proofs.count_on.Tie as tie
 
 abbrev Inv-loop : tie.InvT-loop
-Inv-loop words end n₀ g₀ n g = (g ≤ end) × (n ≤ g) × (g < end → switchAt words g ≡ true) × (n + length (switchesFrom words g (end - g)) ≡ length (switchesFrom words 0 end))
+Inv-loop words n on₀ v₀ on v = (v ≤ n) × (on ≤ v * 16384) × (on + length (switchesFrom words (v * 16384) ((n - v) * 16384)) ≡ length (switchesFrom words 0 (n * 16384)))
 
 abbrev μ-loop : tie.MeasureT-loop
-μ-loop words end n₀ g₀ n g = end - g
-
-next-on-requires : tie.Need-next-on-requires Inv-loop μ-loop
-next-on-requires c κs = omega arith
+μ-loop words n on₀ v₀ on v = n - v
 
 loop-holds : tie.Need-loop-holds Inv-loop μ-loop
-loop-holds c =
-    let r = c .next-on .ensures in
-    let e : c .before .before .args .end - 0 ≡ c .before .before .args .end = omega arith in
-    (omega arith, omega arith, r .on, rw (← r .same, e) (omega arith))
+loop-holds c = let e : (c .before .args .n - 0) * 16384 ≡ c .before .args .n * 16384 = omega arith in (omega arith, omega arith, rw e (omega arith))
 
-add-n : tie.Need-add-n Inv-loop μ-loop
-add-n c = omega arith
+count-vcpu-requires : tie.Need-count-vcpu-requires Inv-loop μ-loop
+count-vcpu-requires c κs = omega arith
 
-add-next-on : tie.Need-add-next-on Inv-loop μ-loop
-add-next-on c = omega arith
+add-on : tie.Need-add-on Inv-loop μ-loop
+add-on c =
+    let all = from-bound (c .before .before .before .before .args .words .now) (c .before .before .loop .v * 16384) 16384 in
+    omega (arith, c .count-vcpu .ensures)
 
-next-on-requires-2 : tie.Need-next-on-requires-2 Inv-loop μ-loop
-next-on-requires-2 c κs = omega arith
+add-v : tie.Need-add-v Inv-loop μ-loop
+add-v c = omega arith
 
 loop-less : tie.Need-loop-less Inv-loop μ-loop
 loop-less c = omega arith
 
 loop-again : tie.Need-loop-again Inv-loop μ-loop
 loop-again c =
-    let l = c .before .before .loop in
-    let r = c .next-on2 .ensures in
-    let on = l .inv .2 (c .before .loop-test .taken) in
-    let e = ap length (from-on _ (l .g) _ (c .before .loop-test .taken) on) ∙ ap (λ (ms : List Msr). suc (length ms)) (r .same) in
-    (omega arith, omega arith, r .on, omega arith)
+    let w = c .before .before .before .before .args .words .now in
+    let all = from-bound w (c .before .before .loop .v * 16384) 16384 in
+    let next = ap length (vcpu-from w (c .before .before .loop .v) (c .before .before .before .before .args .n) (c .before .loop-test .taken)) ∙ length-append (switchesFrom w (c .before .before .loop .v * 16384) 16384) _ in
+    (omega arith, omega (arith, c .count-vcpu .ensures), omega (arith, c .before .before .loop .inv .2, c .count-vcpu .ensures))
 
 returns : tie.Need-returns Inv-loop μ-loop
 returns c =
-    let l = c .before .loop in
-    let e = ap length (from-none (c .before .before .before .before .args .words .now) (l .g) (c .before .before .before .before .args .end) (omega arith)) in
-    omega arith
+    let none = ap length (vcpus-none (c .before .before .before .args .words .now) (c .before .loop .v) (c .before .before .before .args .n) (omega arith)) in
+    omega (arith, c .before .loop .inv .2)
 
 pub count-on-spec : {M : Type 1} → statement M
 count-on-spec =
@@ -58,11 +49,10 @@ count-on-spec =
     (tie.spec
     Inv-loop
     μ-loop
-    next-on-requires
     loop-holds
-    add-n
-    add-next-on
-    next-on-requires-2
+    count-vcpu-requires
+    add-on
+    add-v
     loop-less
     loop-again
     returns)

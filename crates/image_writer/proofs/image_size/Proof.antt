@@ -16,9 +16,6 @@ smaller-requires c κs = search needs
 cast-count-on : tie.Need-cast-count-on
 cast-count-on c = search needs
 
-mul-count-on : tie.Need-mul-count-on
-mul-count-on c = search needs
-
 count-on-requires : tie.Need-count-on-requires
 count-on-requires c κs = search needs
 
@@ -37,7 +34,6 @@ image-size-spec =
     stated-requires
     smaller-requires
     cast-count-on
-    mul-count-on
     count-on-requires
     size-of-requires
     returns)

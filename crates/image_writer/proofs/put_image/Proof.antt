@@ -28,9 +28,6 @@ vm-record-requires c κs = search needs
 put-vcpus-requires : tie.Need-put-vcpus-requires
 put-vcpus-requires c κs = search needs
 
-mul-put-switches : tie.Need-mul-put-switches
-mul-put-switches c = search needs
-
 put-switches-requires : tie.Need-put-switches-requires
 put-switches-requires c κs = search needs
 
@@ -74,7 +71,6 @@ put-image-spec =
     add-last
     vm-record-requires
     put-vcpus-requires
-    mul-put-switches
     put-switches-requires
     put-pages-requires
     add-en-record
