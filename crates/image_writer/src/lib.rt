@@ -17,7 +17,6 @@ ghost use Rattle.kvmi.specs.Bits.{bit};
 ghost use Rattle.kvmi.specs.Record.{write};
 ghost use Rattle.kvmi.specs.Image.{vmRecord, vcRecord, msRecord, paRecord, enRecord, image};
 ghost use Rattle.kvmi.specs.Call.{awaitsAny};
-ghost use Rattle.store.specs.Words.{field};
 ghost use Rattle.store.specs.Meaning.{msrAt, vcpuOfWords, vcpusOf, pageOfWord, pagesOf};
 ghost use Rattle.session.specs.State.{state};
 ghost use Rattle.session.specs.Calls.{told};
@@ -254,10 +253,10 @@ fn put_bits(out: &mut [u8], at: usize, g: usize, w: u64) -> usize
     let mut p = g;
     let mut x = w;
     while x != 0 {
-        let k = u64::trailing_zeros(x);
-        ms_record(out, to, p + (k as usize));
+        let k = u64::trailing_zeros(x) as usize;
+        ms_record(out, to, p + k);
         to += 8;
-        p += (k as usize) + 1;
+        p += k + 1;
         x = x >> k >> 1;
     }
     to

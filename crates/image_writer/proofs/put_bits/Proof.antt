@@ -2,8 +2,7 @@
 use mathlib.Core.Path.{_≡_, ap, _∙_}
 use Prim.Native.Nat.{_≤_, _<_, _+_, _-_, _^_}
 use native.Mathlib.Omega.{arith}
-use lib.ListN.{length}
-use lib.Count.{trailingZeros}
+use lib.Count.{trailingZeros, trailing-le}
 use Rattle.kvmi.specs.Record.{MS}
 use Rattle.laws.proofs.Record.{length-write}
 use Rattle.image_writer.specs.Parts.{msBytes, bitsFrom}
@@ -22,15 +21,11 @@ loop-holds c =
     let all : c .before .args .g + 64 - c .before .args .g ≡ 64 = omega arith in
     (omega arith, omega arith, rw all (omega arith), rw all (going-start _ _ _ (rw length-ms (omega arith))))
 
-cast-ms-record : tie.Need-cast-ms-record Inv-loop μ-loop
-cast-ms-record c =
-    let low = lowest (c .before .before .loop .x) (c .before .before .loop .p) (c .before .before .before .before .args .g + 64 - c .before .before .loop .p) 64 (c .before .loop-test .taken) (c .before .before .loop .inv .2) (omega arith) in
-    omega (arith, low .inside)
+cast-k : tie.Need-cast-k Inv-loop μ-loop
+cast-k c = omega (arith, trailing-le 64 (c .before .loop .x))
 
 add-ms-record : tie.Need-add-ms-record Inv-loop μ-loop
-add-ms-record c =
-    let low = lowest (c .before .before .loop .x) (c .before .before .loop .p) (c .before .before .before .before .args .g + 64 - c .before .before .loop .p) 64 (c .before .loop-test .taken) (c .before .before .loop .inv .2) (omega arith) in
-    omega (arith, low .inside)
+add-ms-record c = omega (arith, trailing-le 64 (c .before .before .loop .x))
 
 ms-record-requires : tie.Need-ms-record-requires Inv-loop μ-loop
 ms-record-requires c κs =
@@ -46,25 +41,11 @@ add-to c =
     let g = c .before .before .before .before .before .loop .inv .3 in
     omega (arith, room, g .room, g .kept, c .before .before .before .before .before .before .before .good .0 .0)
 
-cast-p : tie.Need-cast-p Inv-loop μ-loop
-cast-p c =
-    let low = lowest (c .before .before .before .before .before .loop .x) (c .before .before .before .before .before .loop .p) (c .before .before .before .before .before .before .before .args .g + 64 - c .before .before .before .before .before .loop .p) 64 (c .before .before .before .before .loop-test .taken) (c .before .before .before .before .before .loop .inv .2) (omega arith) in
-    omega (arith, low .inside)
-
 add-p : tie.Need-add-p Inv-loop μ-loop
-add-p c =
-    let low = lowest (c .before .before .before .before .before .loop .x) (c .before .before .before .before .before .loop .p) (c .before .before .before .before .before .before .before .args .g + 64 - c .before .before .before .before .before .loop .p) 64 (c .before .before .before .before .loop-test .taken) (c .before .before .before .before .before .loop .inv .2) (omega arith) in
-    omega (arith, low .inside)
+add-p c = omega (arith, trailing-le 64 (c .before .before .before .before .before .loop .x))
 
 add-p-2 : tie.Need-add-p-2 Inv-loop μ-loop
-add-p-2 c =
-    let low = lowest (c .before .before .before .before .before .loop .x) (c .before .before .before .before .before .loop .p) (c .before .before .before .before .before .before .before .args .g + 64 - c .before .before .before .before .before .loop .p) 64 (c .before .before .before .before .loop-test .taken) (c .before .before .before .before .before .loop .inv .2) (omega arith) in
-    omega (arith, low .inside)
-
-cast-x : tie.Need-cast-x Inv-loop μ-loop
-cast-x c =
-    let low = lowest (c .before .before .before .before .before .loop .x) (c .before .before .before .before .before .loop .p) (c .before .before .before .before .before .before .before .args .g + 64 - c .before .before .before .before .before .loop .p) 64 (c .before .before .before .before .loop-test .taken) (c .before .before .before .before .before .loop .inv .2) (omega arith) in
-    omega (arith, low .inside)
+add-p-2 c = omega (arith, trailing-le 64 (c .before .before .before .before .before .loop .x))
 
 shr-x : tie.Need-shr-x Inv-loop μ-loop
 shr-x c =
@@ -79,7 +60,8 @@ loop-less c =
 loop-again : tie.Need-loop-again Inv-loop μ-loop
 loop-again c =
     let low = lowest (c .before .before .before .before .before .loop .x) (c .before .before .before .before .before .loop .p) (c .before .before .before .before .before .before .before .args .g + 64 - c .before .before .before .before .before .loop .p) 64 (c .before .before .before .before .loop-test .taken) (c .before .before .before .before .before .loop .inv .2) (omega arith) in
-    let left : c .before .before .before .before .before .before .before .args .g + 64 - c .before .before .before .before .before .loop .p - (trailingZeros 64 (c .before .before .before .before .before .loop .x) + 1) ≡ c .before .before .before .before .before .before .before .args .g + 64 - (c .before .before .before .before .before .loop .p + (trailingZeros 64 (c .before .before .before .before .before .loop .x) + 1)) = omega (arith, low .inside) in
+    let k = trailingZeros 64 (c .before .before .before .before .before .loop .x) in
+    let left : c .before .before .before .before .before .before .before .args .g + 64 - c .before .before .before .before .before .loop .p - (k + 1) ≡ c .before .before .before .before .before .before .before .args .g + 64 - (c .before .before .before .before .before .loop .p + (k + 1)) = omega (arith, low .inside) in
     let next = ap msBytes (low .first) ∙ ms-first _ _ in
     let step = going-step _ _ {q = c .before .before .before .before .before .loop .to + 8} (c .before .before .before .before .before .loop .inv .3) next (c .before .before .ms-record .ensures) (rw (length-write MS)) in
     (omega arith, omega (arith, low .inside), rw left at (low .less), rw left at step)
@@ -97,14 +79,12 @@ put-bits-spec =
     Inv-loop
     μ-loop
     loop-holds
-    cast-ms-record
+    cast-k
     add-ms-record
     ms-record-requires
     add-to
-    cast-p
     add-p
     add-p-2
-    cast-x
     shr-x
     loop-less
     loop-again
