@@ -114,7 +114,8 @@ pub enum Change {
     SetVmEvent { event: u16, on: bool },
     WritePhysical { gpa: u64 },
     QueuePause { vcpu: u16, wait: bool },
-    SetVcpuEvent { vcpu: u16, event: u16, on: bool },
+    // The event has the width of a register's number below, so that all three lie alike in memory.
+    SetVcpuEvent { vcpu: u16, event: u32, on: bool },
     SetCr { vcpu: u16, cr: u32, on: bool },
     SetMsr { vcpu: u16, msr: u32, on: bool },
     SetPages { view: u16, count: u16 },

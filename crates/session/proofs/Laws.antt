@@ -7,21 +7,16 @@ use native.Mathlib.Omega.{arith}
 use lib.IntN.{ℤ}
 use lib.ListN.{length, take, drop, length-drop, drop-of-length-le}
 use lib.Seq.{take-all}
-use denote.Enum.Declared.{tagOf}
-use types.Run.{OneOf, miss}
 use borrow.Author.Tests.{eq-eqb, le-leb}
 use Rattle.wire.specs.Bytes.{load}
 use Rattle.wire.proofs.Laws.{le-or-lt}
-use Rattle.kvmi.proofs.Change.{the-type}
 use Rattle.kvmi.specs.declared.Change.{Change}
-use Rattle.kvmi.specs.declared.Change.the-variants.{Nothing, SetVmEvent, WritePhysical, QueuePause, SetVcpuEvent, SetCr, SetMsr, SetPages, SetSinglestep, SetReplies, EndWait}
 use Rattle.kvmi.specs.declared.Facts.{Facts}
 use Rattle.kvmi.specs.declared.ReplyMode.{ReplyMode}
 use Rattle.kvmi.specs.declared.Signal.{Signal}
 use Rattle.kvmi.specs.declared.Signal.the-variants.{Quiet}
 use Rattle.kvmi.specs.declared.Verdict.{Verdict}
 use Rattle.kvmi.specs.declared.Verdict.the-variants.{Closes, Fails, Does}
-use Rattle.kvmi.specs.Change.{signalOf, modeFor}
 use Rattle.kvmi.specs.Message.{vcpuOf, layoutOf}
 use Rattle.kvmi.specs.Verdict.{verdict}
 use Rattle.kvmi.specs.declared.Answer.the-variants.{Handled}
@@ -30,10 +25,11 @@ use Rattle.kvmi.specs.Reply.{pauseEvent, answerOf, replyData}
 use Rattle.store.specs.Words.{field, setField, PAUSES, AWAITED, AWAITED-SEQ}
 use Rattle.reply.specs.Written.{Written}
 use Rattle.session.specs.declared.Done.{Done}
+use Rattle.session.specs.declared.Effect.{Effect}
 use Rattle.session.specs.declared.Session.{Session}
 use Rattle.session.specs.State.{State, state, modeOfNumber, factsIn, Changed, change, withTool, withToolSeq}
-use Rattle.session.specs.Calls.{told, toldClosing, answering, judgedOf, pausingOf}
-use Rattle.session.specs.Code.{PagesChanged, effect, cleanEffect, queuedPause, switchedField, switchedCr, endedWait, vcpusChanged, answeredBy, handledOf, enteredOf}
+use Rattle.session.specs.Calls.{Told, told, toldClosing, answering, judgedOf, pausingOf}
+use Rattle.session.specs.Code.{Applied, applied, after, effect, PagesChanged, answeredBy, handledOf, enteredOf}
 
 -- ---- parts of a list
 
@@ -52,86 +48,17 @@ behind-8 s from long short = ⊎-elim
     (λ h. rest-part s from ∙ ap (λ (n : ℕ). drop n s) (short h) ∙ drop-of-length-le s {i = length s} (omega arith) ∙ sym (drop-short 8 s h))
     (le-or-lt 8 (length s))
 
--- ---- the changes that an arm for all others stands for
-
-abbrev pub not-replies : List ℕ
-not-replies = 0 ∷ 1 ∷ 2 ∷ 3 ∷ 4 ∷ 5 ∷ 6 ∷ 7 ∷ 8 ∷ 10 ∷ []
-
-pub mode-kept : (old : ReplyMode) (c : Change) → OneOf not-replies (tagOf the-type c) → old ≡ modeFor old c
-mode-kept old Nothing o = refl
-mode-kept old (SetVmEvent event on) o = refl
-mode-kept old (WritePhysical gpa) o = refl
-mode-kept old (QueuePause vcpu wait) o = refl
-mode-kept old (SetVcpuEvent vcpu event on) o = refl
-mode-kept old (SetCr vcpu cr on) o = refl
-mode-kept old (SetMsr vcpu msr on) o = refl
-mode-kept old (SetPages view count) o = refl
-mode-kept old (SetSinglestep vcpu on) o = refl
-mode-kept old (SetReplies mode now) o = absurd (miss not-replies 9 tt o)
-mode-kept old (EndWait vcpu crash) o = refl
-
-abbrev pub not-signalled : List ℕ
-not-signalled = 0 ∷ 1 ∷ 2 ∷ 4 ∷ 5 ∷ 6 ∷ 7 ∷ 8 ∷ 9 ∷ []
-
-pub quiet : (c : Change) → OneOf not-signalled (tagOf the-type c) → Quiet ≡ signalOf c
-quiet Nothing o = refl
-quiet (SetVmEvent event on) o = refl
-quiet (WritePhysical gpa) o = refl
-quiet (QueuePause vcpu wait) o = absurd (miss not-signalled 3 tt o)
-quiet (SetVcpuEvent vcpu event on) o = refl
-quiet (SetCr vcpu cr on) o = refl
-quiet (SetMsr vcpu msr on) o = refl
-quiet (SetPages view count) o = refl
-quiet (SetSinglestep vcpu on) o = refl
-quiet (SetReplies mode now) o = refl
-quiet (EndWait vcpu crash) o = absurd (miss not-signalled 10 tt o)
-
-abbrev pub not-vcpus : List ℕ
-not-vcpus = 0 ∷ 1 ∷ 2 ∷ 7 ∷ 9 ∷ []
-
-pub vcpus-kept : (w : List ℕ) (c : Change) → OneOf not-vcpus (tagOf the-type c) → w ≡ vcpusChanged w c
-unfolding vcpusChanged
-vcpus-kept w Nothing o = refl
-vcpus-kept w (SetVmEvent event on) o = refl
-vcpus-kept w (WritePhysical gpa) o = refl
-vcpus-kept w (QueuePause vcpu wait) o = absurd (miss not-vcpus 3 tt o)
-vcpus-kept w (SetVcpuEvent vcpu event on) o = absurd (miss not-vcpus 4 tt o)
-vcpus-kept w (SetCr vcpu cr on) o = absurd (miss not-vcpus 5 tt o)
-vcpus-kept w (SetMsr vcpu msr on) o = absurd (miss not-vcpus 6 tt o)
-vcpus-kept w (SetPages view count) o = refl
-vcpus-kept w (SetSinglestep vcpu on) o = absurd (miss not-vcpus 8 tt o)
-vcpus-kept w (SetReplies mode now) o = refl
-vcpus-kept w (EndWait vcpu crash) o = absurd (miss not-vcpus 10 tt o)
-
-abbrev pub on-vcpus : List ℕ
-on-vcpus = 0 ∷ 3 ∷ 4 ∷ 5 ∷ 6 ∷ 8 ∷ 10 ∷ []
-
-pub vcpus-only : (s : Session) (v p guest d : List ℕ) (c : Change) → OneOf on-vcpus (tagOf the-type c)
-    → effect (cleanEffect s) (vcpusChanged v c) p guest ≡ change (state s v p) guest d c
-unfolding change vcpusChanged queuedPause switchedField switchedCr endedWait
-vcpus-only s v p guest d Nothing o = refl
-vcpus-only s v p guest d (SetVmEvent event on) o = absurd (miss on-vcpus 1 tt o)
-vcpus-only s v p guest d (WritePhysical gpa) o = absurd (miss on-vcpus 2 tt o)
-vcpus-only s v p guest d (QueuePause vcpu wait) o = refl
-vcpus-only s v p guest d (SetVcpuEvent vcpu event on) o = refl
-vcpus-only s v p guest d (SetCr vcpu cr on) o = refl
-vcpus-only s v p guest d (SetMsr vcpu msr on) o = refl
-vcpus-only s v p guest d (SetPages view count) o = absurd (miss on-vcpus 7 tt o)
-vcpus-only s v p guest d (SetSinglestep vcpu on) o = refl
-vcpus-only s v p guest d (SetReplies mode now) o = absurd (miss on-vcpus 9 tt o)
-vcpus-only s v p guest d (EndWait vcpu crash) o = refl
-
 -- the change of a run of entries
-abbrev pub paged : List ℕ → List ℕ → PagesChanged → Changed
-paged v guest x = record { state = state (x .session) v (x .pages); guest = guest; code = x .code }
+abbrev pub paged : Session → List ℕ → List ℕ → PagesChanged → Applied
+paged s v guest x = effect s (x .effect) v (x .pages) guest
 
 -- ---- an answer written, and the seq after it
-pub answered-as : (s : Session) (v p d out after guest : List ℕ) (mode : ReplyMode) (id seq count : ℕ) (code : ℤ) (signal : Signal) (r : Done)
-    → Written out after count (answerOf (layoutOf id .reply) mode (s .tool .seq) id seq code (replyData (s .settings) guest id d))
-    → r ≡ answeredBy s mode code count signal
-    → told r v p after guest ≡ answering mode id seq code d signal out guest (state s v p)
+pub answered-as : (s : Session) (e : Effect) (v p d out written guest : List ℕ) (id seq count : ℕ) (r : Done)
+    → Written out written count (answerOf (layoutOf id .reply) (e .mode) (e .tool .seq) id seq (e .code) (replyData (s .settings) guest id d))
+    → r ≡ answeredBy s e count
+    → told r v p written guest ≡ answering (e .mode) id seq (e .code) d (e .signal) out guest (state (after s e) v p)
 unfolding answering
-answered-as s v p d out after guest mode id seq count code signal r wrote e = rw e (simp (wrote .count, wrote .there))
+answered-as s e v p d out written guest id seq count r wrote eq = rw eq (simp (wrote .count, wrote .there))
 
 -- ---- a message by its verdict
 
@@ -148,26 +75,26 @@ module _ (st : State) (id seq : ℕ) (d out guest : List ℕ) (n : ℕ) (f : Fac
     unfolding judgedOf
     closes-as i = ap (λ (x : Verdict). judgedOf st id seq d out guest x) (sym i) ∙ judged-as
 
-    -- the code that is passed on is the verdict's, or the change's
-    pub fails-as : (code told : ℤ) (m : ReplyMode) → v ≡ Fails code → told ≡ code → m ≡ modeOfNumber (st .session .tool .mode)
-        → answering m id seq told d Quiet out guest st ≡ handledOf st id seq d out guest
+    -- the answer to what was done
+    abbrev pub answered-by : Applied → Told
+    answered-by x = answering (x .mode) id seq (x .changed .code) d (x .signal) out (x .changed .guest) (x .changed .state)
+
+    pub fails-as : (code : ℤ) (m : ReplyMode) (x : Applied) → v ≡ Fails code → m ≡ modeOfNumber (st .session .tool .mode)
+        → x ≡ record { changed = record { state = st; guest = guest; code = code }; mode = m; signal = Quiet }
+        → answered-by x ≡ handledOf st id seq d out guest
     unfolding judgedOf
-    fails-as code told m i t j =
-        ap (λ (x : ReplyMode). answering x id seq told d Quiet out guest st) j
-        ∙ ap (λ (x : ℤ). answering (modeOfNumber (st .session .tool .mode)) id seq x d Quiet out guest st) t
-        ∙ ap (λ (x : Verdict). judgedOf st id seq d out guest x) (sym i)
+    fails-as code m x i j k =
+        ap answered-by k
+        ∙ ap (λ (y : ReplyMode). answering y id seq code d Quiet out guest st) j
+        ∙ ap (λ (y : Verdict). judgedOf st id seq d out guest y) (sym i)
         ∙ judged-as
 
-    pub does-as : (c : Change) (told : ℤ) (m by : ReplyMode) (signal : Signal) (x : Changed) → v ≡ Does c → told ≡ x .code
-        → m ≡ modeOfNumber (st .session .tool .mode) → by ≡ modeFor m c → signal ≡ signalOf c → x ≡ change st guest d c
-        → answering by id seq told d signal out (x .guest) (x .state) ≡ handledOf st id seq d out guest
+    pub does-as : (c : Change) (m : ReplyMode) (x : Applied) → v ≡ Does c → m ≡ modeOfNumber (st .session .tool .mode)
+        → x ≡ applied st m guest d c → answered-by x ≡ handledOf st id seq d out guest
     unfolding judgedOf
-    does-as c told m by signal x i t j k l o =
-        let now = modeFor (modeOfNumber (st .session .tool .mode)) c in
-        ap (λ (y : ReplyMode). answering y id seq told d signal out (x .guest) (x .state)) (k ∙ ap (λ (y : ReplyMode). modeFor y c) j)
-        ∙ ap (λ (y : ℤ). answering now id seq y d signal out (x .guest) (x .state)) t
-        ∙ ap (λ (y : Signal). answering now id seq (x .code) d y out (x .guest) (x .state)) l
-        ∙ ap (λ (y : Changed). answering now id seq (y .code) d (signalOf c) out (y .guest) (y .state)) o
+    does-as c m x i j k =
+        ap answered-by k
+        ∙ ap (λ (y : ReplyMode). answered-by (applied st y guest d c)) j
         ∙ ap (λ (y : Verdict). judgedOf st id seq d out guest y) (sym i)
         ∙ judged-as
 

@@ -10,25 +10,43 @@ use Rattle.kvmi.specs.declared.ReplyMode.{ReplyMode}
 use Rattle.kvmi.specs.declared.Signal.{Signal}
 use Rattle.kvmi.specs.declared.Signal.the-variants.{Quiet}
 use Rattle.kvmi.specs.declared.Change.{Change}
-use Rattle.kvmi.specs.declared.Change.the-variants.{Nothing, SetVmEvent, WritePhysical, QueuePause, SetVcpuEvent, SetCr, SetMsr, SetPages, SetSinglestep, SetReplies, EndWait}
-use Rattle.kvmi.specs.Bits.{bit, putBit}
+use Rattle.kvmi.specs.Bits.{putBit}
 use Rattle.kvmi.specs.Codes.{OK, ENOMEM}
 use Rattle.kvmi.specs.Tables.{crBit}
 use Rattle.kvmi.specs.Message.{vcpuOf, entriesOf}
 use Rattle.kvmi.specs.Verdict.{verdict}
-use Rattle.kvmi.specs.Change.{pageLimit}
+use Rattle.kvmi.specs.Change.{pageLimit, signalOf, modeFor}
 use Rattle.kvmi.specs.Reply.{answerSeq}
-use Rattle.store.specs.Words.{field, setField, setMsrBit, SINGLESTEP, CRS, EVENTS, PAUSES, AWAITED, AWAITED-SEQ}
+use Rattle.store.specs.Words.{field, setField, CRS, PAUSES, AWAITED, AWAITED-SEQ}
 use Rattle.store.specs.PageWords.{PageTable, runEntries}
 use Rattle.session.specs.declared.Done.{Done}
 use Rattle.session.specs.declared.Effect.{Effect}
 use Rattle.session.specs.declared.Session.{Session}
-use Rattle.session.specs.State.{State, state, putBit64, factsIn, Changed, changedPages, withTool, withToolPages, withToolSeq}
+use Rattle.session.specs.declared.Tool.{Tool}
+use Rattle.session.specs.State.{State, state, putBit64, factsIn, Changed, change, withTool, withToolPages, withToolSeq}
 use Rattle.session.specs.Calls.{Told, toldSame, toldWritten, judgedOf, pausingOf}
 
--- a change's result, with the lent words and bytes at exit
-abbrev pub effect : Effect → List ℕ → List ℕ → List ℕ → Changed
-effect r vcpus pages guest = record { state = state (r .session) vcpus pages; guest = guest; code = r .code }
+-- a change, and how it is answered
+pub record Applied : Type 0 where
+  pub changed : Changed
+  pub mode : ReplyMode
+  pub signal : Signal
+
+abbrev pub applied : State → ReplyMode → List ℕ → List ℕ → Change → Applied
+applied st mode guest d c = record { changed = change st guest d c; mode = modeFor mode c; signal = signalOf c }
+
+-- the session after an effect
+abbrev pub after : Session → Effect → Session
+after s r = withTool s (r .tool)
+
+-- an effect on a session, with the lent words and bytes at exit
+abbrev pub effect : Session → Effect → List ℕ → List ℕ → List ℕ → Applied
+effect s r vcpus pages guest =
+    record {
+      changed = record { state = state (after s r) vcpus pages; guest = guest; code = r .code };
+      mode = r .mode;
+      signal = r .signal;
+    }
 
 unfoldable pub queuedPause : List ℕ → ℕ → List ℕ
 queuedPause w vcpu = setField w vcpu PAUSES ((field w vcpu PAUSES + 1) % 2 ^ 64)
@@ -42,42 +60,30 @@ switchedCr w vcpu cr on = setField w vcpu CRS (putBit (field w vcpu CRS) (crBit 
 unfoldable pub endedWait : List ℕ → ℕ → List ℕ
 endedWait w vcpu = setField (setField w vcpu AWAITED 0) vcpu AWAITED-SEQ 0
 
-abbrev pub cleanEffect : Session → Effect
-cleanEffect s = record { session = s; code = OK }
+abbrev pub cleanEffect : Tool → ReplyMode → Signal → Effect
+cleanEffect t mode signal = record { tool = t; code = OK; mode = mode; signal = signal }
+
+abbrev pub codeEffect : Tool → ReplyMode → ℤ → Effect
+codeEffect t mode code = record { tool = t; code = code; mode = mode; signal = Quiet }
 
 -- ---- message 13
 pub record PagesChanged : Type 0 where
-  pub session : Session
+  pub effect : Effect
   pub pages : List ℕ
-  pub code : ℤ
 
 abbrev pub pagesEffect : Effect → List ℕ → PagesChanged
-pagesEffect r pages = record { session = r .session; pages = pages; code = r .code }
+pagesEffect r pages = record { effect = r; pages = pages }
 
-abbrev pub pagesTaken : Session → PageTable → PagesChanged
-pagesTaken s t = record { session = withTool s (withToolPages (s .tool) (t .count)); pages = t .words; code = cond (t .skipped) ENOMEM OK }
+abbrev pub pagesTaken : Tool → ReplyMode → PageTable → PagesChanged
+pagesTaken t mode p = record { effect = codeEffect (withToolPages t (p .count)) mode (cond (p .skipped) ENOMEM OK); pages = p .words }
 
-unfoldable pub pagesSet : Session → List ℕ → ℕ → ℕ → List ℕ → PagesChanged
-pagesSet s pages view count d = pagesTaken s (runEntries pageLimit view (entriesOf count (drop 8 d)) pages (s .tool .pages))
-
--- ---- the vCPU words after a change
-unfoldable pub vcpusChanged : List ℕ → Change → List ℕ
-vcpusChanged w Nothing = w
-vcpusChanged w (SetVmEvent event on) = w
-vcpusChanged w (WritePhysical gpa) = w
-vcpusChanged w (QueuePause vcpu wait) = queuedPause w vcpu
-vcpusChanged w (SetVcpuEvent vcpu event on) = switchedField w vcpu EVENTS event on
-vcpusChanged w (SetCr vcpu cr on) = switchedCr w vcpu cr on
-vcpusChanged w (SetMsr vcpu msr on) = setMsrBit w vcpu msr on
-vcpusChanged w (SetPages view count) = w
-vcpusChanged w (SetSinglestep vcpu on) = setField w vcpu SINGLESTEP (bit on)
-vcpusChanged w (SetReplies mode now) = w
-vcpusChanged w (EndWait vcpu crash) = endedWait w vcpu
+unfoldable pub pagesSet : Tool → ReplyMode → List ℕ → ℕ → ℕ → List ℕ → PagesChanged
+pagesSet t mode pages view count d = pagesTaken t mode (runEntries pageLimit view (entriesOf count (drop 8 d)) pages (t .pages))
 
 -- ---- parts of the calls
-abbrev pub answeredBy : Session → ReplyMode → ℤ → ℕ → Signal → Done
-answeredBy s mode code count signal =
-    record { answer = Handled count signal; session = withTool s (withToolSeq (s .tool) (answerSeq mode (s .tool .seq) code)) }
+abbrev pub answeredBy : Session → Effect → ℕ → Done
+answeredBy s e count =
+    record { answer = Handled count (e .signal); session = withTool s (withToolSeq (e .tool) (answerSeq (e .mode) (e .tool .seq) (e .code))) }
 
 unfoldable pub handledOf : State → ℕ → ℕ → List ℕ → List ℕ → List ℕ → Told
 handledOf st id seq d out guest = judgedOf st id seq d out guest (verdict (st .session .settings) (factsIn st (length guest) (vcpuOf d)) id seq d)

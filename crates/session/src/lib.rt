@@ -18,11 +18,10 @@ ghost use Rattle.kvmi.specs.Reply.{answerOf, replyData};
 ghost use Rattle.reply.specs.Written.{Written};
 ghost use Rattle.kvmi.specs.Settings.{inRange};
 ghost use Rattle.kvmi.specs.Verdict.{verdict};
-ghost use Rattle.kvmi.specs.Change.{signalOf, modeFor};
 ghost use Rattle.store.specs.Words.{field, setField, PAUSES, AWAITED, AWAITED-SEQ};
-ghost use Rattle.session.specs.State.{state, freshSession, closedSession, withTool, withToolEvents, withToolMode, withToolSeq, withToolPages, withReadyBits, modeOfNumber, numberOfMode, putBit64, factsIn, change};
+ghost use Rattle.session.specs.State.{state, freshSession, closedSession, withTool, withToolEvents, withToolMode, withToolSeq, withToolPages, withReadyBits, modeOfNumber, numberOfMode, putBit64, factsIn};
 ghost use Rattle.session.specs.Calls.{told, toldClosing, freshOf, judgedOf, messageOf, readyOf, pausingOf, enterOf};
-ghost use Rattle.session.specs.Code.{effect, cleanEffect, queuedPause, switchedField, switchedCr, endedWait, pagesEffect, pagesSet, vcpusChanged, answeredBy, handledOf, enteredOf, countsFit};
+ghost use Rattle.session.specs.Code.{applied, effect, cleanEffect, codeEffect, queuedPause, switchedField, switchedCr, endedWait, pagesEffect, pagesSet, answeredBy, handledOf, enteredOf, countsFit};
 
 // What one introspection tool owns: unsigned integers only, so that any bits are a value. A flag is set where it is not 0.
 #[repr(C)]
@@ -46,16 +45,45 @@ pub struct Session {
     pub ready: u64,
 }
 
-// What a call gives back: its answer, and the session after it.
+// What a call gives back: its answer, and the session after it. The session stands first, so that it is copied by whole words.
 pub struct Done {
-    pub answer: Answer,
     pub session: Session,
+    pub answer: Answer,
 }
 
-// What a change gives: the session after it, and 0 or the error that it met.
+// What a change gives: what the tool owns after it, 0 or the error that it met, the mode by which it is answered, and what
+// the host is to do.
 pub struct Effect {
-    pub session: Session,
+    pub tool: Tool,
     pub code: i32,
+    pub mode: ReplyMode,
+    pub signal: Signal,
+}
+
+impl Tool {
+    fn with_events(self, events: u64) -> Self
+        ensures { λ r. ⌜ r ≡ withToolEvents self events ⌝ }
+    {
+        let mut t = self;
+        t.events = events;
+        t
+    }
+
+    fn with_mode(self, mode: u32) -> Self
+        ensures { λ r. ⌜ r ≡ withToolMode self mode ⌝ }
+    {
+        let mut t = self;
+        t.mode = mode;
+        t
+    }
+
+    fn with_pages(self, pages: u64) -> Self
+        ensures { λ r. ⌜ r ≡ withToolPages self pages ⌝ }
+    {
+        let mut t = self;
+        t.pages = pages;
+        t
+    }
 }
 
 impl Session {
@@ -105,19 +133,11 @@ impl Session {
         }
     }
 
-    fn with_events(self, events: u64) -> Self
-        ensures { λ r. ⌜ r ≡ withTool self (withToolEvents (self .tool) events) ⌝ }
+    fn with_tool(self, tool: Tool) -> Self
+        ensures { λ r. ⌜ r ≡ withTool self tool ⌝ }
     {
         let mut s = self;
-        s.tool.events = events;
-        s
-    }
-
-    fn with_mode(self, mode: u32) -> Self
-        ensures { λ r. ⌜ r ≡ withTool self (withToolMode (self .tool) mode) ⌝ }
-    {
-        let mut s = self;
-        s.tool.mode = mode;
+        s.tool = tool;
         s
     }
 
@@ -126,14 +146,6 @@ impl Session {
     {
         let mut s = self;
         s.tool.seq = seq;
-        s
-    }
-
-    fn with_pages(self, pages: u64) -> Self
-        ensures { λ r. ⌜ r ≡ withTool self (withToolPages (self .tool) pages) ⌝ }
-    {
-        let mut s = self;
-        s.tool.pages = pages;
         s
     }
 }
@@ -175,33 +187,6 @@ fn facts_of(s: Session, vcpus: &[u64], guest: usize, vcpu: u16) -> Facts
     }
 }
 
-// What a change has the host do.
-fn signal_of(c: Change) -> Signal
-    ensures { λ r. ⌜ r ≡ signalOf c ⌝ }
-{
-    match c {
-        Change::QueuePause { vcpu, wait } => Signal::Kick { vcpu, wait },
-        Change::EndWait { vcpu, crash } => {
-            if crash {
-                Signal::Crash { vcpu }
-            } else {
-                Signal::Quiet
-            }
-        }
-        _ => Signal::Quiet,
-    }
-}
-
-// The mode by which a message is answered.
-fn mode_for(old: ReplyMode, c: Change) -> ReplyMode
-    ensures { λ r. ⌜ r ≡ modeFor old c ⌝ }
-{
-    match c {
-        Change::SetReplies { mode, now } => { if now { mode } else { old } }
-        _ => old,
-    }
-}
-
 // One pause more in a vCPU's queue.
 fn queue_pause(vcpus: &mut [u64], vcpu: u16)
     ensures { λ _. ⌜ now (vcpus .exit) ≡ queuedPause (now (vcpus .entry)) vcpu ⌝ }
@@ -237,11 +222,35 @@ fn end_wait(vcpus: &mut [u64], vcpu: u16)
     store::words::write_field(vcpus, vcpu, store::words::AWAITED_SEQ, 0);
 }
 
-// No error.
-fn clean(session: Session) -> Effect
-    ensures { λ r. ⌜ r ≡ cleanEffect session ⌝ }
+// No error, and something for the host to do.
+fn signalling(tool: Tool, mode: ReplyMode, signal: Signal) -> Effect
+    ensures { λ r. ⌜ r ≡ cleanEffect tool mode signal ⌝ }
 {
-    Effect { session, code: 0 }
+    Effect {
+        tool,
+        code: 0,
+        mode,
+        signal,
+    }
+}
+
+// No error, and nothing for the host to do.
+fn quiet(tool: Tool, mode: ReplyMode) -> Effect
+    ensures { λ r. ⌜ r ≡ cleanEffect tool mode Signal.Quiet ⌝ }
+{
+    signalling(tool, mode, Signal::Quiet)
+}
+
+// An error that changes nothing.
+fn failing(tool: Tool, mode: ReplyMode, code: i32) -> Effect
+    ensures { λ r. ⌜ r ≡ codeEffect tool mode code ⌝ }
+{
+    Effect {
+        tool,
+        code,
+        mode,
+        signal: Signal::Quiet,
+    }
 }
 
 // VM_WRITE_PHYSICAL: the bytes after the 16 that name the place, where all of them lie inside.
@@ -254,11 +263,18 @@ fn write_guest(guest: &mut [u8], gpa: u64, d: &[u8])
 }
 
 // VM_SET_PAGE_ACCESS: its entries stand behind the first 8 bytes.
-fn set_pages(s: Session, pages: &mut [u64], view: u16, count: u16, d: &[u8]) -> Effect
-    ensures { λ r. ⌜ pagesEffect r (now (pages .exit)) ≡ pagesSet s (now (pages .entry)) view count (now (d .entry)) ⌝ }
+fn set_pages(
+    tool: Tool,
+    mode: ReplyMode,
+    pages: &mut [u64],
+    view: u16,
+    count: u16,
+    d: &[u8],
+) -> Effect
+    ensures { λ r. ⌜ pagesEffect r (now (pages .exit)) ≡ pagesSet tool mode (now (pages .entry)) view count (now (d .entry)) ⌝ }
 {
     let from = if 8 <= d.len() { 8 } else { d.len() };
-    let used = s.tool.pages as usize;
+    let used = tool.pages as usize;
     let taken = store::pages::put_entries(
         pages,
         used,
@@ -267,65 +283,72 @@ fn set_pages(s: Session, pages: &mut [u64], view: u16, count: u16, d: &[u8]) -> 
         count,
         &d[from..],
     );
-    let session = s.with_pages(taken.count as u64);
+    let after = tool.with_pages(taken.count as u64);
     if taken.skipped {
-        return Effect { session, code: -12 };
+        return failing(after, mode, -12);
     }
-    Effect { session, code: 0 }
+    quiet(after, mode)
 }
 
-// The changes of one vCPU's words.
-fn apply_vcpu(vcpus: &mut [u64], c: Change)
-    ensures { λ _. ⌜ now (vcpus .exit) ≡ vcpusChanged (now (vcpus .entry)) c ⌝ }
-{
-    match c {
-        Change::QueuePause { vcpu, wait: _ } => queue_pause(vcpus, vcpu),
-        Change::SetVcpuEvent { vcpu, event, on } => switch_field(
-            vcpus,
-            vcpu,
-            store::words::EVENTS,
-            event as u32,
-            on,
-        ),
-        Change::SetCr { vcpu, cr, on } => switch_cr(vcpus, vcpu, cr, on),
-        Change::SetMsr { vcpu, msr, on } => store::words::write_msr(vcpus, vcpu, msr, on),
-        Change::SetSinglestep { vcpu, on } => store::words::write_field(
-            vcpus,
-            vcpu,
-            store::words::SINGLESTEP,
-            on as u64,
-        ),
-        Change::EndWait { vcpu, crash: _ } => end_wait(vcpus, vcpu),
-        _ => {}
-    }
-}
-
-// A change on the session and its words.
+// A change on what the tool owns and on the lent words; of all else nothing changes.
 fn apply(
     s: Session,
+    mode: ReplyMode,
     vcpus: &mut [u64],
     pages: &mut [u64],
     guest: &mut [u8],
     d: &[u8],
     c: Change,
 ) -> Effect
-    ensures { λ r. ⌜ effect r (now (vcpus .exit)) (now (pages .exit)) (now (guest .exit)) ≡ change (state s (now (vcpus .entry)) (now (pages .entry))) (now (guest .entry)) (now (d .entry)) c ⌝ }
+    ensures { λ r. ⌜ effect s r (now (vcpus .exit)) (now (pages .exit)) (now (guest .exit)) ≡ applied (state s (now (vcpus .entry)) (now (pages .entry))) mode (now (guest .entry)) (now (d .entry)) c ⌝ }
 {
+    let tool = s.tool;
     match c {
-        Change::SetVmEvent { event, on } => clean(s.with_events(store::bits::put_bit(
-            s.tool.events,
-            event as u32,
-            on,
-        ))),
+        Change::Nothing => quiet(tool, mode),
+        Change::SetVmEvent { event, on } => {
+            let events = store::bits::put_bit(tool.events, event as u32, on);
+            quiet(tool.with_events(events), mode)
+        }
         Change::WritePhysical { gpa } => {
             write_guest(guest, gpa, d);
-            clean(s)
+            quiet(tool, mode)
         }
-        Change::SetPages { view, count } => set_pages(s, pages, view, count, d),
-        Change::SetReplies { mode, now: _ } => clean(s.with_mode(mode_number(mode))),
-        _ => {
-            apply_vcpu(vcpus, c);
-            clean(s)
+        Change::QueuePause { vcpu, wait } => {
+            queue_pause(vcpus, vcpu);
+            signalling(tool, mode, Signal::Kick { vcpu, wait })
+        }
+        Change::SetVcpuEvent { vcpu, event, on } => {
+            switch_field(vcpus, vcpu, store::words::EVENTS, event, on);
+            quiet(tool, mode)
+        }
+        Change::SetCr { vcpu, cr, on } => {
+            switch_cr(vcpus, vcpu, cr, on);
+            quiet(tool, mode)
+        }
+        Change::SetMsr { vcpu, msr, on } => {
+            store::words::write_msr(vcpus, vcpu, msr, on);
+            quiet(tool, mode)
+        }
+        Change::SetPages { view, count } => set_pages(tool, mode, pages, view, count, d),
+        Change::SetSinglestep { vcpu, on } => {
+            store::words::write_field(vcpus, vcpu, store::words::SINGLESTEP, on as u64);
+            quiet(tool, mode)
+        }
+        Change::SetReplies { mode: to, now } => {
+            let after = tool.with_mode(mode_number(to));
+            if now {
+                quiet(after, to)
+            } else {
+                quiet(after, mode)
+            }
+        }
+        Change::EndWait { vcpu, crash } => {
+            end_wait(vcpus, vcpu);
+            if crash {
+                signalling(tool, mode, Signal::Crash { vcpu })
+            } else {
+                quiet(tool, mode)
+            }
         }
     }
 }
@@ -363,12 +386,16 @@ fn put_answer(
 }
 
 // A message that was answered: the seq after it is the session's next.
-fn answered(s: Session, mode: ReplyMode, code: i32, count: usize, signal: Signal) -> Done
-    ensures { λ r. ⌜ r ≡ answeredBy s mode code count signal ⌝ }
+fn answered(s: Session, e: Effect, count: usize) -> Done
+    ensures { λ r. ⌜ r ≡ answeredBy s e count ⌝ }
 {
+    let mode = e.mode;
+    let signal = e.signal;
+    let tool = e.tool;
+    let seq = reply::seq_after(mode, tool.seq, e.code);
     Done {
+        session: s.with_tool(tool).with_seq(seq),
         answer: Answer::Handled { count, signal },
-        session: s.with_seq(reply::seq_after(mode, s.tool.seq, code)),
     }
 }
 
@@ -390,22 +417,14 @@ fn handle(
     let settings = s.settings;
     let mode = mode_of(s.tool.mode);
     let v = verdict::judge(settings, facts, id, seq, d);
-    match v {
-        Verdict::Closes => close(s, vcpus, pages),
-        Verdict::Fails(code) => {
-            let count = put_answer(settings, mode, s.tool.seq, id, seq, code, d, out, guest);
-            answered(s, mode, code, count, Signal::Quiet)
-        }
-        Verdict::Does(c) => {
-            let by = mode_for(mode, c);
-            let signal = signal_of(c);
-            let e = apply(s, vcpus, pages, guest, d, c);
-            let t = e.session;
-            let code = e.code;
-            let count = put_answer(t.settings, by, t.tool.seq, id, seq, code, d, out, guest);
-            answered(t, by, code, count, signal)
-        }
-    }
+    let e = match v {
+        Verdict::Closes => return close(s, vcpus, pages),
+        Verdict::Fails(code) => failing(s.tool, mode, code),
+        Verdict::Does(c) => apply(s, mode, vcpus, pages, guest, d, c),
+    };
+    let by = e.mode;
+    let count = put_answer(settings, by, e.tool.seq, id, seq, e.code, d, out, guest);
+    answered(s, e, count)
 }
 
 // A session begins fresh, on whatever words are lent. Settings out of range are refused: no word changes, and the

@@ -111,7 +111,11 @@ pub fn control_vcpu_events(settings: Settings, facts: Facts, d: &[u8]) -> Verdic
     c.denied = !tests::is_on(settings.events, event);
     c.unsupported = on & ((event == 8) & !tests::is_set(settings.descriptors));
     c.busy = on & ((event == 4) & tests::is_set(settings.breakpoints));
-    c.decide(Change::SetVcpuEvent { vcpu, event, on })
+    c.decide(Change::SetVcpuEvent {
+        vcpu,
+        event: event as u32,
+        on,
+    })
 }
 
 // VCPU_CONTROL_CR.

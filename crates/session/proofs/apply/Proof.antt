@@ -1,11 +1,17 @@
--- Each change of the session, the pages or guest memory; all others change the words of a vCPU. Assumes nothing.
+-- Each change by itself. Assumes nothing.
 use mathlib.Core.Path.{ap}
 use Rattle.session.specs.State.{putBit64, change}
-use Rattle.session.specs.Code.{pagesSet, PagesChanged}
-use Rattle.session.proofs.Laws.{vcpus-only, paged}
+use Rattle.session.specs.Code.{queuedPause, switchedField, switchedCr, endedWait, pagesSet, PagesChanged}
+use Rattle.session.proofs.Laws.{paged}
 use borrow.Author.Needs.{needs}
 use Rattle.session.proofs.apply.Statement.{statement}
 use Rattle.session.proofs.apply.Tie as tie
+
+enum-told : tie.Need-enum-told
+enum-told c = search needs
+
+quiet-requires : tie.Need-quiet-requires
+quiet-requires c κs = search needs
 
 enum-known-c : tie.Need-enum-known-c
 enum-known-c c = search needs
@@ -19,8 +25,8 @@ put-bit-requires c κs = search needs
 with-events-requires : tie.Need-with-events-requires
 with-events-requires c κs = search needs
 
-clean-requires : tie.Need-clean-requires
-clean-requires c κs = search needs
+quiet-requires-2 : tie.Need-quiet-requires-2
+quiet-requires-2 c κs = search needs
 
 enum-known-c-2 : tie.Need-enum-known-c-2
 enum-known-c-2 c = search needs
@@ -28,17 +34,65 @@ enum-known-c-2 c = search needs
 write-guest-requires : tie.Need-write-guest-requires
 write-guest-requires c κs = search needs
 
-clean-requires-2 : tie.Need-clean-requires-2
-clean-requires-2 c κs = search needs
+quiet-requires-3 : tie.Need-quiet-requires-3
+quiet-requires-3 c κs = search needs
 
 enum-known-c-3 : tie.Need-enum-known-c-3
 enum-known-c-3 c = search needs
 
-set-pages-requires : tie.Need-set-pages-requires
-set-pages-requires c κs = search needs
+queue-pause-requires : tie.Need-queue-pause-requires
+queue-pause-requires c κs = search needs
+
+signalling-requires : tie.Need-signalling-requires
+signalling-requires c κs = search needs
 
 enum-known-c-4 : tie.Need-enum-known-c-4
 enum-known-c-4 c = search needs
+
+switch-field-requires : tie.Need-switch-field-requires
+switch-field-requires c κs = search needs
+
+quiet-requires-4 : tie.Need-quiet-requires-4
+quiet-requires-4 c κs = search needs
+
+enum-known-c-5 : tie.Need-enum-known-c-5
+enum-known-c-5 c = search needs
+
+switch-cr-requires : tie.Need-switch-cr-requires
+switch-cr-requires c κs = search needs
+
+quiet-requires-5 : tie.Need-quiet-requires-5
+quiet-requires-5 c κs = search needs
+
+enum-known-c-6 : tie.Need-enum-known-c-6
+enum-known-c-6 c = search needs
+
+write-msr-requires : tie.Need-write-msr-requires
+write-msr-requires c κs = search needs
+
+quiet-requires-6 : tie.Need-quiet-requires-6
+quiet-requires-6 c κs = search needs
+
+enum-known-c-7 : tie.Need-enum-known-c-7
+enum-known-c-7 c = search needs
+
+set-pages-requires : tie.Need-set-pages-requires
+set-pages-requires c κs = search needs
+
+enum-known-c-8 : tie.Need-enum-known-c-8
+enum-known-c-8 c = search needs
+
+cast-write-field : tie.Need-cast-write-field
+cast-write-field c = search needs
+
+write-field-requires : tie.Need-write-field-requires
+write-field-requires c κs = search needs
+
+quiet-requires-7 : tie.Need-quiet-requires-7
+quiet-requires-7 c κs = search needs
+
+enum-known-c-9 : tie.Need-enum-known-c-9
+enum-known-c-9 c = search needs
 
 mode-number-requires : tie.Need-mode-number-requires
 mode-number-requires c κs = search needs
@@ -46,68 +100,163 @@ mode-number-requires c κs = search needs
 with-mode-requires : tie.Need-with-mode-requires
 with-mode-requires c κs = search needs
 
-clean-requires-3 : tie.Need-clean-requires-3
-clean-requires-3 c κs = search needs
+quiet-requires-8 : tie.Need-quiet-requires-8
+quiet-requires-8 c κs = search needs
 
-apply-vcpu-requires : tie.Need-apply-vcpu-requires
-apply-vcpu-requires c κs = search needs
+quiet-requires-9 : tie.Need-quiet-requires-9
+quiet-requires-9 c κs = search needs
 
-clean-requires-4 : tie.Need-clean-requires-4
-clean-requires-4 c κs = search needs
+enum-known-c-10 : tie.Need-enum-known-c-10
+enum-known-c-10 c = search needs
+
+end-wait-requires : tie.Need-end-wait-requires
+end-wait-requires c κs = search needs
+
+signalling-requires-2 : tie.Need-signalling-requires-2
+signalling-requires-2 c κs = search needs
+
+quiet-requires-10 : tie.Need-quiet-requires-10
+quiet-requires-10 c κs = search needs
 
 returns : tie.Need-returns
+unfolding change
+returns c = simp (c .before .enum-told .given .1, c .quiet .ensures)
+
+returns-2 : tie.Need-returns-2
 unfolding change putBit64
-returns c = simp (c .before .before .before .before .c .given .1, c .clean .ensures, c .before .with-events .ensures, c .before .before .put-bit .ensures)
+returns-2 c = simp (c .before .before .before .before .c .given .1, c .quiet2 .ensures, c .before .with-events .ensures, c .before .before .put-bit .ensures)
 
 same-length : tie.Need-same-length
 same-length c = search needs
 
-returns-2 : tie.Need-returns-2
+returns-3 : tie.Need-returns-3
 unfolding change
-returns-2 c = simp (c .before .before .before .before .before .before .c2 .given .1, c .clean2 .ensures, c .before .before .before .write-guest .ensures)
+returns-3 c = simp (c .before .before .before .before .before .before .c2 .given .1, c .quiet3 .ensures, c .before .before .before .write-guest .ensures)
 
 same-length-2 : tie.Need-same-length-2
 same-length-2 c = search needs
 
-returns-3 : tie.Need-returns-3
-unfolding change pagesSet
-returns-3 c = rw (c .before .before .before .before .before .c3 .given .1) (ap (λ (x : PagesChanged). paged (c .before .before .before .before .before .before .before .before .before .before .before .args .vcpus .now) (c .before .before .before .before .before .before .before .before .before .before .before .args .guest .now) x) (c .before .before .set-pages .ensures))
-
 returns-4 : tie.Need-returns-4
-unfolding change
-returns-4 c = simp (c .before .before .before .before .c4 .given .1, c .clean3 .ensures, c .before .with-mode .ensures, c .before .before .mode-number .ensures)
+unfolding change queuedPause
+returns-4 c = simp (c .before .before .before .before .before .before .c3 .given .1, c .signalling .ensures, c .before .before .before .queue-pause .ensures)
 
 same-length-3 : tie.Need-same-length-3
 same-length-3 c = search needs
 
 returns-5 : tie.Need-returns-5
-returns-5 c = simp (c .clean4 .ensures, c .before .before .before .apply-vcpu .ensures) (vcpus-only (c .before .before .before .before .before .before .before .before .before .before .args .s) (c .before .before .before .before .before .before .before .before .before .before .args .vcpus .now) (c .before .before .before .before .before .before .before .before .before .before .args .pages .now) (c .before .before .before .before .before .before .before .before .before .before .args .guest .now) (c .before .before .before .before .before .before .before .before .before .before .args .d .now) (c .before .before .before .before .before .before .before .before .before .before .args .c) (c .before .before .before .before .before .match .keys5))
+unfolding change switchedField
+returns-5 c = simp (c .before .before .before .before .before .before .c4 .given .1, c .quiet4 .ensures, c .before .before .before .switch-field .ensures)
+
+same-length-4 : tie.Need-same-length-4
+same-length-4 c = search needs
+
+returns-6 : tie.Need-returns-6
+unfolding change switchedCr
+returns-6 c = simp (c .before .before .before .before .before .before .c5 .given .1, c .quiet5 .ensures, c .before .before .before .switch-cr .ensures)
+
+same-length-5 : tie.Need-same-length-5
+same-length-5 c = search needs
+
+returns-7 : tie.Need-returns-7
+unfolding change
+returns-7 c = simp (c .before .before .before .before .before .before .c6 .given .1, c .quiet6 .ensures, c .before .before .before .write-msr .ensures)
+
+same-length-6 : tie.Need-same-length-6
+same-length-6 c = search needs
+
+returns-8 : tie.Need-returns-8
+unfolding change pagesSet
+returns-8 c = rw (c .before .before .before .before .before .c7 .given .1) (ap (λ (x : PagesChanged). paged (c .before .before .before .before .before .before .before .before .before .before .before .before .args .s) (c .before .before .before .before .before .before .before .before .before .before .before .before .args .vcpus .now) (c .before .before .before .before .before .before .before .before .before .before .before .before .args .guest .now) x) (c .before .before .set-pages .ensures))
+
+same-length-7 : tie.Need-same-length-7
+same-length-7 c = search needs
+
+returns-9 : tie.Need-returns-9
+unfolding change
+returns-9 c = simp (c .before .before .before .before .before .before .c8 .given .1, c .quiet7 .ensures, c .before .before .before .write-field .ensures)
+
+returns-10 : tie.Need-returns-10
+unfolding change
+returns-10 c = simp (c .before .before .before .before .before .c9 .given .1, c .before .if1 .taken, c .quiet8 .ensures, c .before .before .with-mode .ensures, c .before .before .before .mode-number .ensures)
+
+returns-11 : tie.Need-returns-11
+unfolding change
+returns-11 c = simp (c .before .before .before .before .before .c9 .given .1, c .before .if1 .left, c .quiet9 .ensures, c .before .before .with-mode .ensures, c .before .before .before .mode-number .ensures)
+
+same-length-8 : tie.Need-same-length-8
+same-length-8 c = search needs
+
+returns-12 : tie.Need-returns-12
+unfolding change endedWait
+returns-12 c = simp (c .before .before .before .before .before .before .before .c10 .given .1, c .before .if2 .taken, c .signalling2 .ensures, c .before .before .before .before .end-wait .ensures)
+
+same-length-9 : tie.Need-same-length-9
+same-length-9 c = search needs
+
+returns-13 : tie.Need-returns-13
+unfolding change endedWait
+returns-13 c = simp (c .before .before .before .before .before .before .before .c10 .given .1, c .before .if2 .left, c .quiet10 .ensures, c .before .before .before .before .end-wait .ensures)
 
 pub apply-spec : {M : Type 1} → statement M
 apply-spec =
     tie.close
     (tie.spec
+    enum-told
+    quiet-requires
     enum-known-c
     cast-put-bit
     put-bit-requires
     with-events-requires
-    clean-requires
+    quiet-requires-2
     enum-known-c-2
     write-guest-requires
-    clean-requires-2
+    quiet-requires-3
     enum-known-c-3
-    set-pages-requires
+    queue-pause-requires
+    signalling-requires
     enum-known-c-4
+    switch-field-requires
+    quiet-requires-4
+    enum-known-c-5
+    switch-cr-requires
+    quiet-requires-5
+    enum-known-c-6
+    write-msr-requires
+    quiet-requires-6
+    enum-known-c-7
+    set-pages-requires
+    enum-known-c-8
+    cast-write-field
+    write-field-requires
+    quiet-requires-7
+    enum-known-c-9
     mode-number-requires
     with-mode-requires
-    clean-requires-3
-    apply-vcpu-requires
-    clean-requires-4
+    quiet-requires-8
+    quiet-requires-9
+    enum-known-c-10
+    end-wait-requires
+    signalling-requires-2
+    quiet-requires-10
     returns
-    same-length
     returns-2
-    same-length-2
+    same-length
     returns-3
+    same-length-2
     returns-4
     same-length-3
-    returns-5)
+    returns-5
+    same-length-4
+    returns-6
+    same-length-5
+    returns-7
+    same-length-6
+    returns-8
+    same-length-7
+    returns-9
+    returns-10
+    returns-11
+    same-length-8
+    returns-12
+    same-length-9
+    returns-13)

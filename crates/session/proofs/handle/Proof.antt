@@ -1,5 +1,7 @@
--- Each verdict by itself. Assumes nothing.
+-- Each verdict by itself: one that does not close is answered by what it did. Assumes nothing.
 use mathlib.Core.Path.{_∙_}
+use mathlib.Core.Logic.{⊎-elim}
+use Rattle.session.specs.Code.{effect}
 use Rattle.session.proofs.Laws.{answered-as, closes-as, fails-as, does-as}
 use mir.Syntax.{w32}
 use mir.Val.{SFits}
@@ -26,33 +28,6 @@ enum-told c = search needs
 close-requires : tie.Need-close-requires
 close-requires c κs = search needs
 
-enum-known-v : tie.Need-enum-known-v
-enum-known-v c = search needs
-
-put-answer-requires : tie.Need-put-answer-requires
-put-answer-requires c κs = search needs
-
-answered-requires : tie.Need-answered-requires
-answered-requires c κs = search needs
-
-enum-known-v-2 : tie.Need-enum-known-v-2
-enum-known-v-2 c = search needs
-
-mode-for-requires : tie.Need-mode-for-requires
-mode-for-requires c κs = search needs
-
-signal-of-requires : tie.Need-signal-of-requires
-signal-of-requires c κs = search needs
-
-apply-requires : tie.Need-apply-requires
-apply-requires c κs = search needs
-
-put-answer-requires-2 : tie.Need-put-answer-requires-2
-put-answer-requires-2 c κs = search needs
-
-answered-requires-2 : tie.Need-answered-requires-2
-answered-requires-2 c κs = search needs
-
 same-length : tie.Need-same-length
 same-length c = search needs
 
@@ -62,38 +37,48 @@ same-length-2 c = search needs
 returns : tie.Need-returns
 returns c = c .before .before .before .before .close .ensures _ _ ∙ closes-as _ _ _ _ _ _ _ _ _ (c .before .before .before .before .before .before .before .before .before .before .before .before .before .before .load16 .ensures) (c .before .before .before .before .before .before .before .before .before .before .before .before .facts-of .ensures) (c .before .before .before .before .before .before .before .before .before .judge .ensures) (c .before .before .before .before .before .before .before .enum-told .given .1)
 
+enum-known-v : tie.Need-enum-known-v
+enum-known-v c = search needs
+
+failing-requires : tie.Need-failing-requires
+failing-requires c κs = search needs
+
+enum-known-v-2 : tie.Need-enum-known-v-2
+enum-known-v-2 c = search needs
+
+apply-requires : tie.Need-apply-requires
+apply-requires c κs = search needs
+
+put-answer-requires : tie.Need-put-answer-requires
+put-answer-requires c κs = search needs
+
+answered-requires : tie.Need-answered-requires
+answered-requires c κs = search needs
+
 same-length-3 : tie.Need-same-length-3
-same-length-3 c = search needs
+same-length-3 c = ⊎-elim (λ w. rw (w .4) (search needs)) (λ w. rw (w .13) (search needs)) (c .before .before .before .before .before .before .before .match .came)
 
 same-length-4 : tie.Need-same-length-4
-same-length-4 c = search needs
+same-length-4 c = ⊎-elim (λ w. rw (w .5) (search needs)) (λ w. rw (w .14) (search needs)) (c .before .before .before .before .before .before .before .match .came)
 
 same-length-5 : tie.Need-same-length-5
 same-length-5 c = search needs
 
+same-length-6 : tie.Need-same-length-6
+same-length-6 c = ⊎-elim (λ w. rw (w .6) (search needs)) (λ w. rw (w .15) (search needs)) (c .before .before .before .before .before .before .before .match .came)
+
 returns-2 : tie.Need-returns-2
 returns-2 c =
-    let f : SFits w32 (c .before .before .before .before .before .before .before .v .given .0 .0) = search needs in
-    answered-as _ _ _ _ _ _ _ _ _ _ _ _ _ _ (c .before .before .before .put-answer .ensures) (c .answered .ensures)
-    ∙ fails-as _ _ _ _ _ _ _ _ _ (c .before .before .before .before .before .before .before .before .before .before .before .before .before .before .load16 .ensures) (c .before .before .before .before .before .before .before .before .before .before .before .before .facts-of .ensures) (c .before .before .before .before .before .before .before .before .before .judge .ensures) _ _ _ (c .before .before .before .before .before .before .before .v .given .1) (toZ-ofZ f) (c .before .before .before .before .before .before .before .before .before .before .mode-of .ensures)
-
-same-length-6 : tie.Need-same-length-6
-same-length-6 c = search needs
-
-same-length-7 : tie.Need-same-length-7
-same-length-7 c = search needs
-
-same-length-8 : tie.Need-same-length-8
-same-length-8 c = search needs
-
-same-length-9 : tie.Need-same-length-9
-same-length-9 c = search needs
-
-returns-3 : tie.Need-returns-3
-returns-3 c =
-    let f : SFits w32 (c .before .before .before .before .before .before .before .before .before .before .before .before .before .before .apply .result .code) = search needs in
-    answered-as _ _ _ _ _ _ _ _ _ _ _ _ _ _ (c .before .before .before .put-answer2 .ensures) (c .answered2 .ensures)
-    ∙ does-as _ _ _ _ _ _ _ _ _ (c .before .before .before .before .before .before .before .before .before .before .before .before .before .before .before .before .before .before .before .before .before .before .before .before .before .before .before .before .load16 .ensures) (c .before .before .before .before .before .before .before .before .before .before .before .before .before .before .before .before .before .before .before .before .before .before .before .before .before .before .facts-of .ensures) (c .before .before .before .before .before .before .before .before .before .before .before .before .before .before .before .before .before .before .before .before .before .before .before .judge .ensures) _ _ _ _ _ _ (c .before .before .before .before .before .before .before .before .before .before .before .before .before .before .before .before .before .before .before .before .before .v2 .given .1) (toZ-ofZ f) (c .before .before .before .before .before .before .before .before .before .before .before .before .before .before .before .before .before .before .before .before .before .before .before .before .mode-of .ensures) (c .before .before .before .before .before .before .before .before .before .before .before .before .before .before .before .before .before .before .before .mode-for .ensures) (c .before .before .before .before .before .before .before .before .before .before .before .before .before .before .before .before .before .before .signal-of .ensures) (c .before .before .before .before .before .before .before .before .before .before .before .before .before .before .apply .ensures)
+    let f : SFits w32 (c .before .before .before .before .before .before .before .match .e .code) = search needs in
+    let w = rw (toZ-ofZ f) at (c .before .before .before .put-answer .ensures) in
+    let x = effect (c .before .before .before .before .before .before .before .before .before .before .before .before .before .before .before .before .before .before .before .args .s) (c .before .before .before .before .before .before .before .match .e) (c .before .before .before .before .before .before .before .match .vcpus) (c .before .before .before .before .before .before .before .match .pages) (c .before .before .before .before .before .before .before .match .guest) in
+    answered-as (c .before .before .before .before .before .before .before .before .before .before .before .before .before .before .before .before .before .before .before .args .s) (c .before .before .before .before .before .before .before .match .e) _ _ _ _ _ _ _ _ _ _ w (c .answered .ensures)
+    ∙ ⊎-elim
+    (λ w.
+    let g : SFits w32 (w .1 .given .0 .0) = search needs in
+    fails-as _ _ _ _ _ _ _ _ _ (c .before .before .before .before .before .before .before .before .before .before .before .before .before .load16 .ensures) (c .before .before .before .before .before .before .before .before .before .before .before .facts-of .ensures) (c .before .before .before .before .before .before .before .before .judge .ensures) _ _ x (w .1 .given .1) (c .before .before .before .before .before .before .before .before .before .mode-of .ensures) (simp (w .4, w .5, w .6, w .7, w .3 .ensures, toZ-ofZ g)))
+    (λ w. does-as _ _ _ _ _ _ _ _ _ (c .before .before .before .before .before .before .before .before .before .before .before .before .before .load16 .ensures) (c .before .before .before .before .before .before .before .before .before .before .before .facts-of .ensures) (c .before .before .before .before .before .before .before .before .judge .ensures) _ _ x (w .1 .given .1) (c .before .before .before .before .before .before .before .before .before .mode-of .ensures) (rw (w .13, w .14, w .15, w .16) (w .6 .ensures)))
+    (c .before .before .before .before .before .before .before .match .came)
 
 pub handle-spec : {M : Type 1} → statement M
 handle-spec =
@@ -105,24 +90,17 @@ handle-spec =
     judge-requires
     enum-told
     close-requires
-    enum-known-v
-    put-answer-requires
-    answered-requires
-    enum-known-v-2
-    mode-for-requires
-    signal-of-requires
-    apply-requires
-    put-answer-requires-2
-    answered-requires-2
     same-length
     same-length-2
     returns
+    enum-known-v
+    failing-requires
+    enum-known-v-2
+    apply-requires
+    put-answer-requires
+    answered-requires
     same-length-3
     same-length-4
     same-length-5
-    returns-2
     same-length-6
-    same-length-7
-    same-length-8
-    same-length-9
-    returns-3)
+    returns-2)

@@ -22,15 +22,21 @@ put-entries-requires c κs = search needs
 with-pages-requires : tie.Need-with-pages-requires
 with-pages-requires c κs = search needs
 
+failing-requires : tie.Need-failing-requires
+failing-requires c κs = search needs
+
 same-length : tie.Need-same-length
 same-length c = search needs
 
 returns : tie.Need-returns
 unfolding pagesSet
 returns c =
-    let b = behind-8 (c .before .before .before .before .before .before .before .before .before .before .before .args .d .now) (c .before .before .before .before .before .before .before .before .if1 .from) (λ h. ⊎-elim (λ w. omega arith) (λ w. omega arith) (c .before .before .before .before .before .before .before .before .if1 .came)) (λ h. ⊎-elim (λ w. omega arith) (λ w. omega arith) (c .before .before .before .before .before .before .before .before .if1 .came)) in
-    let r = rw b at (c .before .before .before .before .put-entries .ensures) in
-    simp (← r, c .if2 .taken, c .before .with-pages .ensures)
+    let b = behind-8 (c .before .before .before .before .before .before .before .before .before .before .before .before .args .d .now) (c .before .before .before .before .before .before .before .before .before .if1 .from) (λ h. ⊎-elim (λ w. omega arith) (λ w. omega arith) (c .before .before .before .before .before .before .before .before .before .if1 .came)) (λ h. ⊎-elim (λ w. omega arith) (λ w. omega arith) (c .before .before .before .before .before .before .before .before .before .if1 .came)) in
+    let r = rw b at (c .before .before .before .before .before .put-entries .ensures) in
+    simp (← r, c .before .if2 .taken, c .failing .ensures, c .before .before .with-pages .ensures)
+
+quiet-requires : tie.Need-quiet-requires
+quiet-requires c κs = search needs
 
 same-length-2 : tie.Need-same-length-2
 same-length-2 c = search needs
@@ -38,9 +44,9 @@ same-length-2 c = search needs
 returns-2 : tie.Need-returns-2
 unfolding pagesSet
 returns-2 c =
-    let b = behind-8 (c .before .before .before .before .before .before .before .before .before .before .before .args .d .now) (c .before .before .before .before .before .before .before .before .if1 .from) (λ h. ⊎-elim (λ w. omega arith) (λ w. omega arith) (c .before .before .before .before .before .before .before .before .if1 .came)) (λ h. ⊎-elim (λ w. omega arith) (λ w. omega arith) (c .before .before .before .before .before .before .before .before .if1 .came)) in
-    let r = rw b at (c .before .before .before .before .put-entries .ensures) in
-    simp (← r, c .if2 .left, c .before .with-pages .ensures)
+    let b = behind-8 (c .before .before .before .before .before .before .before .before .before .before .before .before .args .d .now) (c .before .before .before .before .before .before .before .before .before .if1 .from) (λ h. ⊎-elim (λ w. omega arith) (λ w. omega arith) (c .before .before .before .before .before .before .before .before .before .if1 .came)) (λ h. ⊎-elim (λ w. omega arith) (λ w. omega arith) (c .before .before .before .before .before .before .before .before .before .if1 .came)) in
+    let r = rw b at (c .before .before .before .before .before .put-entries .ensures) in
+    simp (← r, c .before .if2 .left, c .quiet .ensures, c .before .before .with-pages .ensures)
 
 pub set-pages-spec : {M : Type 1} → statement M
 set-pages-spec =
@@ -51,7 +57,9 @@ set-pages-spec =
     part-put-entries-end
     put-entries-requires
     with-pages-requires
+    failing-requires
     same-length
     returns
+    quiet-requires
     same-length-2
     returns-2)

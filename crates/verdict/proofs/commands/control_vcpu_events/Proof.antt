@@ -39,6 +39,9 @@ is-set-requires c κs = search needs
 is-set-requires-2 : tie.Need-is-set-requires-2
 is-set-requires-2 c κs = search needs
 
+cast-t15 : tie.Need-cast-t15
+cast-t15 c = search needs
+
 decide-requires : tie.Need-decide-requires
 decide-requires c κs = search needs
 
@@ -61,5 +64,6 @@ control-vcpu-events-spec =
     is-on-requires
     is-set-requires
     is-set-requires-2
+    cast-t15
     decide-requires
     returns)
