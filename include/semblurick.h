@@ -125,20 +125,21 @@ SEMBLURICK_ASSERT(sizeof(struct semblurick) == 43080);
 /* ---- calls: each gives a number of enum semblurick_answer and writes all of *result. An answer from 2 on changes nothing
  * else, but that semblurick_fresh and semblurick_image_read then leave a session that is closed. */
 
-/* Begins a session with every switch off, under session->settings. Answers 0, 7. */
+/* Begins a session with every switch off, under session->settings. Answers 7, or 0. */
 uint32_t semblurick_fresh(struct semblurick_session *session, struct semblurick_vcpus *vcpus, struct semblurick_pages *pages,
                           struct semblurick_result *result);
 
-/* Marks a vCPU ready: the tool can use it from now on. Answers 0, 2, 4. */
+/* Marks a vCPU ready: the tool can use it from now on. Answers 2, 4, tested in this order, or 0. */
 uint32_t semblurick_ready(struct semblurick_session *session, uint32_t vcpu, struct semblurick_result *result);
 
-/* Takes one message of the tool, header included. The first result->count bytes of out go to the tool. Answers 0, 1, 2, 3. */
+/* Takes one message of the tool, header included. The first result->count bytes of out go to the tool. Answers 2, 3,
+ * tested in this order, or 0 or 1. */
 uint32_t semblurick_message(struct semblurick_session *session, struct semblurick_vcpus *vcpus, struct semblurick_pages *pages,
                             const uint8_t *msg, size_t msg_size, uint8_t *out, size_t out_size, uint8_t *guest, size_t guest_size,
                             struct semblurick_result *result);
 
 /* To be called before a vCPU enters the guest, with its register block: writes its pause event, if a pause is queued; then the
- * vCPU has to wait for the tool's reply. Answers 0, 2, 4, 5, 3, 6, tested in this order. */
+ * vCPU has to wait for the tool's reply. Answers 2, 4, 5, 3, 6, tested in this order, or 0. */
 uint32_t semblurick_enter(struct semblurick_session *session, struct semblurick_vcpus *vcpus, uint32_t vcpu, const uint8_t *state,
                           size_t state_size, uint8_t *out, size_t out_size, struct semblurick_result *result);
 
@@ -146,12 +147,13 @@ uint32_t semblurick_enter(struct semblurick_session *session, struct semblurick_
 size_t semblurick_image_size(const struct semblurick_session *session, const struct semblurick_vcpus *vcpus,
                              const struct semblurick_pages *pages);
 
-/* Writes the image of a session, for a new host. Answers 0, 2, 10, 3, tested in this order. */
+/* Writes the image of a session, for a new host. Answers 2, 10, 3, tested in this order, or 0. */
 uint32_t semblurick_image_write(const struct semblurick_session *session, const struct semblurick_vcpus *vcpus,
                                 const struct semblurick_pages *pages, uint8_t *out, size_t out_size,
                                 struct semblurick_result *result);
 
-/* Begins a session as an image states, under session->settings. Answers 0, 7, 8, 9; refused, no word of the tables changes. */
+/* Begins a session as an image states, under session->settings. Answers 7, or 8 or 9 for the first record that calls for one, or 0;
+ * refused, no word of the tables changes. */
 uint32_t semblurick_image_read(struct semblurick_session *session, struct semblurick_vcpus *vcpus, struct semblurick_pages *pages,
                                const uint8_t *image, size_t image_size, struct semblurick_result *result);
 
