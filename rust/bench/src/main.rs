@@ -340,7 +340,9 @@ fn best(round: Round) -> f64 {
 fn main() {
     println!("ns a message or image, best of {ROUNDS} rounds; output and guest buffers are not cleared between calls");
     println!("{:<52}{:>10}{:>12}{:>8}", "", "proved", "reference", "ratio");
-    for (name, proved, reference) in ROWS {
+    // with a word given, only the rows that have it
+    let word = std::env::args().nth(1).unwrap_or_default();
+    for (name, proved, reference) in ROWS.into_iter().filter(|row| row.0.contains(&word)) {
         let (ours, theirs) = (best(proved), best(reference));
         println!("{name:<52}{ours:>10.1}{theirs:>12.1}{:>7.2}x", theirs / ours);
     }

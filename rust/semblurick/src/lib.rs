@@ -294,6 +294,7 @@ impl Session {
     }
 
     /// Marks a vCPU ready: the tool can use it from now on. Refused: [`Refusal::Closed`], [`Refusal::BadVcpu`].
+    #[inline]
     pub fn ready(&mut self, vcpu: u32) -> Result<(), Refusal> {
         let mut told = ffi::Outcome::default();
         // SAFETY: the session is borrowed for this call alone.
@@ -302,6 +303,7 @@ impl Session {
     }
 
     /// Takes one message of the tool, header included. Refused: [`Refusal::Closed`], [`Refusal::ShortOut`].
+    #[inline]
     pub fn message<'a>(&mut self, message: &[u8], out: &'a mut [u8], guest: &mut [u8]) -> Result<Answer<'a>, Refusal> {
         let mut told = ffi::Outcome::default();
         // SAFETY: the slices are borrowed for this call, and what is `&mut` overlaps nothing else.
@@ -335,6 +337,7 @@ impl Session {
     /// To be called before a vCPU enters the guest, with its register block. Where a pause is queued its event is written, and
     /// the vCPU has to wait for the tool's reply; else there are no bytes. Refused: [`Refusal::Closed`], [`Refusal::BadVcpu`],
     /// [`Refusal::BadState`], [`Refusal::ShortOut`], [`Refusal::Waiting`].
+    #[inline]
     pub fn enter<'a>(&mut self, vcpu: u32, state: &[u8], out: &'a mut [u8]) -> Result<&'a [u8], Refusal> {
         let mut told = ffi::Outcome::default();
         // SAFETY: as for `message`.
@@ -355,6 +358,7 @@ impl Session {
     }
 
     /// How many bytes the image of this session has, closed or busy as it may be.
+    #[inline]
     pub fn image_size(&self) -> usize {
         // SAFETY: all three are only read.
         unsafe { ffi::semblurick_image_size(&self.raw, &self.vcpus, &self.pages) }
@@ -362,6 +366,7 @@ impl Session {
 
     /// Writes the image, for a new host, and says how many bytes it has. Refused: [`Refusal::Closed`], [`Refusal::Busy`],
     /// [`Refusal::ShortOut`].
+    #[inline]
     pub fn write_image(&self, out: &mut [u8]) -> Result<usize, Refusal> {
         let mut told = ffi::Outcome::default();
         // SAFETY: the session is only read, and the output overlaps nothing else.
@@ -371,11 +376,13 @@ impl Session {
     }
 
     /// Whether the session was closed.
+    #[inline]
     pub fn is_closed(&self) -> bool {
         self.raw.closed != 0
     }
 
     /// Whether a vCPU is marked ready.
+    #[inline]
     pub fn is_ready(&self, vcpu: u32) -> bool {
         vcpu < 64 && self.raw.ready >> vcpu & 1 == 1
     }
@@ -398,6 +405,7 @@ impl Session {
 }
 
 /// The count of answer 0, or the refusal.
+#[inline]
 fn done(number: u32, told: &ffi::Outcome) -> Result<usize, Refusal> {
     match number {
         0 => Ok(told.count as usize),
