@@ -241,7 +241,7 @@ fn quiet(tool: Tool, mode: ReplyMode) -> Effect
     signalling(tool, mode, Signal::Quiet)
 }
 
-// An error that changes nothing.
+// An error, and nothing for the host to do.
 fn failing(tool: Tool, mode: ReplyMode, code: i32) -> Effect
     ensures { λ r. ⌜ r ≡ codeEffect tool mode code ⌝ }
 {
