@@ -11,7 +11,7 @@ static uint8_t stream[1 << 16], out[SEMBLURICK_MESSAGE_OUT], guest[4 * 4096], im
 
 /* The vCPU leaves the guest, and is about to enter it again: a queued pause is told now. */
 static void enter(uint32_t vcpu) {
-    static const uint8_t state[SEMBLURICK_STATE_BYTES];
+    static const uint8_t state[SEMBLURICK_STATE_BYTES] = {0};
     struct semblurick_result r;
     uint32_t answer = semblurick_enter(&here.session, &here.vcpus, vcpu, state, sizeof state, out, sizeof out, &r);
     printf("vCPU %u enters: answer %u, %llu bytes\n", vcpu, answer, (unsigned long long)r.count);

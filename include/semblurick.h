@@ -4,10 +4,12 @@
  * writes. Each call answers with a number of enum semblurick_answer; what else the answer has is in struct semblurick_result.
  *
  * What the host owes, and all that it owes: every pointer is to valid memory of the stated size and alignment, not null even
- * where the size is 0, no two arguments of one call overlap, and no other thread uses the memory of a call while it runs. Whatever
- * bits stand there, every call ends, reads and writes nothing else, and gives an answer that is fixed by what it was given.
+ * where the size is 0, no two arguments of one call overlap, and nobody else uses the memory of a call while it runs (for guest
+ * memory that includes the guest's running vCPUs and its devices). Whatever bits stand there, every call ends, reads and writes
+ * nothing else, and gives an answer that is fixed by what it was given.
  *
- * Link with libhost.a. C11 and C++11.
+ * Link with libhost.a (x86-64). C11 and C++11. Define SEMBLURICK_NO_KVMI_NAMES before the include where another header has
+ * KVMI's names already.
  */
 #ifndef SEMBLURICK_H
 #define SEMBLURICK_H
@@ -41,7 +43,7 @@ enum {
 
 enum semblurick_answer {
     SEMBLURICK_HANDLED = 0,       /* result: count, and signal with vcpu and wait */
-    SEMBLURICK_CLOSING = 1,       /* the message broke a rule that closes the session; nothing was written */
+    SEMBLURICK_CLOSING = 1,       /* the message broke a rule that closes the session; nothing was written, no event is awaited */
     SEMBLURICK_CLOSED = 2,        /* the session was closed */
     SEMBLURICK_SHORT_OUT = 3,     /* the output is too small */
     SEMBLURICK_BAD_VCPU = 4,      /* the vCPU is not below the count */
@@ -59,9 +61,10 @@ enum semblurick_signal {
     SEMBLURICK_CRASH = 2  /* the tool asks that vcpu, and so the guest, be crashed */
 };
 
+/* The values of an answer; what an answer has none of is 0. */
 struct semblurick_result {
     uint64_t count;   /* bytes written to the output; the rest of it is untouched */
-    uint64_t offset;  /* where the first record of a refused image stands that breaks a rule */
+    uint64_t offset;  /* of the record for which an image was refused; its length, if the end is missing; the byte after the end */
     uint64_t signal;  /* enum semblurick_signal */
     uint64_t vcpu;    /* of the signal */
     uint64_t wait;    /* of a kick: 1 or 0 */
@@ -74,7 +77,7 @@ SEMBLURICK_ASSERT(sizeof(struct semblurick_result) == 40);
 struct semblurick_settings {
     uint32_t vcpus;         /* 1 to 16 */
     uint32_t views;         /* 1 to 8 */
-    uint32_t commands;      /* bit k: the tool may use command k */
+    uint32_t commands;      /* bit k: the tool may use command k; 1, 2, 3 and 16 it may always use */
     uint32_t events;        /* bit k: the tool may use event k */
     uint64_t tsc_speed;     /* told by KVMI_VCPU_GET_INFO */
     uint8_t singlestep;     /* the five feature bytes of KVMI_GET_VERSION */
@@ -83,11 +86,11 @@ struct semblurick_settings {
     uint8_t ve;
     uint8_t spp;
     uint8_t descriptors;    /* descriptor events can be caught */
-    uint8_t breakpoints;    /* the host has taken breakpoints for itself */
+    uint8_t breakpoints_taken;  /* by the host, for itself */
 };
 SEMBLURICK_ASSERT(sizeof(struct semblurick_settings) == 32);
 SEMBLURICK_ASSERT(offsetof(struct semblurick_settings, tsc_speed) == 16);
-SEMBLURICK_ASSERT(offsetof(struct semblurick_settings, breakpoints) == 30);
+SEMBLURICK_ASSERT(offsetof(struct semblurick_settings, breakpoints_taken) == 30);
 
 /* A session, but for its tables. A host sets `settings` and leaves the rest to the calls. */
 struct semblurick_session {
@@ -122,8 +125,8 @@ struct semblurick {
 };
 SEMBLURICK_ASSERT(sizeof(struct semblurick) == 43080);
 
-/* ---- calls: each gives a number of enum semblurick_answer and writes all of *result. An answer from 2 on changes nothing
- * else, but that semblurick_fresh and semblurick_image_read then leave a session that is closed. */
+/* ---- calls: each but semblurick_image_size gives a number of enum semblurick_answer and writes all of *result. An answer from
+ * 2 on changes nothing else, but that semblurick_fresh and semblurick_image_read then leave a session that is closed. */
 
 /* Begins a session with every switch off, under session->settings. Answers 7, or 0. */
 uint32_t semblurick_fresh(struct semblurick_session *session, struct semblurick_vcpus *vcpus, struct semblurick_pages *pages,
@@ -132,14 +135,16 @@ uint32_t semblurick_fresh(struct semblurick_session *session, struct semblurick_
 /* Marks a vCPU ready: the tool can use it from now on. Answers 2, 4, tested in this order, or 0. */
 uint32_t semblurick_ready(struct semblurick_session *session, uint32_t vcpu, struct semblurick_result *result);
 
-/* Takes one message of the tool, header included. The first result->count bytes of out go to the tool. Answers 2, 3,
- * tested in this order, or 0 or 1. */
+/* Takes one message of the tool, header included. `guest` is the guest's physical memory from address 0; a page exists if it lies
+ * wholly inside. The first result->count bytes of out go to the tool. Answers 2, 3, tested in this order, or 0 or 1. */
 uint32_t semblurick_message(struct semblurick_session *session, struct semblurick_vcpus *vcpus, struct semblurick_pages *pages,
                             const uint8_t *msg, size_t msg_size, uint8_t *out, size_t out_size, uint8_t *guest, size_t guest_size,
                             struct semblurick_result *result);
 
-/* To be called before a vCPU enters the guest, with its register block: writes its pause event, if a pause is queued; then the
- * vCPU has to wait for the tool's reply. Answers 2, 4, 5, 3, 6, tested in this order, or 0. */
+/* To be called before a vCPU enters the guest, with its register block. Answer 0 with no bytes: it may run. With bytes: they are its
+ * pause event, to be sent to the tool, and the vCPU waits. It may call again after each message: answer 6 says that the tool's
+ * reply is still awaited, answer 2 that the session closed and nothing is awaited any more. Answers 2, 4, 5, 3, 6, tested in this
+ * order, or 0. */
 uint32_t semblurick_enter(struct semblurick_session *session, struct semblurick_vcpus *vcpus, uint32_t vcpu, const uint8_t *state,
                           size_t state_size, uint8_t *out, size_t out_size, struct semblurick_result *result);
 
@@ -157,7 +162,9 @@ uint32_t semblurick_image_write(const struct semblurick_session *session, const 
 uint32_t semblurick_image_read(struct semblurick_session *session, struct semblurick_vcpus *vcpus, struct semblurick_pages *pages,
                                const uint8_t *image, size_t image_size, struct semblurick_result *result);
 
-/* ---- KVMI's names */
+/* ---- KVMI's names, with document 01's numbers */
+
+#ifndef SEMBLURICK_NO_KVMI_NAMES
 
 enum kvmi_message {
     KVMI_GET_VERSION = 1,
@@ -200,7 +207,7 @@ enum kvmi_action { KVMI_EVENT_ACTION_CONTINUE = 0, KVMI_EVENT_ACTION_RETRY = 1, 
 
 enum kvmi_page_access { KVMI_PAGE_ACCESS_R = 1, KVMI_PAGE_ACCESS_W = 2, KVMI_PAGE_ACCESS_X = 4 };
 
-/* The errors of replies, which are Linux's but for the last; negated in a reply. */
+/* The errors of replies: Linux's numbers but for the last, negated in a reply. */
 enum kvmi_error {
     KVMI_EPERM = 1,
     KVMI_ENOENT = 2,
@@ -211,6 +218,7 @@ enum kvmi_error {
     KVMI_EOPNOTSUPP = 95,
     KVMI_ENOSYS = 1000
 };
+#endif
 
 #ifdef __cplusplus
 }

@@ -92,7 +92,7 @@ impl Filter for Proved {
             tsc: told.tsc_speed,
             features: [f.singlestep, f.vmfunc, f.eptp, f.ve, f.spp],
             descriptors: told.descriptors,
-            breakpoints: told.breakpoints,
+            breakpoints: told.breakpoints_taken,
         })
     }
 }
@@ -128,7 +128,7 @@ fn wrapped(settings: &Settings) -> semblurick::Settings {
         tsc_speed: settings.tsc,
         features: semblurick::Features { singlestep, vmfunc, eptp, ve, spp },
         descriptors: settings.descriptors,
-        breakpoints: settings.breakpoints,
+        breakpoints_taken: settings.breakpoints,
     }
 }
 

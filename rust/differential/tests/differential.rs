@@ -7,11 +7,10 @@ use differential::{parse, run, Plain, Proved, Runner};
 use std::io::Write;
 use std::time::{Instant, SystemTime, UNIX_EPOCH};
 
-/// Least numbers for a run; a million messages and 100,000 images are asked for.
+/// The least that a run does.
 const MESSAGES: u64 = 3_000_000;
 const IMAGES: u64 = 300_000;
 const WORKERS: u64 = 2;
-const _: () = assert!(MESSAGES >= 1_000_000 && IMAGES >= 100_000);
 
 /// Prints even where a test's own output is kept back.
 fn say(text: &str) {

@@ -13,7 +13,7 @@ pub struct Settings {
     pub tsc_speed: u64,
     pub features: [u8; 5],
     pub descriptors: u8,
-    pub breakpoints: u8,
+    pub breakpoints_taken: u8,
 }
 
 #[repr(C)]

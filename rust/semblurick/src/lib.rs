@@ -55,7 +55,7 @@ pub struct Settings {
     pub vcpus: u32,
     /// 1 to 8.
     pub views: u32,
-    /// The commands that the tool may use.
+    /// The commands that the tool may use; 1, 2, 3 and 16 it may always use.
     pub commands: CommandSet,
     /// The events that the tool may use.
     pub events: EventSet,
@@ -66,7 +66,7 @@ pub struct Settings {
     /// Descriptor events can be caught.
     pub descriptors: bool,
     /// The host has taken breakpoints for itself.
-    pub breakpoints: bool,
+    pub breakpoints_taken: bool,
 }
 
 /// The five feature bytes; a feature is there where its byte is not 0.
@@ -90,7 +90,7 @@ impl Settings {
             tsc_speed: 0,
             features: Features { singlestep: 1, vmfunc: 1, eptp: 1, ve: 1, spp: 1 },
             descriptors: true,
-            breakpoints: false,
+            breakpoints_taken: false,
         }
     }
 
@@ -104,7 +104,7 @@ impl Settings {
             tsc_speed: self.tsc_speed,
             features: [f.singlestep, f.vmfunc, f.eptp, f.ve, f.spp],
             descriptors: self.descriptors.into(),
-            breakpoints: self.breakpoints.into(),
+            breakpoints_taken: self.breakpoints_taken.into(),
         }
     }
 }
@@ -250,7 +250,8 @@ impl fmt::Display for Refusal {
 
 impl core::error::Error for Refusal {}
 
-/// A session, with its tables: 43,080 bytes. Keep it in one place, or in a box.
+/// A session, with its tables: 43,080 bytes. Where the stack is small keep it in a `static` or a box, made by
+/// [`closed`](Session::closed), and begin it in place.
 #[derive(Clone)]
 pub struct Session {
     raw: ffi::Session,
@@ -259,38 +260,54 @@ pub struct Session {
 }
 
 impl Session {
-    fn blank(settings: &Settings) -> Session {
-        let raw = ffi::Session { settings: settings.raw(), vm_events: 0, pages: 0, closed: 1, mode: 0, seq: 0, ready: 0 };
+    /// A session that is closed: memory for one that [`begin`](Session::begin) or [`load`](Session::load) makes in place.
+    pub const fn closed() -> Session {
+        let settings = ffi::Settings {
+            vcpus: 0,
+            views: 0,
+            commands: 0,
+            events: 0,
+            tsc_speed: 0,
+            features: [0; 5],
+            descriptors: 0,
+            breakpoints_taken: 0,
+        };
+        let raw = ffi::Session { settings, vm_events: 0, pages: 0, closed: 1, mode: 0, seq: 0, ready: 0 };
         Session { raw, vcpus: [0; ffi::VCPU_WORDS], pages: [0; ffi::PAGE_WORDS] }
     }
 
     /// A session with every switch off and no vCPU ready. Refused: [`Refusal::BadSettings`].
     pub fn fresh(settings: &Settings) -> Result<Session, Refusal> {
-        let mut session = Session::blank(settings);
-        let mut told = ffi::Outcome::default();
-        // SAFETY: all four are this function's own.
-        let number = unsafe { ffi::semblurick_fresh(&mut session.raw, &mut session.vcpus, &mut session.pages, &mut told) };
-        done(number, &told)?;
+        let mut session = Session::closed();
+        session.begin(settings)?;
         Ok(session)
     }
 
     /// A session as an image states. Refused: [`Refusal::BadSettings`], [`Refusal::BadForm`], [`Refusal::Forbidden`].
     pub fn from_image(settings: &Settings, image: &[u8]) -> Result<Session, Refusal> {
-        let mut session = Session::blank(settings);
-        let mut told = ffi::Outcome::default();
-        // SAFETY: the session is this function's own, and the image is only read.
-        let number = unsafe {
-            ffi::semblurick_image_read(
-                &mut session.raw,
-                &mut session.vcpus,
-                &mut session.pages,
-                image.as_ptr(),
-                image.len(),
-                &mut told,
-            )
-        };
-        done(number, &told)?;
+        let mut session = Session::closed();
+        session.load(settings, image)?;
         Ok(session)
+    }
+
+    /// Begins as [`fresh`](Session::fresh) does, in place of what was there. Refused, the session is closed.
+    pub fn begin(&mut self, settings: &Settings) -> Result<(), Refusal> {
+        self.raw.settings = settings.raw();
+        let mut told = ffi::Outcome::default();
+        // SAFETY: the session is borrowed for this call alone.
+        let number = unsafe { ffi::semblurick_fresh(&mut self.raw, &mut self.vcpus, &mut self.pages, &mut told) };
+        done(number, &told).map(|_| ())
+    }
+
+    /// Begins as [`from_image`](Session::from_image) does, in place of what was there. Refused, the session is closed.
+    pub fn load(&mut self, settings: &Settings, image: &[u8]) -> Result<(), Refusal> {
+        self.raw.settings = settings.raw();
+        let mut told = ffi::Outcome::default();
+        // SAFETY: the session is borrowed for this call alone, and the image is only read.
+        let number = unsafe {
+            ffi::semblurick_image_read(&mut self.raw, &mut self.vcpus, &mut self.pages, image.as_ptr(), image.len(), &mut told)
+        };
+        done(number, &told).map(|_| ())
     }
 
     /// Marks a vCPU ready: the tool can use it from now on. Refused: [`Refusal::Closed`], [`Refusal::BadVcpu`].
@@ -302,7 +319,8 @@ impl Session {
         done(number, &told).map(|_| ())
     }
 
-    /// Takes one message of the tool, header included. Refused: [`Refusal::Closed`], [`Refusal::ShortOut`].
+    /// Takes one message of the tool, header included. `guest` is the guest's physical memory from address 0; a page exists if it
+    /// lies wholly inside. Refused: [`Refusal::Closed`], [`Refusal::ShortOut`].
     #[inline]
     pub fn message<'a>(&mut self, message: &[u8], out: &'a mut [u8], guest: &mut [u8]) -> Result<Answer<'a>, Refusal> {
         let mut told = ffi::Outcome::default();
@@ -399,7 +417,7 @@ impl Session {
             tsc_speed: s.tsc_speed,
             features: Features { singlestep, vmfunc, eptp, ve, spp },
             descriptors: s.descriptors != 0,
-            breakpoints: s.breakpoints != 0,
+            breakpoints_taken: s.breakpoints_taken != 0,
         }
     }
 }
@@ -463,6 +481,7 @@ impl fmt::Debug for Session {
             .field("vm_events", &EventSet::from_bits(self.raw.vm_events as u32))
             .field("pages_below_rwx", &self.raw.pages)
             .field("vcpus", &Vcpus(self))
+            .field("settings", &self.settings())
             .finish()
     }
 }

@@ -28,7 +28,7 @@ macro_rules! numbered {
                 self as $repr
             }
 
-            /// Its name in kvmi.rst.
+            /// Its name.
             pub const fn name(self) -> &'static str {
                 match self {
                     $($name::$variant => $text,)*

@@ -95,3 +95,20 @@ fn every_refusal_of_a_beginning() {
     assert_eq!(session.clone().ready(65_536), Err(Refusal::BadVcpu));
     assert_eq!(session.clone().enter(0, &[0; 535], &mut image), Err(Refusal::BadState));
 }
+
+#[test]
+fn a_session_begins_in_place() {
+    static mut PLACE: Session = Session::closed();
+    // SAFETY: this test alone names it.
+    let session = unsafe { &mut *core::ptr::addr_of_mut!(PLACE) };
+    assert_eq!(session.ready(0), Err(Refusal::Closed));
+    let settings = Settings::allowing_all(1);
+    session.begin(&settings).unwrap();
+    session.ready(0).unwrap();
+    let mut image = vec![0; session.image_size()];
+    session.write_image(&mut image).unwrap();
+    assert_eq!(session.load(&settings, &image[1..]), Err(Refusal::BadForm { offset: 0 }));
+    assert!(session.is_closed());
+    session.load(&settings, &image).unwrap();
+    assert!(session.is_ready(0) && !session.is_closed());
+}
