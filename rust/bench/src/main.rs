@@ -2,7 +2,7 @@
 use std::hint::black_box;
 use std::time::Instant;
 
-const ROUNDS: usize = 9;
+const ROUNDS: usize = 25;
 const VCPUS: u32 = 16;
 const GUEST: usize = 16 * 4096;
 
@@ -333,8 +333,9 @@ const ROWS: [(&str, Round, Round); 8] = [
     ("image read: the same", image_reads::<semblurick::Session>, image_reads::<reference::Session>),
 ];
 
-fn best(round: Round) -> f64 {
-    (0..ROUNDS).map(|_| round()).fold(f64::INFINITY, f64::min)
+/// The least of several rounds of both, taken in turns, so that a busy machine is as busy for the one as for the other.
+fn best(proved: Round, reference: Round) -> (f64, f64) {
+    (0..ROUNDS).fold((f64::INFINITY, f64::INFINITY), |(ours, theirs), _| (ours.min(proved()), theirs.min(reference())))
 }
 
 fn main() {
@@ -343,7 +344,7 @@ fn main() {
     // with a word given, only the rows that have it
     let word = std::env::args().nth(1).unwrap_or_default();
     for (name, proved, reference) in ROWS.into_iter().filter(|row| row.0.contains(&word)) {
-        let (ours, theirs) = (best(proved), best(reference));
+        let (ours, theirs) = best(proved, reference);
         println!("{name:<52}{ours:>10.1}{theirs:>12.1}{:>7.2}x", theirs / ours);
     }
     println!("ratio: the reference's time over the proved filter's; above 1 the proved filter is faster");
