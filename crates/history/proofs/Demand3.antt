@@ -25,7 +25,7 @@ use Rattle.session.specs.Meaning.{modelOf, WellFormed}
 use Rattle.image_writer.specs.Write.{imageOf}
 use Rattle.image_reader.specs.Read.{toldLoaded, readOf}
 use Rattle.history.specs.History.{afterOf, BeganOn, anew, fromImage}
-use Rattle.history.specs.Demand3.{Open, Writes, Demand3}
+use Rattle.history.specs.Demand3.{Writable, Writes, Demand3}
 use Rattle.laws.proofs.Bool.{test, clash}
 use Rattle.laws.proofs.Verdicts.{pick}
 use Rattle.laws.proofs.Load.{load-write}

@@ -3,44 +3,36 @@ use mathlib.Core.Path.{_≡_, refl, sym, ap, _∙_}
 use Prim.Native.Nat.{ℕ, _+_, _<_}
 use native.Mathlib.Omega.{arith}
 use mathlib.Core.List.{List, [], _∷_}
-use mathlib.Core.Bool.{Bool, true, false, not, _&&_}
+use mathlib.Core.Bool.{false, not}
 use lib.Dec.{eqb}
 use Rattle.kvmi.specs.declared.Settings.{Settings}
 use Rattle.kvmi.specs.Answer.{Paper}
-use Rattle.kvmi.specs.Bits.{bit}
 use Rattle.kvmi.specs.Tables.{Vcpu}
 use Rattle.kvmi.specs.Model.{Model}
-use Rattle.kvmi.specs.Call.{Call, message, ready, enter, writeImage, step, after}
-use Rattle.kvmi.specs.Pauses.{kicks, accepted, sent, queued, acceptedIn, sentIn}
+use Rattle.kvmi.specs.Call.{Call, step, after}
+use Rattle.kvmi.specs.Pauses.{accepted, sent, queued, acceptedIn, sentIn}
 use Rattle.store.specs.Meaning.{vcpuOfWords}
 use Rattle.session.specs.State.{State}
 use Rattle.session.specs.Meaning.{modelOf}
 use Rattle.history.specs.History.{stepOf, afterOf, BeganOn}
-use Rattle.history.specs.Pauses.{queuedOf, sentBy, sentOver, acceptedOver}
+use Rattle.history.specs.Pauses.{queuedOf, sentOver, acceptedOver}
 use Rattle.laws.proofs.Pauses.{pauses-balanced}
 use Rattle.refine.proofs.Vcpus.{vcpus-at}
 use Rattle.history.proofs.Lists.{Stands, stands-range, stands-valid, step-stands, after-stands, step-same, began-stands}
 
 same-accepted : (s : Settings) (st : State) (m : Model) (vcpu : ℕ) (cs : List Call) → Stands s st m → acceptedOver vcpu st cs ≡ acceptedIn vcpu s m cs
-unfolding acceptedOver acceptedIn accepted
+unfolding acceptedOver acceptedIn
 same-accepted s st m vcpu [] f = refl
 same-accepted s st m vcpu (c ∷ cs) f =
-    let one = ap (λ (p : Paper). kicks vcpu (p .signal)) (step-same s st m c f .0) in
+    let one = ap (λ (a : Paper). accepted vcpu a) (step-same s st m c f .0) in
     let rest = same-accepted s (stepOf st c .state) (step s m c .model) vcpu cs (step-stands s st m c f) in
     omega arith
-
-same-sent-by : (s : Settings) (st : State) (m : Model) (vcpu : ℕ) (c : Call) → stepOf st c .answer ≡ step s m c .answer → sentBy vcpu c (stepOf st c) ≡ sent vcpu c (step s m c)
-unfolding sentBy sent
-same-sent-by s st m vcpu (message msg out guest) e = refl
-same-sent-by s st m vcpu (ready v) e = refl
-same-sent-by s st m vcpu (enter v block out) e = ap (λ (p : Paper). bit (eqb v vcpu && not (eqb (p .count) 0))) e
-same-sent-by s st m vcpu (writeImage out) e = refl
 
 same-sent : (s : Settings) (st : State) (m : Model) (vcpu : ℕ) (cs : List Call) → Stands s st m → sentOver vcpu st cs ≡ sentIn vcpu s m cs
 unfolding sentOver sentIn
 same-sent s st m vcpu [] f = refl
 same-sent s st m vcpu (c ∷ cs) f =
-    let one = same-sent-by s st m vcpu c (step-same s st m c f .0) in
+    let one = ap (λ (a : Paper). sent vcpu c a) (step-same s st m c f .0) in
     let rest = same-sent s (stepOf st c .state) (step s m c .model) vcpu cs (step-stands s st m c f) in
     omega arith
 

@@ -19,6 +19,7 @@ isBegun anew = true
 isBegun (fromBytes l) = true
 isBegun (standing m) = false
 
+-- how a row begins on words; a row that begins in the middle is not carried over (`isBegun`)
 abbrev pub begunOn : Settings → Start → List ℕ → List ℕ → Told
 begunOn s anew vcpus pages = freshOf s vcpus pages
 begunOn s (fromBytes l) vcpus pages = readOf s l vcpus pages

@@ -20,9 +20,9 @@ use Rattle.image_writer.specs.Write.{imageOf}
 use Rattle.image_reader.specs.Read.{readOf}
 use Rattle.history.specs.History.{afterOf, BeganOn}
 
--- image writing after the list, and the model after the same list
-abbrev pub Open : Settings → Model → List Call → Type 0
-Open s m cs = (after s m cs .closed ≡ false) × (awaitsAny (after s m cs .awaited) ≡ false)
+-- after the list the model is open and awaits no reply, so that its image can be written
+abbrev pub Writable : Settings → Model → List Call → Type 0
+Writable s m cs = (after s m cs .closed ≡ false) × (awaitsAny (after s m cs .awaited) ≡ false)
 
 -- the bytes that the writer writes into an output that has room, and then the rest of it
 abbrev pub Writes : State → List ℕ → List ℕ → Type 0
@@ -36,10 +36,10 @@ pub record Demand3 : Type 0 where
   pub busy : (s : Settings) (st : State) (m : Model) → BeganOn s st m → (cs : List Call) (out : List ℕ)
       → (imageOf (afterOf st cs) out .answer .number ≡ 10) ↔ ((after s m cs .closed ≡ false) × (awaitsAny (after s m cs .awaited) ≡ true))
   -- "Otherwise the image, given room, is document 01's table image of exactly the book's ready marks, switches, pause queues and page rights."
-  pub writes : (s : Settings) (st : State) (m : Model) → BeganOn s st m → (cs : List Call) (out : List ℕ) → Open s m cs
+  pub writes : (s : Settings) (st : State) (m : Model) → BeganOn s st m → (cs : List Call) (out : List ℕ) → Writable s m cs
       → length (image (after s m cs .tables)) ≤ length out → Writes (afterOf st cs) out (image (after s m cs .tables))
   -- "Two sessions open with no reply awaited, under equal settings and each after a list of its own, have equal images exactly when those standings are equal."
-  pub alike : (s : Settings) (st st′ : State) (m k : Model) → BeganOn s st m → BeganOn s st′ k → (cs ds : List Call) (out out′ bytes bytes′ : List ℕ) → Open s m cs → Open s k ds
+  pub alike : (s : Settings) (st st′ : State) (m k : Model) → BeganOn s st m → BeganOn s st′ k → (cs ds : List Call) (out out′ bytes bytes′ : List ℕ) → Writable s m cs → Writable s k ds
       → Writes (afterOf st cs) out bytes → Writes (afterOf st′ ds) out′ bytes′ → (bytes ≡ bytes′) ↔ SameTables (after s m cs .tables) (after s k ds .tables)
   -- "An image that document 01's rules accept, loaded and written again, given room, gives the same bytes."
   pub again : (s : Settings) (vcpus pages : List ℕ) → length vcpus ≡ 4352 → length pages ≡ 1024 → (l : List ℕ) (t : Tables) → So (areBytes l) → So (inRange s) → loadImage s l ≡ loaded t

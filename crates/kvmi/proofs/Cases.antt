@@ -17,10 +17,10 @@ use Rattle.kvmi.specs.Record.{kindAt}
 use Rattle.kvmi.specs.Image.{image, vmForm, isIdle, vcForm, msForm, paForm, vmMay, mayEnable, vcMay, paMay, loadImage}
 use Rattle.kvmi.specs.Call.{beginFresh, beginFrom, answering, judged, headed, messageStep, readyStep, pausing, enterStep, imageStep, step}
 use Rattle.kvmi.specs.Case.{Case, seen, cases}
-use Rattle.kvmi.specs.Edge.{Edge, outcome}
-use Rattle.kvmi.specs.MessageEdges.{ofMessages, paddings, paddingsSeen}
-use Rattle.kvmi.specs.SessionEdges.{ofSessions, lookups, lookupsSeen, accesses, accessesSeen, crowded, crowdedSeen}
-use Rattle.kvmi.specs.ImageEdges.{ofImages, crammed, crammedSeen}
+use Rattle.kvmi.proofs.Edge.{Edge, outcome}
+use Rattle.kvmi.proofs.MessageEdges.{ofMessages, paddings, paddingsSeen}
+use Rattle.kvmi.proofs.SessionEdges.{ofSessions, lookups, lookupsSeen, accesses, accessesSeen, crowded, crowdedSeen}
+use Rattle.kvmi.proofs.ImageEdges.{ofImages, crammed, crammedSeen}
 
 abbrev Right : List Case → Type 0
 Right cs = map seen cs ≡ map (λ (c : Case). c .expected) cs

@@ -1,2 +1,6 @@
 pub mod Cases
 pub mod Answers
+mod Edge
+mod MessageEdges
+mod SessionEdges
+mod ImageEdges

@@ -24,6 +24,7 @@ plain k = record { number = k; count = 0; signal = Quiet; offset = 0 }
 abbrev pub plainAt : ℕ → ℕ → Paper
 plainAt k off = record { number = k; count = 0; signal = Quiet; offset = off }
 
+-- the table's row of each case
 abbrev pub paper : Answer → Paper
 paper (Handled n g) = handled n g
 paper Closing = plain 1

@@ -4,6 +4,7 @@ use mathlib.Core.List.{List, [], _∷_}
 use mathlib.Core.Bool.{Bool, true, false, _&&_, _||_}
 use lib.Dec.{eqb}
 
+-- a switch as a bit
 abbrev pub bit : Bool → ℕ
 bit true = 1
 bit false = 0
@@ -30,6 +31,7 @@ abbrev pub among : ℕ → List ℕ → Bool
 among x [] = false
 among x (y ∷ ys) = eqb x y || among x ys
 
+-- each of a list has f
 abbrev pub every {ℓ} : {A : Type ℓ} → (A → Bool) → List A → Bool
 every f [] = true
 every f (x ∷ xs) = f x && every f xs

@@ -53,6 +53,7 @@ pub record Begin : Type 0 where
   pub answer : Paper
   pub model : Option Model
 
+-- answer 0, with no bytes
 abbrev pub beginning : Model → Begin
 beginning m = record { answer = handled 0 Quiet; model = some m }
 
@@ -60,9 +61,11 @@ beginning m = record { answer = handled 0 Quiet; model = some m }
 abbrev pub noSession : Paper → Begin
 noSession p = record { answer = p; model = none }
 
+-- answer 7: "a count out of its range", "no session"
 unfoldable pub beginFresh : Settings → Begin
 beginFresh s = cond (inRange s) (beginning (fresh s)) (noSession (plain 7))
 
+-- answers 8 and 9, with the offset; "first fresh, or fresh but for what the image states"
 abbrev pub beginLoaded : Loaded → Begin
 beginLoaded (loaded t) = beginning (begun t)
 beginLoaded (badForm off) = noSession (plainAt 8 off)
@@ -96,6 +99,7 @@ unfoldable pub headed : Settings → Model → List ℕ → List ℕ → List �
 headed s m d out guest Broken = closing s out guest
 headed s m d out guest (Whole id size seq) = judged s m id seq d out guest (verdict s (factsOf m (length guest) (vcpuOf d)) id seq d)
 
+-- 2 closed; 3 short out, below 4,112; then the tests
 unfoldable pub messageStep : Settings → Model → List ℕ → List ℕ → List ℕ → Step
 messageStep s m msg out guest =
     cond (m .closed) (unchanged 2 m out guest)
@@ -116,6 +120,7 @@ pausing m vcpu state out =
     writing (pauseEvent (m .seq) vcpu state) Quiet out []
     (withSeq (setAwaited (onVcpu m vcpu (λ v. withPauses v (v .pauses - 1))) vcpu (some (record { event = 2; seq = m .seq }))) (nextSeq (m .seq)))
 
+-- 2 closed; 4 bad vCPU; 5 bad state block, not 536 bytes; 3 short out, below 552; 6 waiting
 unfoldable pub enterStep : Settings → Model → ℕ → List ℕ → List ℕ → Step
 enterStep s m vcpu state out =
     cond (m .closed) (unchanged 2 m out [])
@@ -130,6 +135,7 @@ abbrev pub awaitsAny : List (Option Awaited) → Bool
 awaitsAny [] = false
 awaitsAny (a ∷ rest) = isSome a || awaitsAny rest
 
+-- 2 closed; 10 busy, "while any reply is awaited"; 3 short out, below the image's length
 unfoldable pub imageStep : Model → List ℕ → Step
 imageStep m out =
     cond (m .closed) (unchanged 2 m out [])
@@ -148,15 +154,18 @@ pub data Call : Type 0 where
   -- output
   writeImage : List ℕ → Call
 
+-- "A call's arguments, the settings and these rules, read on the book and never on the session, move it"
 unfoldable pub step : Settings → Model → Call → Step
 step s m (message msg out guest) = messageStep s m msg out guest
 step s m (ready vcpu) = readyStep s m vcpu
 step s m (enter vcpu state out) = enterStep s m vcpu state out
 step s m (writeImage out) = imageStep m out
 
+-- the model after a call
 unfoldable pub move : Settings → Model → Call → Model
 move s m c = step s m c .model
 
+-- and after a list of calls
 unfoldable pub after : Settings → Model → List Call → Model
 after s m [] = m
 after s m (c ∷ cs) = after s (move s m c) cs

@@ -27,6 +27,7 @@ pub record Run : Type 0 where
   pub pages : List Page
   pub skipped : Bool
 
+-- what an entry asks for, in the message's view
 abbrev pub pageOf : ℕ → Entry → Page
 pageOf view e = record { view = view; page = e .page; access = e .access }
 
@@ -38,6 +39,7 @@ isSkipped limit p ps = not (has pageKey (pageKey p) ps) && not (eqb (p .access) 
 unfoldable pub setPage : Page → List Page → List Page
 setPage p ps = cond (eqb (p .access) 7) (forget pageKey (pageKey p) ps) (put pageKey p ps)
 
+-- one entry: skipped, or its page set
 unfoldable pub takeEntry : ℕ → ℕ → Entry → Run → Run
 takeEntry limit view e r =
     cond (isSkipped limit (pageOf view e) (r .pages))
@@ -50,6 +52,7 @@ takeEntries limit view [] r = r
 takeEntries limit view (e ∷ es) r = takeEntries limit view es (takeEntry limit view e r)
 
 -- ---- message 12
+-- "sets its switch to enable": a switch that is off has no record
 unfoldable pub setMsr : Msr → Bool → List Msr → List Msr
 setMsr m on ms = cond on (put msrKey m ms) (forget msrKey (msrKey m) ms)
 
@@ -60,13 +63,16 @@ pub record Applied : Type 0 where
   pub guest : List ℕ
   pub code : ℤ
 
+-- without an error
 abbrev pub applied : Model → List ℕ → Applied
 applied m guest = record { model = m; guest = guest; code = OK }
 
+-- "any skip gives -12"
 abbrev pub appliedRun : Model → List ℕ → Run → Applied
 appliedRun m guest r = record { model = withTables m (withPages (m .tables) (r .pages)); guest = guest; code = cond (r .skipped) ENOMEM OK }
 
--- d is the message's data
+-- "a message handled without error sets its switch to enable (5, 10, 11, 12, 14) or adds a pause (9); applied entries of 13 set pages"; d is the
+-- message's data
 unfoldable pub apply : Model → List ℕ → List ℕ → Change → Applied
 apply m guest d Nothing = applied m guest
 apply m guest d (SetVmEvent event on) = applied (withTables m (withVmEvents (m .tables) (putBit (m .tables .events) event on))) guest
@@ -83,11 +89,12 @@ apply m guest d (SetReplies mode now) = applied (withMode m mode) guest
 apply m guest d (EndWait vcpu crash) = applied (setAwaited m vcpu none) guest
 
 -- ---- what else a change decides
--- kick(vCPU, wait) of message 9, and "A crash is signalled"
+-- "A crash is signalled; the session stays open."
 abbrev pub crashing : ℕ → Bool → Signal
 crashing vcpu true = Crash vcpu
 crashing vcpu false = Quiet
 
+-- "signal: none, kick(vCPU, wait), crash(vCPU)": a kick for message 9
 abbrev pub signalOf : Change → Signal
 signalOf Nothing = Quiet
 signalOf (SetVmEvent event on) = Quiet

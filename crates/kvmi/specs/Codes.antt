@@ -1,7 +1,8 @@
--- Error codes: "Error numbers are Linux's."
+-- Error codes: "Error numbers are Linux's.", but for ENOSYS, which document 01 gives as -1000.
 use lib.IntN.{ℤ, pos, negsuc}
 use mathlib.Core.Bool.{Bool, true, false}
 
+-- no error
 abbrev pub OK : ℤ
 OK = pos 0
 
@@ -37,6 +38,7 @@ EOPNOTSUPP = negsuc 94
 abbrev pub ENOSYS : ℤ
 ENOSYS = negsuc 999
 
+-- "a signed 32-bit number, zero or below": below zero it is an error
 abbrev pub isError : ℤ → Bool
 isError (pos n) = false
 isError (negsuc n) = true

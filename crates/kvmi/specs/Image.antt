@@ -53,13 +53,15 @@ vcRecords i (v ∷ vs) rest = vcRecord i v ∷ vcRecords (suc i) vs rest
 abbrev pub recordCount : Tables → ℕ
 recordCount t = 1 + length (t .vcpus) + length (t .msrs) + length (t .pages)
 
--- "Order: one VM; one VC for every vCPU, ascending; MS by vCPU then MSR; PA by view then page [..]; EN, then nothing."
+-- the records of tables, with n as the vCPU count that VM states, and then the rest: "Order: one VM; one VC for every vCPU, ascending; MS by vCPU then MSR; PA by view then page [..]; EN, then nothing."
 abbrev pub recordsBefore : ℕ → Tables → List Rec → List Rec
 recordsBefore n t rest = vmRecord n (t .events) ∷ vcRecords 0 (t .vcpus) (onto msRecord (t .msrs) (onto paRecord (t .pages) rest))
 
+-- all of them: "EN: u32 count of the records before it"
 abbrev pub records : Tables → List Rec
 records t = recordsBefore (length (t .vcpus)) t (enRecord (recordCount t) ∷ [])
 
+-- the table image of tables
 unfoldable pub image : Tables → List ℕ
 image t = writeAll (records t)
 
@@ -137,6 +139,7 @@ vcMay s v = bitsHave (mayEnable s) 0 16 (v .events) && (eqb (v .pauses) 0 || all
 unfoldable pub paMay : Settings → Page → Bool
 paMay s p = ltb (p .view) (s .views)
 
+-- the permission of a record behind VM, whose own is above; MS and EN ask nothing of the settings
 abbrev pub mayOf : (k : Kind) → Settings → Row (widths k) → Bool
 mayOf VM s f = true
 mayOf VC s f = vcMay s (vcpuOfRow f)
@@ -180,6 +183,7 @@ loadRest s n off lo t (whole PA f ∷ rs) =
     judge (fitsIn PA n lo t f) (mayOf PA s f) off (loadRest s n (off + size PA) (suc (orderOf PA f)) (withRecord PA t f) rs)
 loadRest s n off lo t (whole EN f ∷ rs) = judge (fitsIn EN n lo t f) (mayOf EN s f) off (ending t (off + size EN) rs)
 
+-- what VM alone states
 abbrev pub stated : ℕ → Tables
 stated events = record { events = events; vcpus = []; msrs = []; pages = [] }
 
@@ -195,5 +199,6 @@ loadRecords s (whole MS f ∷ rs) = badForm 0
 loadRecords s (whole PA f ∷ rs) = badForm 0
 loadRecords s (whole EN f ∷ rs) = badForm 0
 
+-- what the bytes of an image load as under settings
 unfoldable pub loadImage : Settings → List ℕ → Loaded
 loadImage s l = loadRecords s (parse (length l) l)

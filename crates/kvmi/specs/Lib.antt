@@ -17,7 +17,3 @@ pub mod Valid
 pub mod Call
 pub mod Pauses
 pub mod Case
-pub mod Edge
-pub mod MessageEdges
-pub mod SessionEdges
-pub mod ImageEdges

@@ -19,6 +19,7 @@ use Rattle.kvmi.specs.Bits.{among}
 abbrev pub row : SizeRule → ReplyKind → Handler → Layout
 row size reply handler = record { size = size; reply = reply; handler = handler }
 
+-- the row of an id that the table has not
 abbrev pub unknown : Layout
 unknown = row Unruled CodeOnly Unknown
 
@@ -44,6 +45,7 @@ messages =
     ∷ row (Exactly 16) Silent EventReply
     ∷ []
 
+-- an id's row
 unfoldable pub layoutOf : ℕ → Layout
 layoutOf id = getD messages id unknown
 
@@ -54,6 +56,7 @@ sizeFits SizeField d = leb 16 (length d) && eqb (length d) (16 + load 8 d 8)
 sizeFits Entries d = leb 8 (length d)
 sizeFits Unruled d = true
 
+-- the last column, "Reply data"
 abbrev pub carriesData : ReplyKind → Bool
 carriesData CodeOnly = false
 carriesData WithData = true
@@ -64,8 +67,13 @@ carriesData Silent = false
 unfoldable pub namesVcpu : ℕ → Bool
 namesVcpu id = among id (8 ∷ 9 ∷ 10 ∷ 11 ∷ 12 ∷ 14 ∷ [])
 
+-- the vCPU header: vcpu u16, then padding
 unfoldable pub vcpuOf : List ℕ → ℕ
 vcpuOf d = load 2 d 0
+
+-- message 2: id u16, then padding
+abbrev pub commandOf : List ℕ → ℕ
+commandOf d = load 2 d 0
 
 -- the place of enable (wait in 9), in the messages that have one
 unfoldable pub enableAt : ℕ → ℕ
@@ -79,7 +87,14 @@ enables id d = eqb (getD d (enableAt id) 0) 1
 unfoldable pub flagsAt : ℕ → List ℕ
 flagsAt id = cond (among id (5 ∷ 9 ∷ 10 ∷ 11 ∷ 12 ∷ 14 ∷ [])) (enableAt id ∷ []) (cond (eqb id 15) (0 ∷ 1 ∷ 2 ∷ []) [])
 
--- messages 3, 5 and 10
+-- message 15: enable u8, now u8, flags u8, then padding; "flag bit 0" is the only one, since "response flags above 1" are -22
+abbrev pub isNow : List ℕ → Bool
+isNow d = eqb (getD d 1 0) 1
+
+abbrev pub hasFlag : List ℕ → Bool
+hasFlag d = eqb (getD d 2 0) 1
+
+-- messages 3, 5 and 10: event u16
 unfoldable pub eventOf : ℕ → List ℕ → ℕ
 eventOf id d = load 2 d (cond (eqb id 10) 8 0)
 
@@ -87,23 +102,33 @@ eventOf id d = load 2 d (cond (eqb id 10) 8 0)
 unfoldable pub registerOf : List ℕ → ℕ
 registerOf d = load 4 d 12
 
+-- messages 6 and 7: gpa u64, size u64
 unfoldable pub gpaOf : List ℕ → ℕ
 gpaOf d = load 8 d 0
 
 unfoldable pub sizeOf : List ℕ → ℕ
 sizeOf d = load 8 d 8
 
--- message 13 says how many entries it has, and its size must agree with that
+-- message 13: count u16, which its size must agree with
 unfoldable pub countOf : List ℕ → ℕ
 countOf d = load 2 d 0
 
+-- "a count that disagrees is -22"
 unfoldable pub countFits : List ℕ → Bool
 countFits d = eqb (length d) (8 + 16 * countOf d)
 
+-- behind the count, the view u16
 unfoldable pub viewOf : List ℕ → ℕ
 viewOf d = load 2 d 2
 
--- an entry of message 13; "Page number is gpa / 4096, rounded down". (`% 2 ^ 64` only says that an address has 64 bits: any eight bytes do.)
+-- EVENT_REPLY: behind the vCPU header the action u8 and the event u8, then padding
+abbrev pub actionOf : List ℕ → ℕ
+actionOf d = getD d 8 0
+
+abbrev pub repliedEvent : List ℕ → ℕ
+repliedEvent d = getD d 9 0
+
+-- an entry of message 13: gpa u64, access u8, then padding; "Page number is gpa / 4096, rounded down". (`% 2 ^ 64` only says that an address has 64 bits: any eight bytes do.)
 pub record Entry : Type 0 where
   pub page : ℕ
   pub access : ℕ
@@ -139,11 +164,12 @@ unfoldable pub firstNonZero : List ℕ → ℕ → ℕ → ℕ → ℕ
 firstNonZero d at zero after = after
 firstNonZero d at (suc n) after = cond (eqb (getD d at 0) 0) (firstNonZero d (suc at) n after) (8 + at)
 
+-- the first in runs of bytes, in their order
 unfoldable pub firstOfRuns : List ℕ → List (ℕ × ℕ) → ℕ
 firstOfRuns d [] = 0
 firstOfRuns d (r ∷ rs) = firstNonZero d (r .0) (r .1) (firstOfRuns d rs)
 
--- the message offset of the first padding byte that is not zero, or 0
+-- the message offset of the first padding byte that is not zero, or 0, which no padding byte has: test 6 asks only whether it is 0
 unfoldable pub firstPadding : ℕ → List ℕ → ℕ
 firstPadding id d = firstOfRuns d (padding id d)
 

@@ -15,6 +15,7 @@ pub record Awaited : Type 0 where
   pub event : ℕ
   pub seq : ℕ
 
+-- "Beside the standing: the reply mode, the next event seq, each vCPU's awaited event, and whether closed."
 pub record Model : Type 0 where
   pub tables : Tables
   pub mode : ReplyMode

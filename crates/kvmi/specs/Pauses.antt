@@ -7,9 +7,10 @@ use Rattle.kvmi.specs.declared.Settings.{Settings}
 use Rattle.kvmi.specs.declared.Signal.{Signal}
 use Rattle.kvmi.specs.declared.Signal.the-variants.{Quiet, Kick, Crash}
 use Rattle.kvmi.specs.Bits.{bit}
+use Rattle.kvmi.specs.Answer.{Paper}
 use Rattle.kvmi.specs.Tables.{vcpuAt}
 use Rattle.kvmi.specs.Model.{Model}
-use Rattle.kvmi.specs.Call.{Step, Call, message, ready, enter, writeImage, step}
+use Rattle.kvmi.specs.Call.{Call, message, ready, enter, writeImage, step}
 
 -- a pause of a vCPU is accepted where its kick is signalled
 abbrev pub kicks : ℕ → Signal → ℕ
@@ -17,24 +18,26 @@ kicks vcpu Quiet = 0
 kicks vcpu (Kick v wait) = bit (eqb v vcpu)
 kicks vcpu (Crash v) = 0
 
-unfoldable pub accepted : ℕ → Step → ℕ
-accepted vcpu r = kicks vcpu (r .answer .signal)
+-- by a call's answer
+unfoldable pub accepted : ℕ → Paper → ℕ
+accepted vcpu a = kicks vcpu (a .signal)
 
 -- a pause event is sent where an entry of the vCPU writes bytes
-unfoldable pub sent : ℕ → Call → Step → ℕ
-sent vcpu (message msg out guest) r = 0
-sent vcpu (ready v) r = 0
-sent vcpu (enter v block out) r = bit (eqb v vcpu && not (eqb (r .answer .count) 0))
-sent vcpu (writeImage out) r = 0
+unfoldable pub sent : ℕ → Call → Paper → ℕ
+sent vcpu (message msg out guest) a = 0
+sent vcpu (ready v) a = 0
+sent vcpu (enter v block out) a = bit (eqb v vcpu && not (eqb (a .count) 0))
+sent vcpu (writeImage out) a = 0
 
+-- the pauses that a vCPU has queued
 unfoldable pub queued : ℕ → Model → ℕ
 queued vcpu m = vcpuAt (m .tables) vcpu .pauses
 
 -- over a list of calls
 unfoldable pub acceptedIn : ℕ → Settings → Model → List Call → ℕ
 acceptedIn vcpu s m [] = 0
-acceptedIn vcpu s m (c ∷ cs) = accepted vcpu (step s m c) + acceptedIn vcpu s (step s m c .model) cs
+acceptedIn vcpu s m (c ∷ cs) = accepted vcpu (step s m c .answer) + acceptedIn vcpu s (step s m c .model) cs
 
 unfoldable pub sentIn : ℕ → Settings → Model → List Call → ℕ
 sentIn vcpu s m [] = 0
-sentIn vcpu s m (c ∷ cs) = sent vcpu c (step s m c) + sentIn vcpu s (step s m c .model) cs
+sentIn vcpu s m (c ∷ cs) = sent vcpu c (step s m c .answer) + sentIn vcpu s (step s m c .model) cs

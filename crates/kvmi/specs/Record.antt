@@ -8,6 +8,7 @@ use lib.Dec.{eqb, leb}
 use Rattle.wire.specs.Bytes.{num}
 use Rattle.kvmi.specs.Row.{Row, writeRow, readRow, width}
 
+-- the five kinds of records
 pub data Kind : Type 0 where
   VM VC MS PA EN : Kind
 
@@ -19,6 +20,7 @@ mark MS = 0x534D
 mark PA = 0x4150
 mark EN = 0x4E45
 
+-- the kind with a mark
 abbrev pub kindIn : List Kind → ℕ → Option Kind
 kindIn [] m = none
 kindIn (k ∷ ks) m = cond (eqb m (mark k)) (some k) (kindIn ks m)
@@ -39,6 +41,7 @@ widths PA = 2 ∷ 1 ∷ 1 ∷ 8 ∷ []
 -- count of the records before it
 widths EN = 4 ∷ []
 
+-- a record's bytes, its mark among them
 abbrev pub size : Kind → ℕ
 size k = width (2 ∷ widths k)
 
@@ -96,10 +99,11 @@ pub data Rec : Type 0 where
   whole : (k : Kind) → Row (widths k) → Rec
   cut : List ℕ → Rec
 
--- the place of a record in the image's order: kind, then vCPU or view, then MSR or page
+-- the place of a record in the image's order: kind, then vCPU or view (a u16, below 2^16), then MSR or page (a u32 or a u64, below 2^64)
 abbrev pub place : ℕ → ℕ → ℕ → ℕ
 place kind major minor = kind * 2 ^ 80 + (major * 2 ^ 64 + minor)
 
+-- a record's place
 abbrev pub orderOf : (k : Kind) → Row (widths k) → ℕ
 orderOf VM f = place 0 0 0
 orderOf VC f = place 1 (vcVcpu f) 0
@@ -107,6 +111,7 @@ orderOf MS f = place 2 (msVcpu f) (msMsr f)
 orderOf PA f = place 3 (paView f) (paPage f)
 orderOf EN f = place 4 0 0
 
+-- a record's bytes
 abbrev pub write : Rec → List ℕ
 write (whole k f) = writeRow (2 ∷ widths k) (mark k, f)
 write (cut l) = l

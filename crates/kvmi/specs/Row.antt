@@ -6,18 +6,22 @@ use lib.ListN.{drop}
 use lib.Dec.{ltb}
 use Rattle.wire.specs.Bytes.{le, num}
 
+-- a number for each width
 abbrev pub Row : List ℕ → Type 0
 Row [] = Unit {0}
 Row (w ∷ ws) = ℕ × Row ws
 
+-- its bytes
 unfoldable pub writeRow : (ws : List ℕ) → Row ws → List ℕ
 writeRow [] f = []
 writeRow (w ∷ ws) f = le w (f .0) ++ writeRow ws (f .1)
 
+-- read from the front of bytes
 unfoldable pub readRow : (ws : List ℕ) → List ℕ → Row ws
 readRow [] l = tt
 readRow (w ∷ ws) l = (num w l, readRow ws (drop w l))
 
+-- how many bytes it has
 abbrev pub width : List ℕ → ℕ
 width [] = 0
 width (w ∷ ws) = w + width ws

@@ -18,6 +18,7 @@ isSet flag = not (eqb flag 0)
 unfoldable pub allowsCommand : Settings → ℕ → Bool
 allowsCommand s id = among id (1 ∷ 2 ∷ 3 ∷ 16 ∷ []) || isOn (s .commands) id
 
+-- "allowed commands and events as bit sets (bit k for number k, unknown bits ignored)"
 unfoldable pub allowsEvent : Settings → ℕ → Bool
 allowsEvent s event = isOn (s .events) event
 

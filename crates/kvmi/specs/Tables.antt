@@ -26,13 +26,15 @@ pub record Page : Type 0 where
   pub page : ℕ
   pub access : ℕ
 
--- by vCPU then MSR, and by view then page
+-- "by vCPU then MSR", and "by view then page": numbers in that order, since an MSR has 32 bits and a page number 52
 abbrev pub msrKey : Msr → ℕ
 msrKey m = m .vcpu * 2 ^ 64 + m .msr
 
 abbrev pub pageKey : Page → ℕ
 pageKey p = p .view * 2 ^ 64 + p .page
 
+-- "Standing: VM event switches; for each vCPU its ready mark, event switches, CR0/CR3/CR4 switches, MSR switches, singlestep and queued pauses (0..8);
+-- for each view and page number an access."
 pub record Tables : Type 0 where
   -- VM event switches
   pub events : ℕ
@@ -98,15 +100,20 @@ crBit cr = cond (eqb cr 0) 0 (cond (eqb cr 3) 1 2)
 unfoldable pub isMsr : ℕ → Bool
 isMsr m = leb m 0x1FFF || leb 0xC0000000 m && leb m 0xC0001FFF
 
+-- ---- lookups, by which a reader reads the tables: whether a switch is on
+-- "VM event switches"
 unfoldable pub vmEventOn : Tables → ℕ → Bool
 vmEventOn t event = isOn (t .events) event
 
+-- of a vCPU, its "event switches"; past the count there are none
 unfoldable pub eventOn : Tables → ℕ → ℕ → Bool
 eventOn t vcpu event = isOn (vcpuAt t vcpu .events) event
 
+-- "CR0/CR3/CR4 switches"
 unfoldable pub crOn : Tables → ℕ → ℕ → Bool
 crOn t vcpu cr = isCr cr && isOn (vcpuAt t vcpu .crs) (crBit cr)
 
+-- "MSR switches": those that are on have a record
 unfoldable pub msrIn : List Msr → ℕ → ℕ → Bool
 msrIn [] vcpu msr = false
 msrIn (m ∷ ms) vcpu msr = eqb (m .vcpu) vcpu && eqb (m .msr) msr || msrIn ms vcpu msr
@@ -114,7 +121,7 @@ msrIn (m ∷ ms) vcpu msr = eqb (m .vcpu) vcpu && eqb (m .msr) msr || msrIn ms v
 unfoldable pub msrOn : Tables → ℕ → ℕ → Bool
 msrOn t vcpu msr = msrIn (t .msrs) vcpu msr
 
--- R 1, W 2, X 4; a page with no record stands at rwx
+-- "for each view and page number an access": "R 1, W 2, X 4"; a page with no record stands at rwx
 unfoldable pub accessIn : List Page → ℕ → ℕ → ℕ
 accessIn [] view page = 7
 accessIn (p ∷ ps) view page = cond (eqb (p .view) view && eqb (p .page) page) (p .access) (accessIn ps view page)

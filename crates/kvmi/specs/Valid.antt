@@ -9,12 +9,14 @@ use Rattle.kvmi.specs.Table.{rising}
 use Rattle.kvmi.specs.Tables.{Vcpu, Page, Tables, msrKey, pageKey}
 use Rattle.kvmi.specs.Image.{vmForm, vcForm, msForm, paForm, vmMay, vcMay, paMay}
 
+-- a vCPU's record that has the form and is permitted, and a page's
 abbrev pub vcGood : Settings → Vcpu → Bool
 vcGood s v = vcForm v && vcMay s v
 
 abbrev pub paGood : Settings → Page → Bool
 paGood s p = paForm p && paMay s p
 
+-- what every list of calls leaves, and every image that loads states
 pub record Valid (s : Settings) (t : Tables) : Type 0 where
   -- as many vCPUs as the settings say, VM event switches that message 5 sets and the settings allow
   pub vm : So (vmForm (length (t .vcpus)) (t .events))

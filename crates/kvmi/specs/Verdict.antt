@@ -6,7 +6,6 @@ use mathlib.Core.Option.{Option, none, some}
 use lib.IntN.{ℤ}
 use lib.ListN.{getD, drop}
 use lib.Dec.{leb, eqb}
-use Rattle.wire.specs.Bytes.{load}
 use Rattle.kvmi.specs.declared.Settings.{Settings}
 use Rattle.kvmi.specs.declared.ReplyMode.{ReplyMode}
 use Rattle.kvmi.specs.declared.ReplyMode.the-variants.{On, Off, ErrorsOnly}
@@ -21,7 +20,7 @@ use Rattle.kvmi.specs.Codes.{EPERM, ENOENT, EAGAIN, EBUSY, EINVAL, EOPNO
 use Rattle.kvmi.specs.Settings.{allowsCommand, allowsEvent, canSinglestep, uncatchable, taken}
 use Rattle.kvmi.specs.Tables.{isCr, isMsr, vcpuAt}
 use Rattle.kvmi.specs.Model.{Awaited, Model, awaitedBy}
-use Rattle.kvmi.specs.Message.{layoutOf, sizeFits, carriesData, namesVcpu, vcpuOf, enables, flagsAt, eventOf, registerOf, gpaOf, sizeOf, countOf, countFits, viewOf, Entry, entriesOf, firstPadding, takesEvent}
+use Rattle.kvmi.specs.Message.{layoutOf, sizeFits, carriesData, namesVcpu, vcpuOf, commandOf, enables, isNow, hasFlag, actionOf, repliedEvent, flagsAt, eventOf, registerOf, gpaOf, sizeOf, countOf, countFits, viewOf, Entry, entriesOf, firstPadding, takesEvent}
 
 -- the event that a vCPU awaits a reply to, 0 for none, and its seq
 abbrev pub awaitedEvent : Option Awaited → ℕ
@@ -44,6 +43,7 @@ factsOf m guest vcpu =
       seq = awaitedSeq (awaitedBy m vcpu);
     }
 
+-- "replies on"
 abbrev pub repliesOn : ReplyMode → Bool
 repliesOn On = true
 repliesOn Off = false
@@ -66,7 +66,7 @@ isInvalid s id d =
     || namesVcpu id && leb (s .vcpus) (vcpuOf d)
     || not (every (λ at. leb (getD d at 0) 1) (flagsAt id))
     || among id (3 ∷ 5 ∷ 10 ∷ []) && not (takesEvent id (eventOf id d))
-    || eqb id 2 && not (leb 1 (load 2 d 0) && leb (load 2 d 0) 15)
+    || eqb id 2 && not (leb 1 (commandOf d) && leb (commandOf d) 15)
     || eqb id 11 && not (isCr (registerOf d))
     || eqb id 12 && not (isMsr (registerOf d))
     || eqb id 13 && leb (s .views) (viewOf d)
@@ -79,7 +79,7 @@ isUnready f id = namesVcpu id && not (f .ready)
 
 -- -1 EPERM
 unfoldable pub isDenied : Settings → ℕ → List ℕ → Bool
-isDenied s id d = among id (3 ∷ 5 ∷ 10 ∷ []) && not (allowsEvent s (eventOf id d)) || eqb id 2 && not (allowsCommand s (load 2 d 0))
+isDenied s id d = among id (3 ∷ 5 ∷ 10 ∷ []) && not (allowsEvent s (eventOf id d)) || eqb id 2 && not (allowsCommand s (commandOf d))
 
 -- -95 EOPNOTSUPP
 unfoldable pub isUnsupported : Settings → ℕ → List ℕ → Bool
@@ -104,6 +104,7 @@ modeOf true flag = On
 modeOf false true = ErrorsOnly
 modeOf false false = Off
 
+-- 5, 10, 11, 12 and 14 set a switch to enable, 9 adds a pause, 7 writes its bytes, 13 its entries, 15 the reply mode; the others change nothing
 unfoldable pub changeOf : ℕ → List ℕ → Change
 changeOf id d =
     cond (eqb id 5) (SetVmEvent (eventOf id d) (enables id d))
@@ -114,12 +115,12 @@ changeOf id d =
     (cond (eqb id 12) (SetMsr (vcpuOf d) (registerOf d) (enables id d))
     (cond (eqb id 13) (SetPages (viewOf d) (countOf d))
     (cond (eqb id 14) (SetSinglestep (vcpuOf d) (enables id d))
-    (cond (eqb id 15) (SetReplies (modeOf (enables id d) (eqb (getD d 2 0) 1)) (eqb (getD d 1 0) 1))
+    (cond (eqb id 15) (SetReplies (modeOf (enables id d) (hasFlag d)) (isNow d))
     Nothing))))))))
 
 -- test 5, its second sentence: "enable 0 and flag bit 0 set while event 13 is not allowed"
 unfoldable pub losesErrors : Settings → ℕ → List ℕ → Bool
-losesErrors s id d = eqb id 15 && not (enables id d) && eqb (getD d 2 0) 1 && not (allowsEvent s 13)
+losesErrors s id d = eqb id 15 && not (enables id d) && hasFlag d && not (allowsEvent s 13)
 
 -- test 6: "errors, the first that applies" (-12 is known when the entries of message 13 have run); and test 5's second sentence, which asks whether
 -- "test 6 would pass" and so stands behind it
@@ -137,10 +138,11 @@ commandVerdict s f id d =
 unfoldable pub isAwaited : Facts → ℕ → ℕ → Bool
 isAwaited f seq event = not (eqb (f .awaited) 0) && eqb (f .seq) seq && eqb (f .awaited) event
 
+-- "Once taken, it is awaited no more. A crash is signalled"
 unfoldable pub eventReplyVerdict : Facts → ℕ → List ℕ → Verdict
 eventReplyVerdict f seq d =
-    cond (eqb (firstPadding 16 d) 0 && isAwaited f seq (getD d 9 0) && among (getD d 8 0) (0 ∷ 2 ∷ []))
-    (Does (EndWait (vcpuOf d) (eqb (getD d 8 0) 2)))
+    cond (eqb (firstPadding 16 d) 0 && isAwaited f seq (repliedEvent d) && among (actionOf d) (0 ∷ 2 ∷ []))
+    (Does (EndWait (vcpuOf d) (eqb (actionOf d) 2)))
     Closes
 
 -- ---- tests 2 to 6
@@ -148,12 +150,18 @@ eventReplyVerdict f seq d =
 abbrev pub refuse : ReplyMode → ℤ → Verdict
 refuse mode code = cond (repliesOn mode) (Fails code) Closes
 
+-- each test in its order, the first that applies
 unfoldable pub verdict : Settings → Facts → ℕ → ℕ → List ℕ → Verdict
 verdict s f id seq d =
+    -- 2: "Id 0 or above 16: -1000 (ENOSYS). Id not allowed: -1 (EPERM)"
     cond (not (leb 1 id && leb id 16)) (refuse (f .mode) ENOSYS)
     (cond (not (allowsCommand s id)) (refuse (f .mode) EPERM)
+    -- 3: "Replies off and id 1, 4, 6 or 8: closes.": those whose replies carry data
     (cond (not (repliesOn (f .mode)) && carriesData (layoutOf id .reply)) Closes
+    -- 4: "Data size unlike the table: closes."
     (cond (not (sizeFits (layoutOf id .size) d)) Closes
+    -- 5 and 6 are not of EVENT_REPLY: "Then, for ids 1 to 15"
     (cond (eqb id 16) (eventReplyVerdict f seq d)
+    -- 5: "Message 9 while event 2 is not allowed: closes."; its second sentence, and 6
     (cond (eqb id 9 && not (allowsEvent s 2)) Closes
     (commandVerdict s f id d))))))

@@ -31,6 +31,7 @@ use Rattle.kvmi.specs.Reply.{messageBytes, eventBytes, pauseEvent}
 use Rattle.kvmi.specs.Valid.{Valid}
 use Rattle.kvmi.specs.Image.{image}
 use Rattle.kvmi.specs.Call.{Call, message, ready, enter, writeImage, Step, answering, judged, headed, unchanged, messageStep, readyStep, pausing, enterStep, awaitsAny, imageStep, step, move, after}
+use Rattle.kvmi.specs.Answer.{plain}
 use Rattle.kvmi.specs.Pauses.{kicks, accepted, sent, queued, acceptedIn, sentIn}
 use Rattle.laws.proofs.Bool.{test, clash}
 use Rattle.laws.proofs.Verdicts.{pick, Passed, verdict-cases, sound-of}
@@ -39,7 +40,7 @@ use Rattle.laws.proofs.Steps.{step-kept}
 
 -- the sum over one call that leaves the session open
 abbrev Balanced : ℕ → Model → Call → Step → Type 0
-Balanced vcpu m c r = r .model .closed ≡ false → queued vcpu m + accepted vcpu r ≡ sent vcpu c r + queued vcpu (r .model)
+Balanced vcpu m c r = r .model .closed ≡ false → queued vcpu m + accepted vcpu (r .answer) ≡ sent vcpu c (r .answer) + queued vcpu (r .model)
 
 -- one vCPU's record changed: the others' queues stay
 queue-of : (t : Tables) (i v : ℕ) (x : Vcpu) → i < length (t .vcpus) → vcpuAt (setVcpu t i x) v .pauses ≡ cond (eqb i v) (x .pauses) (vcpuAt t v .pauses)
@@ -106,7 +107,7 @@ module _ (s : Settings) (vcpu : ℕ) where
   end-even m guest d v false = add-zero _
 
   -- each call
-  still : (m : Model) (c : Call) (k : ℕ) (out guest : List ℕ) → sent vcpu c (unchanged k m out guest) ≡ 0 → Balanced vcpu m c (unchanged k m out guest)
+  still : (m : Model) (c : Call) (k : ℕ) (out guest : List ℕ) → sent vcpu c (plain k) ≡ 0 → Balanced vcpu m c (unchanged k m out guest)
   unfolding accepted
   still m c k out guest z _ = rw z (add-zero _ ∙ sym (zero-add _))
 

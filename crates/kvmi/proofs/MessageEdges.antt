@@ -13,7 +13,7 @@ use Rattle.kvmi.specs.Message.{firstPadding}
 use Rattle.kvmi.specs.Reply.{messageBytes}
 use Rattle.kvmi.specs.Call.{message, ready}
 use Rattle.kvmi.specs.Case.{two, out, page, send, vcpuHeader, physical, flagData, registerData, entry, accessData, pause, controlMsr, setAccess, reply, c0, c16, c22, vm, vc, en, freshImage, readyImage}
-use Rattle.kvmi.specs.Edge.{Edge, left, given, all, commanding, eventful, equipped, sized, without, few, naming, eventData, modeData, controlVmEvent, controlEvent, controlCr, singlestep, responses, to15, c1, c2, c11, c95, c1000, vmOf, vmHas, idle, ms, pa, joined, beside, nobody, quiet, over, told, answered, closing, row, taken, fails, closes, under, behind}
+use Rattle.kvmi.proofs.Edge.{Edge, left, given, all, commanding, eventful, equipped, sized, without, few, naming, eventData, modeData, controlVmEvent, controlEvent, controlCr, singlestep, responses, to15, c1, c2, c11, c95, c1000, vmOf, vmHas, idle, ms, pa, joined, beside, nobody, quiet, over, told, answered, closing, row, taken, fails, closes, under, behind}
 
 -- ---- each message once as it is taken
 -- its data; in the session of `two` with vCPU 0 ready, its reply's data, its signal, and guest memory and image after it

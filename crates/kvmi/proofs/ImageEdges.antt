@@ -9,8 +9,8 @@ use Rattle.kvmi.specs.Record.{place}
 use Rattle.kvmi.specs.Image.{Loaded, badForm as badFormAt, paRecord, enRecord, loadRest}
 use Rattle.kvmi.specs.Call.{writeImage}
 use Rattle.kvmi.specs.Case.{fromBytes, two, vm, vc, en, freshImage}
-use Rattle.kvmi.specs.SessionEdges.{holding, stands}
-use Rattle.kvmi.specs.Edge.{Edge, nothing, left, commanding, equipped, sized, without, few, lent, vmHas, idle, ms, pa, quiet, gave, started, begun}
+use Rattle.kvmi.proofs.SessionEdges.{holding, stands}
+use Rattle.kvmi.proofs.Edge.{Edge, nothing, left, commanding, equipped, sized, without, few, lent, vmHas, idle, ms, pa, quiet, gave, started, begun}
 
 -- under settings, an image that loads and states the same again; one of bad form, one that is forbidden, with the offset
 abbrev pub loads : Settings → List ℕ → Edge

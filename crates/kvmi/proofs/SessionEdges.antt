@@ -15,7 +15,7 @@ use Rattle.kvmi.specs.Change.{Run, takeEntries}
 use Rattle.kvmi.specs.Reply.{messageBytes}
 use Rattle.kvmi.specs.Call.{Call, message, ready, enter, writeImage}
 use Rattle.kvmi.specs.Case.{anew, fromBytes, standing, two, out, page, send, vcpuHeader, physical, entry, pause, controlMsr, setAccess, reply, c0, c22, vm, vc, en, freshImage, readyImage}
-use Rattle.kvmi.specs.Edge.{Outcome, Edge, nothing, left, commanding, sized, odd, lent, state, naming, eventData, modeData, answerData, controlVmEvent, controlEvent, controlCr, singlestep, responses, sendAs, eventReply, to15, c11, c12, vmHas, idle, ms, pa, joined, vmOf, pauseBytes, failBytes, beside, nobody, awaits, quiet, shut, over, told, gave, answered, closing, started, begun, row}
+use Rattle.kvmi.proofs.Edge.{Outcome, Edge, nothing, left, commanding, sized, odd, lent, state, naming, eventData, modeData, answerData, controlVmEvent, controlEvent, controlCr, singlestep, responses, sendAs, eventReply, to15, c11, c12, vmHas, idle, ms, pa, joined, vmOf, pauseBytes, failBytes, beside, nobody, awaits, quiet, shut, over, told, gave, answered, closing, started, begun, row}
 
 -- ---- replies and reply mode
 abbrev pub replyEdges : List Edge
