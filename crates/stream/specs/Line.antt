@@ -21,7 +21,7 @@ idOf msg = cond (leb 2 (length msg)) (Shown (load 2 msg 0)) Missing
 unfoldable pub seqOf : List ℕ → Number
 seqOf msg = cond (leb 8 (length msg)) (Shown (load 4 msg 4)) Missing
 
--- A CMD_ERROR among what a message can have written: event id 17, and the 568 bytes that no other message with this id has.
+-- A CMD_ERROR among what a message can have written: the id of outgoing events, 17, and the 568 bytes that no other message with this id has.
 unfoldable pub isCommandError : List ℕ → ℕ → Bool
 isCommandError out count = eqb count 568 && eqb (load 2 out 0) 17
 

@@ -175,7 +175,7 @@ impl fmt::Debug for Answer<'_> {
     }
 }
 
-/// Why a call was refused. It changed nothing.
+/// Why a call was refused. It changed nothing, but that [`Session::begin`] and [`Session::load`] leave a closed session.
 #[derive(Clone, Copy, Debug, PartialEq, Eq)]
 pub enum Refusal {
     /// The session was closed.
