@@ -34,7 +34,7 @@ use Rattle.refine.proofs.Pages.{Means, run-entries}
 use Rattle.refine.proofs.Msrs.{field-set, field-set-other, field-length, set-msr, msrs-field, bit-field}
 use Rattle.refine.proofs.Vcpus.{vcpus-crs, vcpus-events, vcpus-pauses, vcpus-singlestep, vcpus-msr, vcpus-apart}
 use Rattle.refine.proofs.Awaited.{awaited-length, awaited-same, awaited-set, awaited-fields, awaited-none, awaited-some}
-use Rattle.refine.proofs.Words.{field-past, vcpu-means, block-inside, field-kept, msr-kept, awaited-kept}
+use Rattle.refine.proofs.Words.{tool-kept, field-past, vcpu-means, block-inside, field-kept, msr-kept, awaited-kept}
 
 -- what the words mean after a change is what the model's change gives
 pub record Meant (r : Changed) (a : Applied) : Type 0 where
@@ -183,18 +183,7 @@ module _ (st : State) (g : WordsGood st) (few : st .session .settings .vcpus ≤
         model = refl;
         guest = refl;
         code = refl;
-        words = record {
-          vcpuWords = g .vcpuWords;
-          pageWords = g .pageWords;
-          closed = g .closed;
-          mode = g .mode;
-          ready = g .ready;
-          pages = g .pages;
-          flag = g .flag;
-          waits = g .waits;
-          spare = g .spare;
-          past = g .past;
-        };
+        words = tool-kept st g _ (st .pages) (g .pageWords) (g .closed) (g .mode) (g .pages);
       })
 
   pub replies-meant : (mode : ReplyMode) (now : Bool) → Meant (change st guest d (SetReplies mode now)) (apply (modelOf st) guest d (SetReplies mode now))
@@ -210,18 +199,7 @@ module _ (st : State) (g : WordsGood st) (few : st .session .settings .vcpus ≤
         };
         guest = refl;
         code = refl;
-        words = record {
-          vcpuWords = g .vcpuWords;
-          pageWords = g .pageWords;
-          closed = g .closed;
-          mode = mode-small mode;
-          ready = g .ready;
-          pages = g .pages;
-          flag = g .flag;
-          waits = g .waits;
-          spare = g .spare;
-          past = g .past;
-        };
+        words = tool-kept st g _ (st .pages) (g .pageWords) (g .closed) (mode-small mode) (g .pages);
       }
 
   pub pages-meant : (view n : ℕ) → view < 8 → So (every (λ (e : Entry). isAccess (e .access)) (entriesOf n (drop 8 d)))
@@ -243,18 +221,7 @@ module _ (st : State) (g : WordsGood st) (few : st .session .settings .vcpus ≤
         };
         guest = refl;
         code = λ j. cond (m .run j .skipped) ENOMEM OK;
-        words = record {
-          vcpuWords = g .vcpuWords;
-          pageWords = m .long ∙ l;
-          closed = g .closed;
-          mode = g .mode;
-          ready = g .ready;
-          pages = m .good;
-          flag = g .flag;
-          waits = g .waits;
-          spare = g .spare;
-          past = g .past;
-        };
+        words = tool-kept st g _ (t .words) (m .long ∙ l) (g .closed) (g .mode) (m .good);
       }
 
   -- the awaited event of a vCPU, and its seq

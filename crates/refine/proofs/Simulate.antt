@@ -55,7 +55,7 @@ use Rattle.refine.proofs.Pages.{none-good}
 use Rattle.refine.proofs.Msrs.{zeros-field, zeros-msrs}
 use Rattle.refine.proofs.Vcpus.{zeros-vcpus, vcpus-ready, vcpus-pauses}
 use Rattle.refine.proofs.Awaited.{zeros-awaited}
-use Rattle.refine.proofs.Words.{few-vcpus, vcpu-means, awaited-means, facts-mean, block-inside, field-kept, awaited-kept}
+use Rattle.refine.proofs.Words.{few-vcpus, tool-kept, vcpu-means, awaited-means, facts-mean, block-inside, field-kept, awaited-kept}
 use Rattle.refine.proofs.Changes.{field-model, await-model, Meant, pause-meant, event-meant, cr-meant, single-meant, msr-meant, vm-event-meant, replies-meant, pages-meant, end-meant}
 
 -- ---- a message that passes: its change
@@ -205,19 +205,7 @@ written-simulates st st′ bytes sig out guest h e g = record { answer = refl; o
 
 -- the next event's seq is no part of the words
 seq-kept : (st : State) (x : ℕ) → WordsGood st → WordsGood (withSeqOf st x)
-seq-kept st x g =
-    record {
-      vcpuWords = g .vcpuWords;
-      pageWords = g .pageWords;
-      closed = g .closed;
-      mode = g .mode;
-      ready = g .ready;
-      pages = g .pages;
-      flag = g .flag;
-      waits = g .waits;
-      spare = g .spare;
-      past = g .past;
-    }
+seq-kept st x g = tool-kept st g _ (st .pages) (g .pageWords) (g .closed) (g .mode) (g .pages)
 
 answering-simulates : (st st′ : State) (mode : ReplyMode) (id seq : ℕ) (code : ℤ) (d : List ℕ) (sig : Signal) (out guest : List ℕ)
     → length (answerOf (layoutOf id .reply) mode (st′ .session .tool .seq) id seq code (replyData (st′ .session .settings) guest id d)) ≤ length out

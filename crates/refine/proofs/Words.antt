@@ -17,8 +17,9 @@ use Rattle.kvmi.specs.Tables.{Vcpu, resting, vcpuAt, isMsr}
 use Rattle.kvmi.specs.Model.{Awaited, awaitedBy}
 use Rattle.kvmi.specs.Verdict.{awaitedEvent, awaitedSeq, factsOf}
 use Rattle.store.specs.Words.{field, setField, msrWord, msrSlot, setMsrBit, SINGLESTEP, CRS, EVENTS, PAUSES, AWAITED, AWAITED-SEQ}
-use Rattle.store.specs.Meaning.{vcpuOfWords, vcpusOf}
-use Rattle.session.specs.State.{State, withVcpuWords, withField, factsIn}
+use Rattle.store.specs.Meaning.{vcpuOfWords, vcpusOf, PagesGood}
+use Rattle.session.specs.declared.Tool.{Tool}
+use Rattle.session.specs.State.{State, state, withTool, withVcpuWords, withField, factsIn}
 use Rattle.session.specs.Meaning.{awaitedIn, awaitedOf, tablesOf, modelOf, WordsGood, WellFormed}
 use Rattle.laws.proofs.Bool.{and-l, and-r, test}
 use Rattle.laws.proofs.Same.{on-high}
@@ -36,6 +37,23 @@ module _ (st : State) (g : WordsGood st) where
 
   abbrev w : List ℕ
   w = st .vcpus
+
+  -- ---- what the tool owns and its pages may be others that are good
+  pub tool-kept : (t : Tool) (pages : List ℕ) → length pages ≡ 1024 → t .closed ≤ 1 → t .mode ≤ 2 → PagesGood pages (t .pages)
+      → WordsGood (state (withTool (st .session) t) w pages)
+  tool-kept t pages long closed mode good =
+      record {
+        vcpuWords = g .vcpuWords;
+        pageWords = long;
+        closed = closed;
+        mode = mode;
+        ready = g .ready;
+        pages = good;
+        flag = g .flag;
+        waits = g .waits;
+        spare = g .spare;
+        past = g .past;
+      }
 
   -- ---- past the count every field is 0
   pub field-past : (v k : ℕ) → n ≤ v → field w v k ≡ 0
