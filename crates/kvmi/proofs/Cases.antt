@@ -19,8 +19,8 @@ use Rattle.kvmi.specs.Call.{beginFresh, beginFrom, answering, judged, he
 use Rattle.kvmi.specs.Case.{Case, seen, cases}
 use Rattle.kvmi.proofs.Edge.{Edge, outcome}
 use Rattle.kvmi.proofs.MessageEdges.{ofMessages, paddings, paddingsSeen}
-use Rattle.kvmi.proofs.SessionEdges.{ofSessions, lookups, lookupsSeen, accesses, accessesSeen, crowded, crowdedSeen}
-use Rattle.kvmi.proofs.ImageEdges.{ofImages, crammed, crammedSeen}
+use Rattle.kvmi.proofs.SessionEdges.{ofSessions, lookups, lookupsSeen, accesses, accessesSeen, skips, skipsSeen}
+use Rattle.kvmi.proofs.ImageEdges.{ofImages, pageLimitLoads, pageLimitSeen}
 
 abbrev Right : List Case → Type 0
 Right cs = map seen cs ≡ map (λ (c : Case). c .expected) cs
@@ -45,13 +45,13 @@ unfolding le num load store isWhole headerOf twos codeBytes bitOf isOn putBit bi
 of-images-right = refl
 
 -- the skip rule
-pub crowded-right : crowded ≡ crowdedSeen
+pub skips-right : skips ≡ skipsSeen
 unfolding isSkipped setPage takeEntry takeEntries
-crowded-right = refl
+skips-right = refl
 
-pub crammed-right : crammed ≡ crammedSeen
+pub pageLimitLoads-right : pageLimitLoads ≡ pageLimitSeen
 unfolding paForm paMay
-crammed-right = refl
+pageLimitLoads-right = refl
 
 pub paddings-right : paddings ≡ paddingsSeen
 unfolding le num load countOf countFits entryPadding padding firstNonZero firstOfRuns firstPadding

@@ -61,25 +61,26 @@ abbrev pub given : ℕ → ℕ → ℕ → ℕ → ℕ → ℕ → ℕ → Setti
 given n views commands events step desc bp =
     record { vcpus = n; views = views; commands = commands; events = events; tsc = 0; singlestep = step; vmfunc = 1; eptp = 1; ve = 1; spp = 1; descriptors = desc; breakpoints = bp }
 
-abbrev pub all : ℕ
-all = 0xFFFFFFFF
+-- the bit set of every command or event
+abbrev pub everything : ℕ
+everything = 0xFFFFFFFF
 
 abbrev pub sized : ℕ → ℕ → Settings
-sized n views = given n views all all 1 1 0
+sized n views = given n views everything everything 1 1 0
 
 abbrev pub commanding : ℕ → Settings
-commanding commands = given 2 1 commands all 1 1 0
+commanding commands = given 2 1 commands everything 1 1 0
 
 abbrev pub eventful : ℕ → Settings
-eventful events = given 2 1 all events 1 1 0
+eventful events = given 2 1 everything events 1 1 0
 
 -- singlestep, descriptors, breakpoints
 abbrev pub equipped : ℕ → ℕ → ℕ → Settings
-equipped step desc bp = given 2 1 all all step desc bp
+equipped step desc bp = given 2 1 everything everything step desc bp
 
 -- every event but one allowed
 abbrev pub without : ℕ → Settings
-without event = eventful (all - 2 ^ event)
+without event = eventful (everything - 2 ^ event)
 
 -- two vCPUs, one view, every command allowed, of the events 2, 9 and 13 alone, no feature, descriptor events not catchable, breakpoints taken
 abbrev pub few : Settings

@@ -212,8 +212,8 @@ abbrev pub ofImages : List Edge
 ofImages = formEdges ++ orderEdges ++ permissionEdges
 
 -- the 1,024th PA, behind 28 + 14 * 1,023 bytes, is right; the 1,025th breaks form at its start
-abbrev pub crammed : Loaded
-crammed = loadRest two 2 14350 (place 3 0 1023) (holding 1023) (paRecord (stands 1023 1) ∷ paRecord (stands 1024 1) ∷ enRecord 1028 ∷ [])
+abbrev pub pageLimitLoads : Loaded
+pageLimitLoads = loadRest two 2 14350 (place 3 0 1023) (holding 1023) (paRecord (stands 1023 1) ∷ paRecord (stands 1024 1) ∷ enRecord 1028 ∷ [])
 
-abbrev pub crammedSeen : Loaded
-crammedSeen = badFormAt 14364
+abbrev pub pageLimitSeen : Loaded
+pageLimitSeen = badFormAt 14364

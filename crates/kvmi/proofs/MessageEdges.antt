@@ -13,7 +13,7 @@ use Rattle.kvmi.specs.Message.{firstPadding}
 use Rattle.kvmi.specs.Reply.{messageBytes}
 use Rattle.kvmi.specs.Call.{message, ready}
 use Rattle.kvmi.specs.Case.{two, out, page, send, vcpuHeader, physical, flagData, registerData, entry, accessData, pause, controlMsr, setAccess, reply, c0, c16, c22, vm, vc, en, freshImage, readyImage}
-use Rattle.kvmi.proofs.Edge.{Edge, left, given, all, commanding, eventful, equipped, sized, without, few, naming, eventData, modeData, controlVmEvent, controlEvent, controlCr, singlestep, responses, to15, c1, c2, c11, c95, c1000, vmOf, vmHas, idle, ms, pa, joined, beside, nobody, quiet, over, told, answered, closing, row, taken, fails, closes, under, behind}
+use Rattle.kvmi.proofs.Edge.{Edge, left, given, everything, commanding, eventful, equipped, sized, without, few, naming, eventData, modeData, controlVmEvent, controlEvent, controlCr, singlestep, responses, to15, c1, c2, c11, c95, c1000, vmOf, vmHas, idle, ms, pa, joined, beside, nobody, quiet, over, told, answered, closing, row, taken, fails, closes, under, behind}
 
 -- ---- each message once as it is taken
 -- its data; in the session of `two` with vCPU 0 ready, its reply's data, its signal, and guest memory and image after it
@@ -66,12 +66,12 @@ silent flags mode p =
     (left (handled 0 (p .signal)) out (p .guest) (p .image) (beside mode 0 nobody))
 
 -- test 3
-abbrev pub unheard : ℕ → Sample → Edge
-unheard flags p = behind (responses 0 1 flags ∷ []) (closes (p .id) (p .d))
+abbrev pub closesUnreplied : ℕ → Sample → Edge
+closesUnreplied flags p = behind (responses 0 1 flags ∷ []) (closes (p .id) (p .d))
 
 -- test 2, with every other command allowed
-abbrev pub barred : Sample → Edge
-barred p = under (commanding (all - 2 ^ (p .id))) (fails (p .id) (p .d) c1)
+abbrev pub notAllowed : Sample → Edge
+notAllowed p = under (commanding (everything - 2 ^ (p .id))) (fails (p .id) (p .d) c1)
 
 -- test 4: one byte more, one byte fewer
 abbrev pub longer : Sample → Edge
@@ -83,9 +83,9 @@ shorter p = closes (p .id) (take (length (p .d) - 1) (p .d))
 abbrev pub messageEdges : List Edge
 messageEdges =
     -- with replies on each is answered; with replies off those answered with data close (test 3), and the others act in silence
-    map replying (asked ++ acted) ++ map (unheard 0) asked ++ map (unheard 1) asked ++ map (silent 0 Off) acted ++ map (silent 1 ErrorsOnly) acted
-    -- test 2: each but 1, 2 and 3 can be barred
-    ++ map barred (drop 1 asked ++ drop 2 acted)
+    map replying (asked ++ acted) ++ map (closesUnreplied 0) asked ++ map (closesUnreplied 1) asked ++ map (silent 0 Off) acted ++ map (silent 1 ErrorsOnly) acted
+    -- test 2: each but 1, 2 and 3 can be not allowed
+    ++ map notAllowed (drop 1 asked ++ drop 2 acted)
     ++ (under (commanding 0x7FFF) (fails 15 (modeData 0 0 1) c1) ∷ [])
     -- test 4: each but 13 has one size; 1 and 4 have no byte to lose
     ++ map longer (asked ++ take 8 acted ++ drop 9 acted) ++ map shorter (drop 2 asked ++ take 8 acted ++ drop 9 acted)
@@ -93,8 +93,8 @@ messageEdges =
 
 -- ---- fields
 -- a byte of data that are taken otherwise, at each of the places: -22
-abbrev pub spoilt : ℕ → List ℕ → ℕ → List ℕ → List Edge
-spoilt id d x places = map (λ at. fails id (set d at x) c22) places
+abbrev pub invalidAt : ℕ → List ℕ → ℕ → List ℕ → List Edge
+invalidAt id d x places = map (λ at. fails id (set d at x) c22) places
 
 abbrev pub fieldEdges : List Edge
 fieldEdges =
@@ -110,33 +110,33 @@ fieldEdges =
     ∷ fails 3 (naming 15) c22
     ∷ fails 3 (naming 0x105) c22
     -- the first and the last byte of each run of padding
-    ∷ spoilt 2 (naming 5) 1 (2 ∷ 7 ∷ [])
-    ++ spoilt 3 (naming 5) 1 (2 ∷ 7 ∷ [])
-    ++ spoilt 5 (eventData 12 1) 1 (3 ∷ 7 ∷ [])
-    ++ spoilt 8 (vcpuHeader 0) 1 (2 ∷ 7 ∷ [])
-    ++ spoilt 9 (flagData 0 1) 1 (2 ∷ 7 ∷ 9 ∷ 15 ∷ [])
-    ++ spoilt 10 (vcpuHeader 0 ++ eventData 9 1) 1 (2 ∷ 7 ∷ 11 ∷ 15 ∷ [])
-    ++ spoilt 11 (registerData 0 4 1) 1 (2 ∷ 7 ∷ 9 ∷ 11 ∷ [])
-    ++ spoilt 12 (registerData 0 0x1FFF 1) 1 (2 ∷ 7 ∷ 9 ∷ 11 ∷ [])
-    ++ spoilt 13 (accessData 2 0 (entry 0x5000 1 ++ entry 0x6000 4)) 1 (4 ∷ 7 ∷ 17 ∷ 23 ∷ 33 ∷ 39 ∷ [])
-    ++ spoilt 14 (flagData 0 1) 1 (2 ∷ 7 ∷ 9 ∷ 15 ∷ [])
-    ++ spoilt 15 (modeData 0 0 1) 1 (3 ∷ 7 ∷ [])
+    ∷ invalidAt 2 (naming 5) 1 (2 ∷ 7 ∷ [])
+    ++ invalidAt 3 (naming 5) 1 (2 ∷ 7 ∷ [])
+    ++ invalidAt 5 (eventData 12 1) 1 (3 ∷ 7 ∷ [])
+    ++ invalidAt 8 (vcpuHeader 0) 1 (2 ∷ 7 ∷ [])
+    ++ invalidAt 9 (flagData 0 1) 1 (2 ∷ 7 ∷ 9 ∷ 15 ∷ [])
+    ++ invalidAt 10 (vcpuHeader 0 ++ eventData 9 1) 1 (2 ∷ 7 ∷ 11 ∷ 15 ∷ [])
+    ++ invalidAt 11 (registerData 0 4 1) 1 (2 ∷ 7 ∷ 9 ∷ 11 ∷ [])
+    ++ invalidAt 12 (registerData 0 0x1FFF 1) 1 (2 ∷ 7 ∷ 9 ∷ 11 ∷ [])
+    ++ invalidAt 13 (accessData 2 0 (entry 0x5000 1 ++ entry 0x6000 4)) 1 (4 ∷ 7 ∷ 17 ∷ 23 ∷ 33 ∷ 39 ∷ [])
+    ++ invalidAt 14 (flagData 0 1) 1 (2 ∷ 7 ∷ 9 ∷ 15 ∷ [])
+    ++ invalidAt 15 (modeData 0 0 1) 1 (3 ∷ 7 ∷ [])
     -- enable, wait, now and flags above 1
-    ++ spoilt 5 (eventData 12 1) 2 (2 ∷ [])
-    ++ spoilt 9 (flagData 0 1) 2 (8 ∷ [])
-    ++ spoilt 10 (vcpuHeader 0 ++ eventData 9 1) 2 (10 ∷ [])
-    ++ spoilt 11 (registerData 0 4 1) 2 (8 ∷ [])
-    ++ spoilt 12 (registerData 0 0x1FFF 1) 2 (8 ∷ [])
-    ++ spoilt 14 (flagData 0 1) 2 (8 ∷ [])
-    ++ spoilt 15 (modeData 0 0 1) 2 (0 ∷ 1 ∷ 2 ∷ [])
+    ++ invalidAt 5 (eventData 12 1) 2 (2 ∷ [])
+    ++ invalidAt 9 (flagData 0 1) 2 (8 ∷ [])
+    ++ invalidAt 10 (vcpuHeader 0 ++ eventData 9 1) 2 (10 ∷ [])
+    ++ invalidAt 11 (registerData 0 4 1) 2 (8 ∷ [])
+    ++ invalidAt 12 (registerData 0 0x1FFF 1) 2 (8 ∷ [])
+    ++ invalidAt 14 (flagData 0 1) 2 (8 ∷ [])
+    ++ invalidAt 15 (modeData 0 0 1) 2 (0 ∷ 1 ∷ 2 ∷ [])
     -- the vCPU count, and 256, as a vCPU
-    ++ spoilt 8 (vcpuHeader 0) 2 (0 ∷ [])
-    ++ spoilt 9 (flagData 0 1) 2 (0 ∷ [])
-    ++ spoilt 10 (vcpuHeader 0 ++ eventData 9 1) 2 (0 ∷ [])
-    ++ spoilt 11 (registerData 0 4 1) 2 (0 ∷ [])
-    ++ spoilt 12 (registerData 0 0x1FFF 1) 2 (0 ∷ [])
-    ++ spoilt 14 (flagData 0 1) 2 (0 ∷ [])
-    ++ spoilt 8 (vcpuHeader 0) 1 (1 ∷ [])
+    ++ invalidAt 8 (vcpuHeader 0) 2 (0 ∷ [])
+    ++ invalidAt 9 (flagData 0 1) 2 (0 ∷ [])
+    ++ invalidAt 10 (vcpuHeader 0 ++ eventData 9 1) 2 (0 ∷ [])
+    ++ invalidAt 11 (registerData 0 4 1) 2 (0 ∷ [])
+    ++ invalidAt 12 (registerData 0 0x1FFF 1) 2 (0 ∷ [])
+    ++ invalidAt 14 (flagData 0 1) 2 (0 ∷ [])
+    ++ invalidAt 8 (vcpuHeader 0) 1 (1 ∷ [])
 
 -- ---- switches: the image shows which of many messages were taken
 abbrev pub switchEdges : List Edge
@@ -268,7 +268,7 @@ testEdges =
     ∷ fails 0 [] c1000
     ∷ fails 17 (0 ∷ []) c1000
     ∷ row two (send 0x101 [] ∷ []) (told (handled 16 Quiet) (1 ∷ 1 ∷ 8 ∷ 0 ∷ 8 ∷ 0 ∷ 0 ∷ 0 ∷ c1000 ++ c0) freshImage quiet)
-    -- a barred id is answered whatever its size; with no command allowed 1, 2, 3 and 16 are; with one allowed that one is
+    -- a notAllowed id is answered whatever its size; with no command allowed 1, 2, 3 and 16 are; with one allowed that one is
     ∷ under (commanding 0) (fails 9 [] c1)
     ∷ under (commanding 0) (replying (asking 1 [] (1 ∷ 0 ∷ 0 ∷ 0 ∷ 0 ∷ 0 ∷ 0 ∷ 0 ∷ 1 ∷ 1 ∷ 1 ∷ 1 ∷ 1 ∷ 0 ∷ 0 ∷ 0 ∷ [])))
     ∷ under (commanding 0) (taken 2 (naming 3) readyImage)
@@ -299,7 +299,7 @@ testEdges =
     ∷ under (without 13) (fails 15 (modeData 0 2 1) c22)
     ∷ under (without 13) (fails 15 (modeData 0 0 3) c22)
     ∷ under (without 13) (fails 15 (set (modeData 0 0 1) 7 1) c22)
-    ∷ row (given 2 2 all (all - 2 ^ 13) 1 1 0) (setAccess 1 1 (entry 0x5000 1) ∷ []) (answered 13 c0 (vm ++ idle 0 ++ idle 1 ++ pa 1 5 1 ++ en 4))
+    ∷ row (given 2 2 everything (everything - 2 ^ 13) 1 1 0) (setAccess 1 1 (entry 0x5000 1) ∷ []) (answered 13 c0 (vm ++ idle 0 ++ idle 1 ++ pa 1 5 1 ++ en 4))
     ∷ row (eventful 0x2000) (responses 0 0 1 ∷ []) (told (handled 16 Quiet) (reply 15 c0) freshImage (beside ErrorsOnly 0 nobody))
     -- -11: vCPU 1 is not ready
     ∷ fails 8 (vcpuHeader 1) c11
@@ -318,8 +318,8 @@ testEdges =
     ∷ under (without 9) (fails 10 (vcpuHeader 0 ++ eventData 9 0) c1)
     ∷ under (without 9) (taken 10 (vcpuHeader 0 ++ eventData 10 0) readyImage)
     -- -1: message 2, a command that is not allowed; 1, 2 and 3 always are
-    ∷ under (commanding (all - 2 ^ 9)) (fails 2 (naming 9) c1)
-    ∷ under (commanding (all - 2 ^ 9)) (taken 2 (naming 10) readyImage)
+    ∷ under (commanding (everything - 2 ^ 9)) (fails 2 (naming 9) c1)
+    ∷ under (commanding (everything - 2 ^ 9)) (taken 2 (naming 10) readyImage)
     ∷ under (commanding 0) (taken 2 (naming 1) readyImage)
     ∷ under (commanding 0) (taken 2 (naming 2) readyImage)
     ∷ under (commanding 0) (fails 2 (naming 4) c1)
@@ -344,7 +344,7 @@ testEdges =
     ∷ row two (ready 0 ∷ replicate 8 (pause 0) ++ (send 8 (vcpuHeader 0) ∷ []))
     (told (handled 24 Quiet) (8 ∷ 0 ∷ 16 ∷ 0 ∷ 8 ∷ 0 ∷ 0 ∷ 0 ∷ replicate 16 0) (vm ++ vc 0 1 0 0 8 ++ idle 1 ++ en 3) quiet)
     ∷ row two (ready 0 ∷ replicate 8 (pause 0) ++ (controlCr 0 3 1 ∷ [])) (answered 11 c0 (vm ++ vc 0 1 2 0 8 ++ idle 1 ++ en 3))
-    ∷ row (given 16 1 all all 1 0 1) (ready 4 ∷ ready 8 ∷ pause 4 ∷ pause 8 ∷ controlCr 4 3 1 ∷ controlCr 8 3 1 ∷ controlMsr 4 0x10 1 ∷ controlMsr 8 0x10 1 ∷ singlestep 4 1 ∷ singlestep 8 1 ∷ [])
+    ∷ row (given 16 1 everything everything 1 0 1) (ready 4 ∷ ready 8 ∷ pause 4 ∷ pause 8 ∷ controlCr 4 3 1 ∷ controlCr 8 3 1 ∷ controlMsr 4 0x10 1 ∷ controlMsr 8 0x10 1 ∷ singlestep 4 1 ∷ singlestep 8 1 ∷ [])
     (told (handled 16 Quiet) (reply 14 c0) (vmOf 16 ++ joined (map idle (take 4 to15)) ++ vc 4 3 2 0 1 ++ idle 5 ++ idle 6 ++ idle 7 ++ vc 8 3 2 0 1 ++ joined (map idle (drop 9 to15)) ++ ms 4 0x10 ++ ms 8 0x10 ++ en 19) (beside On 0 (replicate 16 none)))
     -- the first code that applies: -22 before -11, -1, -95, -16 and -2; -11 before -1, -95 and -16; -1 before -95 and -16
     ∷ fails 10 (vcpuHeader 1 ++ eventData 6 1) c22

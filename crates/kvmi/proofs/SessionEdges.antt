@@ -138,42 +138,42 @@ eventEdges =
 
 -- ---- each call changes its own and nothing else
 -- the image of a session of two vCPUs and eight views with nothing at rest: its VM event bits, VC of vCPU 0, and what follows the VCs
-abbrev pub astir : ℕ → List ℕ → List ℕ → List ℕ
-astir events vc0 behind = vmHas events ++ vc0 ++ vc 1 1 2 0x20 2 ++ behind
+abbrev pub fullImage : ℕ → List ℕ → List ℕ → List ℕ
+fullImage events vc0 behind = vmHas events ++ vc0 ++ vc 1 1 2 0x20 2 ++ behind
 
-abbrev pub stir : List ℕ
-stir = vc 0 3 5 0x4218 3
+abbrev pub fullSession : List ℕ
+fullSession = vc 0 3 5 0x4218 3
 
 abbrev pub records : List ℕ
 records = ms 0 0x10 ++ ms 1 0x20 ++ pa 0 5 1 ++ pa 1 6 4 ++ en 7
 
 -- one call of it
-abbrev pub stirred : Call → Outcome → Edge
-stirred call expected = started (sized 2 8) (fromBytes (astir 0x1000 stir records)) (call ∷ []) expected
+abbrev pub onFull : Call → Outcome → Edge
+onFull call expected = started (sized 2 8) (fromBytes (fullImage 0x1000 fullSession records)) (call ∷ []) expected
 
 abbrev pub ownEdges : List Edge
 ownEdges =
-    stirred (send 2 (naming 5)) (answered 2 c0 (astir 0x1000 stir records))
+    onFull (send 2 (naming 5)) (answered 2 c0 (fullImage 0x1000 fullSession records))
     -- a switch more and a switch less, or a page, of each kind
-    ∷ stirred (controlVmEvent 1 1) (answered 5 c0 (astir 0x1002 stir records))
-    ∷ stirred (controlVmEvent 12 0) (answered 5 c0 (astir 0 stir records))
-    ∷ stirred (controlEvent 0 5 1) (answered 10 c0 (astir 0x1000 (vc 0 3 5 0x4238 3) records))
-    ∷ stirred (controlEvent 0 4 0) (answered 10 c0 (astir 0x1000 (vc 0 3 5 0x4208 3) records))
-    ∷ stirred (controlCr 0 3 1) (answered 11 c0 (astir 0x1000 (vc 0 3 7 0x4218 3) records))
-    ∷ stirred (controlCr 0 0 0) (answered 11 c0 (astir 0x1000 (vc 0 3 4 0x4218 3) records))
-    ∷ stirred (controlMsr 0 0x20 1) (answered 12 c0 (astir 0x1000 stir (ms 0 0x10 ++ ms 0 0x20 ++ ms 1 0x20 ++ pa 0 5 1 ++ pa 1 6 4 ++ en 8)))
-    ∷ stirred (controlMsr 1 0x20 0) (answered 12 c0 (astir 0x1000 stir (ms 0 0x10 ++ pa 0 5 1 ++ pa 1 6 4 ++ en 6)))
-    ∷ stirred (setAccess 1 1 (entry 0x5000 3)) (answered 13 c0 (astir 0x1000 stir (ms 0 0x10 ++ ms 1 0x20 ++ pa 0 5 1 ++ pa 1 5 3 ++ pa 1 6 4 ++ en 8)))
-    ∷ stirred (setAccess 1 1 (entry 0x6000 7)) (answered 13 c0 (astir 0x1000 stir (ms 0 0x10 ++ ms 1 0x20 ++ pa 0 5 1 ++ en 6)))
-    ∷ stirred (singlestep 0 0) (answered 14 c0 (astir 0x1000 (vc 0 1 5 0x4218 3) records))
+    ∷ onFull (controlVmEvent 1 1) (answered 5 c0 (fullImage 0x1002 fullSession records))
+    ∷ onFull (controlVmEvent 12 0) (answered 5 c0 (fullImage 0 fullSession records))
+    ∷ onFull (controlEvent 0 5 1) (answered 10 c0 (fullImage 0x1000 (vc 0 3 5 0x4238 3) records))
+    ∷ onFull (controlEvent 0 4 0) (answered 10 c0 (fullImage 0x1000 (vc 0 3 5 0x4208 3) records))
+    ∷ onFull (controlCr 0 3 1) (answered 11 c0 (fullImage 0x1000 (vc 0 3 7 0x4218 3) records))
+    ∷ onFull (controlCr 0 0 0) (answered 11 c0 (fullImage 0x1000 (vc 0 3 4 0x4218 3) records))
+    ∷ onFull (controlMsr 0 0x20 1) (answered 12 c0 (fullImage 0x1000 fullSession (ms 0 0x10 ++ ms 0 0x20 ++ ms 1 0x20 ++ pa 0 5 1 ++ pa 1 6 4 ++ en 8)))
+    ∷ onFull (controlMsr 1 0x20 0) (answered 12 c0 (fullImage 0x1000 fullSession (ms 0 0x10 ++ pa 0 5 1 ++ pa 1 6 4 ++ en 6)))
+    ∷ onFull (setAccess 1 1 (entry 0x5000 3)) (answered 13 c0 (fullImage 0x1000 fullSession (ms 0 0x10 ++ ms 1 0x20 ++ pa 0 5 1 ++ pa 1 5 3 ++ pa 1 6 4 ++ en 8)))
+    ∷ onFull (setAccess 1 1 (entry 0x6000 7)) (answered 13 c0 (fullImage 0x1000 fullSession (ms 0 0x10 ++ ms 1 0x20 ++ pa 0 5 1 ++ en 6)))
+    ∷ onFull (singlestep 0 0) (answered 14 c0 (fullImage 0x1000 (vc 0 1 5 0x4218 3) records))
     -- a pause more and one less; the reply mode; a ready mark
-    ∷ stirred (pause 0) (told (handled 16 (Kick 0 true)) (reply 9 c0) (astir 0x1000 (vc 0 3 5 0x4218 4) records) quiet)
-    ∷ stirred (enter 0 state (lent 552)) (gave (handled 552 Quiet) (pauseBytes 0 0) (lent 552) (astir 0x1000 (vc 0 3 5 0x4218 2) records) (beside On 1 (awaits 0 ∷ none ∷ [])))
-    ∷ stirred (responses 0 0 1) (told (handled 16 Quiet) (reply 15 c0) (astir 0x1000 stir records) (beside ErrorsOnly 0 nobody))
-    ∷ stirred (ready 0) (gave (handled 0 Quiet) [] [] (astir 0x1000 stir records) quiet)
+    ∷ onFull (pause 0) (told (handled 16 (Kick 0 true)) (reply 9 c0) (fullImage 0x1000 (vc 0 3 5 0x4218 4) records) quiet)
+    ∷ onFull (enter 0 state (lent 552)) (gave (handled 552 Quiet) (pauseBytes 0 0) (lent 552) (fullImage 0x1000 (vc 0 3 5 0x4218 2) records) (beside On 1 (awaits 0 ∷ none ∷ [])))
+    ∷ onFull (responses 0 0 1) (told (handled 16 Quiet) (reply 15 c0) (fullImage 0x1000 fullSession records) (beside ErrorsOnly 0 nobody))
+    ∷ onFull (ready 0) (gave (handled 0 Quiet) [] [] (fullImage 0x1000 fullSession records) quiet)
     -- its 78 bytes
-    ∷ stirred (writeImage (lent 80)) (gave (handled 78 Quiet) (astir 0x1000 stir records) (lent 80) (astir 0x1000 stir records) quiet)
-    ∷ stirred (writeImage (lent 77)) (gave (plain 3) [] (lent 77) (astir 0x1000 stir records) quiet)
+    ∷ onFull (writeImage (lent 80)) (gave (handled 78 Quiet) (fullImage 0x1000 fullSession records) (lent 80) (fullImage 0x1000 fullSession records) quiet)
+    ∷ onFull (writeImage (lent 77)) (gave (plain 3) [] (lent 77) (fullImage 0x1000 fullSession records) quiet)
     ∷ []
 
 -- what a reader reads there: VM events 1 and 12; of each vCPU event 5, then CR0, CR3, CR4, then CR1 of vCPU 0, then MSRs 0x10 and 0x20 of each vCPU
@@ -209,8 +209,8 @@ accessesSeen = 1 ∷ 7 ∷ 7 ∷ 4 ∷ []
 
 -- ---- the other calls, calls on a closed session, and how a session begins
 -- everything at once, and then an empty message
-abbrev pub ruined : List Call
-ruined = controlVmEvent 12 1 ∷ setAccess 1 0 (entry 0x5000 1) ∷ sent ++ (controlMsr 0 0x10 1 ∷ controlCr 0 3 1 ∷ responses 0 1 1 ∷ message [] out page ∷ [])
+abbrev pub busyThenClosed : List Call
+busyThenClosed = controlVmEvent 12 1 ∷ setAccess 1 0 (entry 0x5000 1) ∷ sent ++ (controlMsr 0 0x10 1 ∷ controlCr 0 3 1 ∷ responses 0 1 1 ∷ message [] out page ∷ [])
 
 abbrev pub callEdges : List Edge
 callEdges =
@@ -234,16 +234,16 @@ callEdges =
     ∷ row two (message [] (lent 4111) page ∷ []) (left (plain 3) (lent 4111) page freshImage quiet)
     ∷ row two (message (messageBytes 15 8 (modeData 1 0 0)) (lent 4113) page ∷ []) (left (handled 16 Quiet) (over (reply 15 c0) (lent 4113)) page freshImage quiet)
     -- closing drops everything; what comes after it answers 2, whatever else is wrong with it
-    ∷ row two ruined closing
-    ∷ row two (ruined ++ (send 2 (naming 5) ∷ [])) (told (plain 2) [] freshImage shut)
-    ∷ row two (ruined ++ (message [] (lent 5) page ∷ [])) (left (plain 2) (lent 5) page freshImage shut)
-    ∷ row two (ruined ++ (send 7 (physical 0 1 ++ (1 ∷ [])) ∷ [])) (told (plain 2) [] freshImage shut)
-    ∷ row two (ruined ++ (ready 0 ∷ [])) (gave (plain 2) [] [] freshImage shut)
-    ∷ row two (ruined ++ (ready 2 ∷ [])) (gave (plain 2) [] [] freshImage shut)
-    ∷ row two (ruined ++ (enter 0 state (lent 552) ∷ [])) (gave (plain 2) [] (lent 552) freshImage shut)
-    ∷ row two (ruined ++ (enter 2 [] (lent 5) ∷ [])) (gave (plain 2) [] (lent 5) freshImage shut)
-    ∷ row two (ruined ++ (writeImage (lent 34) ∷ [])) (gave (plain 2) [] (lent 34) freshImage shut)
-    ∷ row two (ruined ++ (writeImage (lent 5) ∷ [])) (gave (plain 2) [] (lent 5) freshImage shut)
+    ∷ row two busyThenClosed closing
+    ∷ row two (busyThenClosed ++ (send 2 (naming 5) ∷ [])) (told (plain 2) [] freshImage shut)
+    ∷ row two (busyThenClosed ++ (message [] (lent 5) page ∷ [])) (left (plain 2) (lent 5) page freshImage shut)
+    ∷ row two (busyThenClosed ++ (send 7 (physical 0 1 ++ (1 ∷ [])) ∷ [])) (told (plain 2) [] freshImage shut)
+    ∷ row two (busyThenClosed ++ (ready 0 ∷ [])) (gave (plain 2) [] [] freshImage shut)
+    ∷ row two (busyThenClosed ++ (ready 2 ∷ [])) (gave (plain 2) [] [] freshImage shut)
+    ∷ row two (busyThenClosed ++ (enter 0 state (lent 552) ∷ [])) (gave (plain 2) [] (lent 552) freshImage shut)
+    ∷ row two (busyThenClosed ++ (enter 2 [] (lent 5) ∷ [])) (gave (plain 2) [] (lent 5) freshImage shut)
+    ∷ row two (busyThenClosed ++ (writeImage (lent 34) ∷ [])) (gave (plain 2) [] (lent 34) freshImage shut)
+    ∷ row two (busyThenClosed ++ (writeImage (lent 5) ∷ [])) (gave (plain 2) [] (lent 5) freshImage shut)
     -- settings in and out of range, in both ways to begin; 7 comes before 8
     ∷ begun (sized 0 1) anew (nothing (plain 7))
     ∷ begun (sized 17 1) anew (nothing (plain 7))
@@ -299,14 +299,14 @@ stands n access = record { view = 0; page = n; access = access }
 
 -- entries of message 13 on a table with room for two pages: pages 2 and 8 are skipped, each while two pages stand below rwx; page 3, which stands
 -- below rwx, is changed all the same, page 2 is at rwx and forgotten, and page 9 takes the room of page 1
-abbrev pub crowded : Run
-crowded =
+abbrev pub skips : Run
+skips =
     takeEntries 2 0
     (asks 3 1 ∷ asks 1 5 ∷ asks 2 1 ∷ asks 3 3 ∷ asks 2 7 ∷ asks 1 7 ∷ asks 9 0 ∷ asks 8 4 ∷ [])
     (record { pages = []; skipped = false })
 
-abbrev pub crowdedSeen : Run
-crowdedSeen = record { pages = stands 3 3 ∷ stands 9 0 ∷ []; skipped = true }
+abbrev pub skipsSeen : Run
+skipsSeen = record { pages = stands 3 3 ∷ stands 9 0 ∷ []; skipped = true }
 
 abbrev pub ofSessions : List Edge
 ofSessions = replyEdges ++ eventEdges ++ ownEdges ++ callEdges ++ fullEdges
