@@ -88,7 +88,7 @@ module _ {M : Type 1} (𝓤 : URA M) (H : Heap 𝓤) (A : Atoms 𝓤) (W : Given
 
   -- what the call does
   abbrev did : Gives
-  did = enterGiven h (a-vcpus .now) a-vcpu (a-block .now) (a-out .now) (a-result .now)
+  did = enterGiven h (a-vcpus .now) a-vcpu (a-block .now) (a-out .now)
 
   -- the tokens of the callee's lifetimes
   abbrev Tokens : ItemOf 𝓤

@@ -85,7 +85,7 @@ module _ {M : Type 1} (𝓤 : URA M) (H : Heap 𝓤) (A : Atoms 𝓤) (W : Given
 
   -- what the call does
   abbrev did : Gives
-  did = freshGiven h (a-vcpus .now) (a-pages .now) (a-result .now)
+  did = freshGiven h (a-vcpus .now) (a-pages .now)
 
   -- the tokens of the callee's lifetimes
   abbrev Tokens : ItemOf 𝓤

@@ -88,7 +88,7 @@ module _ {M : Type 1} (𝓤 : URA M) (H : Heap 𝓤) (A : Atoms 𝓤) (W : Given
 
   -- what the call does
   abbrev did : Gives
-  did = readGiven h (a-vcpus .now) (a-pages .now) (a-image .now) (a-result .now)
+  did = readGiven h (a-vcpus .now) (a-pages .now) (a-image .now)
 
   -- the tokens of the callee's lifetimes
   abbrev Tokens : ItemOf 𝓤

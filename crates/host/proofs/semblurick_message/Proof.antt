@@ -88,7 +88,7 @@ module _ {M : Type 1} (𝓤 : URA M) (H : Heap 𝓤) (A : Atoms 𝓤) (W : Given
 
   -- what the call does
   abbrev did : Gives
-  did = messageGiven h (a-vcpus .now) (a-pages .now) (a-msg .now) (a-out .now) (a-guest .now) (a-result .now)
+  did = messageGiven h (a-vcpus .now) (a-pages .now) (a-msg .now) (a-out .now) (a-guest .now)
 
   -- the tokens of the callee's lifetimes
   abbrev Tokens : ItemOf 𝓤

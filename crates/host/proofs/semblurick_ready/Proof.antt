@@ -86,7 +86,7 @@ module _ {M : Type 1} (𝓤 : URA M) (H : Heap 𝓤) (A : Atoms 𝓤) (W : Given
 
   -- what the call does
   abbrev did : Gives
-  did = readyGiven h a-vcpu (a-result .now)
+  did = readyGiven h a-vcpu
 
   -- the tokens of the callee's lifetimes
   abbrev Tokens : ItemOf 𝓤
