@@ -1,6 +1,7 @@
 // The filter as hosts in C and Rust call it (include/semblurick.h). The host owns a session, a small struct, and its two tables; each call is lent
 // them, moves them and gives the answer's number. What is done is a covered function on the session by value (`fresh`, `ready`, ..); the exported
-// function copies the session out of the reference, calls that function, and stores the session back.
+// function copies the session out of the reference, calls that function, and stores back what the call can change: a message, an entry
+// and a ready mark leave the settings.
 use kvmi::Answer;
 use kvmi::Signal;
 use session::Session;
@@ -156,7 +157,8 @@ pub extern "C" fn semblurick_ready(s: &mut Session, vcpu: u32, result: &mut [u64
         × (now (result .exit) ≡ readyGiven (now (s .entry)) vcpu .result) ⌝ }
 {
     let d = ready(*s, vcpu, result);
-    *s = d.session;
+    s.tool = d.session.tool;
+    s.ready = d.session.ready;
     d.code
 }
 
@@ -200,7 +202,8 @@ pub extern "C" fn semblurick_message(
         × (now (result .exit) ≡ messageGiven (now (s .entry)) (now (vcpus .entry)) (now (pages .entry)) (now (msg .entry)) (now (out .entry)) (now (guest .entry)) .result) ⌝ }
 {
     let d = message(*s, vcpus, pages, msg, out, guest, result);
-    *s = d.session;
+    s.tool = d.session.tool;
+    s.ready = d.session.ready;
     d.code
 }
 
@@ -238,7 +241,8 @@ pub extern "C" fn semblurick_enter(
         × (now (result .exit) ≡ enterGiven (now (s .entry)) (now (vcpus .entry)) vcpu (now (block .entry)) (now (out .entry)) .result) ⌝ }
 {
     let d = enter(*s, vcpus, vcpu, block, out, result);
-    *s = d.session;
+    s.tool = d.session.tool;
+    s.ready = d.session.ready;
     d.code
 }
 
