@@ -55,24 +55,24 @@ given t =
 
 -- ---- the calls, by what `session`, `image_writer` and `image_reader` promise
 -- the settings are those in the session; the rest of it may be anything
-unfoldable pub freshGiven : Session → List ℕ → List ℕ → List ℕ → Given
-freshGiven s vcpus pages result = given (freshOf (s .settings) vcpus pages)
+unfoldable pub freshGiven : Session → List ℕ → List ℕ → Given
+freshGiven s vcpus pages = given (freshOf (s .settings) vcpus pages)
 
 -- a vCPU number past u16 is taken as 65,535
-unfoldable pub readyGiven : Session → ℕ → List ℕ → Given
-readyGiven s vcpu result = given (readyOf (state s [] []) (min vcpu 65535))
+unfoldable pub readyGiven : Session → ℕ → Given
+readyGiven s vcpu = given (readyOf (state s [] []) (min vcpu 65535))
 
-unfoldable pub messageGiven : Session → List ℕ → List ℕ → List ℕ → List ℕ → List ℕ → List ℕ → Given
-messageGiven s vcpus pages msg out guest result = given (messageOf (state s vcpus pages) msg out guest)
+unfoldable pub messageGiven : Session → List ℕ → List ℕ → List ℕ → List ℕ → List ℕ → Given
+messageGiven s vcpus pages msg out guest = given (messageOf (state s vcpus pages) msg out guest)
 
-unfoldable pub enterGiven : Session → List ℕ → ℕ → List ℕ → List ℕ → List ℕ → Given
-enterGiven s vcpus vcpu block out result = given (enterOf (state s vcpus []) (min vcpu 65535) block out)
+unfoldable pub enterGiven : Session → List ℕ → ℕ → List ℕ → List ℕ → Given
+enterGiven s vcpus vcpu block out = given (enterOf (state s vcpus []) (min vcpu 65535) block out)
 
 unfoldable pub sizeGiven : Session → List ℕ → List ℕ → ℕ
 sizeGiven s vcpus pages = length (image (statedTables (state s vcpus pages)))
 
-unfoldable pub writeGiven : Session → List ℕ → List ℕ → List ℕ → List ℕ → Given
-writeGiven s vcpus pages out result = given (imageOf (state s vcpus pages) out)
+unfoldable pub writeGiven : Session → List ℕ → List ℕ → List ℕ → Given
+writeGiven s vcpus pages out = given (imageOf (state s vcpus pages) out)
 
-unfoldable pub readGiven : Session → List ℕ → List ℕ → List ℕ → List ℕ → Given
-readGiven s vcpus pages image result = given (readOf (s .settings) image vcpus pages)
+unfoldable pub readGiven : Session → List ℕ → List ℕ → List ℕ → Given
+readGiven s vcpus pages image = given (readOf (s .settings) image vcpus pages)

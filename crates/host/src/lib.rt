@@ -1,6 +1,7 @@
 // The filter as hosts in C and Rust call it (include/semblurick.h). The host owns a session, a small struct, and its two tables; each call is lent
 // them, moves them and gives the answer's number. What is done is a covered function on the session by value (`fresh`, `ready`, ..); the exported
-// function copies the session out of the reference, calls that function, and stores the session back.
+// function copies the session out of the reference, calls that function, and stores back what the call can change: a message, an entry
+// and a ready mark leave the settings.
 use kvmi::Answer;
 use kvmi::Signal;
 use session::Session;
@@ -9,7 +10,7 @@ ghost use Prim.Native.Nat.{min};
 ghost use mathlib.Core.List.{[]};
 ghost use Rattle.kvmi.specs.Answer.{paper};
 ghost use Rattle.session.specs.Calls.{told};
-ghost use Rattle.host.specs.Host.{signalNumber, signalVcpu, signalWaits, resultWords, given, freshGiven, readyGiven, messageGiven, enterGiven, sizeGiven, writeGiven, readGiven};
+ghost use Rattle.host.specs.Host.{resultWords, given, freshGiven, readyGiven, messageGiven, enterGiven, sizeGiven, writeGiven, readGiven};
 
 // What a call gives: the answer's number, and the session after it.
 pub struct Done {
@@ -19,94 +20,70 @@ pub struct Done {
 
 // ---- an answer as numbers
 
-// The offset of a refused image; 0 for any other answer.
-fn offset_of(a: Answer) -> usize
-    ensures { λ r. ⌜ r ≡ paper a .offset ⌝ }
-{
-    match a {
-        Answer::Handled {
-            count: _,
-            signal: _,
-        } => 0,
-        Answer::Closing => 0,
-        Answer::Closed => 0,
-        Answer::ShortOut => 0,
-        Answer::BadVcpu => 0,
-        Answer::BadState => 0,
-        Answer::Waiting => 0,
-        Answer::BadSettings => 0,
-        Answer::BadForm { offset } => offset,
-        Answer::Forbidden { offset } => offset,
-        Answer::Busy => 0,
-        Answer::NotApplicable => 0,
-    }
-}
-
-// What the host is to do for the guest.
-fn signal_of(a: Answer) -> Signal
-    ensures { λ r. ⌜ r ≡ paper a .signal ⌝ }
-{
-    match a {
-        Answer::Handled { count: _, signal } => signal,
-        Answer::Closing => Signal::Quiet,
-        Answer::Closed => Signal::Quiet,
-        Answer::ShortOut => Signal::Quiet,
-        Answer::BadVcpu => Signal::Quiet,
-        Answer::BadState => Signal::Quiet,
-        Answer::Waiting => Signal::Quiet,
-        Answer::BadSettings => Signal::Quiet,
-        Answer::BadForm { offset: _ } => Signal::Quiet,
-        Answer::Forbidden { offset: _ } => Signal::Quiet,
-        Answer::Busy => Signal::Quiet,
-        Answer::NotApplicable => Signal::Quiet,
-    }
-}
-
-// 0 none, 1 kick, 2 crash.
-fn signal_number(s: Signal) -> u64
-    ensures { λ r. ⌜ r ≡ signalNumber s ⌝ }
-{
-    match s {
-        Signal::Quiet => 0,
-        Signal::Kick { vcpu: _, wait: _ } => 1,
-        Signal::Crash { vcpu: _ } => 2,
-    }
-}
-
-// The vCPU that is signalled; 0 where none is.
-fn signal_vcpu(s: Signal) -> u64
-    ensures { λ r. ⌜ r ≡ signalVcpu s ⌝ }
-{
-    match s {
-        Signal::Quiet => 0,
-        Signal::Kick { vcpu, wait: _ } => vcpu as u64,
-        Signal::Crash { vcpu } => vcpu as u64,
-    }
-}
-
-// Whether the tool waits for the kick: 1, else 0.
-fn signal_waits(s: Signal) -> u64
-    ensures { λ r. ⌜ r ≡ signalWaits s ⌝ }
-{
-    match s {
-        Signal::Quiet => 0,
-        Signal::Kick { vcpu: _, wait } => wait as u64,
-        Signal::Crash { vcpu: _ } => 0,
-    }
-}
-
 // An answer's values, into the words lent for them; its number is given back.
 fn put_result(result: &mut [u64; 5], a: Answer) -> u32
     ensures { λ r. ⌜ (r ≡ paper a .number) × (now (result .exit) ≡ resultWords (paper a)) ⌝ }
 {
-    let signal = signal_of(a);
-    let count = stream::answer_count(a) as u64;
-    let offset = offset_of(a) as u64;
-    let kind = signal_number(signal);
-    let vcpu = signal_vcpu(signal);
-    let waits = signal_waits(signal);
-    *result = [count, offset, kind, vcpu, waits];
-    stream::answer_number(a) as u32
+    match a {
+        Answer::Handled { count, signal } => {
+            match signal {
+                Signal::Quiet => {
+                    *result = [count as u64, 0, 0, 0, 0];
+                }
+                Signal::Kick { vcpu, wait } => {
+                    *result = [count as u64, 0, 1, vcpu as u64, wait as u64];
+                }
+                Signal::Crash { vcpu } => {
+                    *result = [count as u64, 0, 2, vcpu as u64, 0];
+                }
+            }
+            0
+        }
+        Answer::Closing => {
+            *result = [0, 0, 0, 0, 0];
+            1
+        }
+        Answer::Closed => {
+            *result = [0, 0, 0, 0, 0];
+            2
+        }
+        Answer::ShortOut => {
+            *result = [0, 0, 0, 0, 0];
+            3
+        }
+        Answer::BadVcpu => {
+            *result = [0, 0, 0, 0, 0];
+            4
+        }
+        Answer::BadState => {
+            *result = [0, 0, 0, 0, 0];
+            5
+        }
+        Answer::Waiting => {
+            *result = [0, 0, 0, 0, 0];
+            6
+        }
+        Answer::BadSettings => {
+            *result = [0, 0, 0, 0, 0];
+            7
+        }
+        Answer::BadForm { offset } => {
+            *result = [0, offset as u64, 0, 0, 0];
+            8
+        }
+        Answer::Forbidden { offset } => {
+            *result = [0, offset as u64, 0, 0, 0];
+            9
+        }
+        Answer::Busy => {
+            *result = [0, 0, 0, 0, 0];
+            10
+        }
+        Answer::NotApplicable => {
+            *result = [0, 0, 0, 0, 0];
+            14
+        }
+    }
 }
 
 // What a call of `session` gave, as a host has it.
@@ -135,10 +112,10 @@ fn fresh(
     pages: &mut [u64; 1024],
     result: &mut [u64; 5],
 ) -> Done
-    ensures { λ r. ⌜ (r ≡ freshGiven s (now (vcpus .entry)) (now (pages .entry)) (now (result .entry)) .done)
-        × (now (vcpus .exit) ≡ freshGiven s (now (vcpus .entry)) (now (pages .entry)) (now (result .entry)) .vcpus)
-        × (now (pages .exit) ≡ freshGiven s (now (vcpus .entry)) (now (pages .entry)) (now (result .entry)) .pages)
-        × (now (result .exit) ≡ freshGiven s (now (vcpus .entry)) (now (pages .entry)) (now (result .entry)) .result) ⌝ }
+    ensures { λ r. ⌜ (r ≡ freshGiven s (now (vcpus .entry)) (now (pages .entry)) .done)
+        × (now (vcpus .exit) ≡ freshGiven s (now (vcpus .entry)) (now (pages .entry)) .vcpus)
+        × (now (pages .exit) ≡ freshGiven s (now (vcpus .entry)) (now (pages .entry)) .pages)
+        × (now (result .exit) ≡ freshGiven s (now (vcpus .entry)) (now (pages .entry)) .result) ⌝ }
 {
     let settings = s.settings;
     let done = session::begin(settings, vcpus, pages);
@@ -153,11 +130,11 @@ pub extern "C" fn semblurick_fresh(
     pages: &mut [u64; 1024],
     result: &mut [u64; 5],
 ) -> u32
-    ensures { λ r. ⌜ (r ≡ freshGiven (now (s .entry)) (now (vcpus .entry)) (now (pages .entry)) (now (result .entry)) .done .code)
-        × (now (s .exit) ≡ freshGiven (now (s .entry)) (now (vcpus .entry)) (now (pages .entry)) (now (result .entry)) .done .session)
-        × (now (vcpus .exit) ≡ freshGiven (now (s .entry)) (now (vcpus .entry)) (now (pages .entry)) (now (result .entry)) .vcpus)
-        × (now (pages .exit) ≡ freshGiven (now (s .entry)) (now (vcpus .entry)) (now (pages .entry)) (now (result .entry)) .pages)
-        × (now (result .exit) ≡ freshGiven (now (s .entry)) (now (vcpus .entry)) (now (pages .entry)) (now (result .entry)) .result) ⌝ }
+    ensures { λ r. ⌜ (r ≡ freshGiven (now (s .entry)) (now (vcpus .entry)) (now (pages .entry)) .done .code)
+        × (now (s .exit) ≡ freshGiven (now (s .entry)) (now (vcpus .entry)) (now (pages .entry)) .done .session)
+        × (now (vcpus .exit) ≡ freshGiven (now (s .entry)) (now (vcpus .entry)) (now (pages .entry)) .vcpus)
+        × (now (pages .exit) ≡ freshGiven (now (s .entry)) (now (vcpus .entry)) (now (pages .entry)) .pages)
+        × (now (result .exit) ≡ freshGiven (now (s .entry)) (now (vcpus .entry)) (now (pages .entry)) .result) ⌝ }
 {
     let d = fresh(*s, vcpus, pages, result);
     *s = d.session;
@@ -165,8 +142,8 @@ pub extern "C" fn semblurick_fresh(
 }
 
 fn ready(s: Session, vcpu: u32, result: &mut [u64; 5]) -> Done
-    ensures { λ r. ⌜ (r ≡ readyGiven s vcpu (now (result .entry)) .done)
-        × (now (result .exit) ≡ readyGiven s vcpu (now (result .entry)) .result) ⌝ }
+    ensures { λ r. ⌜ (r ≡ readyGiven s vcpu .done)
+        × (now (result .exit) ≡ readyGiven s vcpu .result) ⌝ }
 {
     let done = s.ready(vcpu_number(vcpu));
     finish(done, result)
@@ -175,12 +152,13 @@ fn ready(s: Session, vcpu: u32, result: &mut [u64; 5]) -> Done
 // A vCPU can be introspected from now on.
 #[no_mangle]
 pub extern "C" fn semblurick_ready(s: &mut Session, vcpu: u32, result: &mut [u64; 5]) -> u32
-    ensures { λ r. ⌜ (r ≡ readyGiven (now (s .entry)) vcpu (now (result .entry)) .done .code)
-        × (now (s .exit) ≡ readyGiven (now (s .entry)) vcpu (now (result .entry)) .done .session)
-        × (now (result .exit) ≡ readyGiven (now (s .entry)) vcpu (now (result .entry)) .result) ⌝ }
+    ensures { λ r. ⌜ (r ≡ readyGiven (now (s .entry)) vcpu .done .code)
+        × (now (s .exit) ≡ readyGiven (now (s .entry)) vcpu .done .session)
+        × (now (result .exit) ≡ readyGiven (now (s .entry)) vcpu .result) ⌝ }
 {
     let d = ready(*s, vcpu, result);
-    *s = d.session;
+    s.tool = d.session.tool;
+    s.ready = d.session.ready;
     d.code
 }
 
@@ -193,12 +171,12 @@ fn message(
     guest: &mut [u8],
     result: &mut [u64; 5],
 ) -> Done
-    ensures { λ r. ⌜ (r ≡ messageGiven s (now (vcpus .entry)) (now (pages .entry)) (now (msg .entry)) (now (out .entry)) (now (guest .entry)) (now (result .entry)) .done)
-        × (now (vcpus .exit) ≡ messageGiven s (now (vcpus .entry)) (now (pages .entry)) (now (msg .entry)) (now (out .entry)) (now (guest .entry)) (now (result .entry)) .vcpus)
-        × (now (pages .exit) ≡ messageGiven s (now (vcpus .entry)) (now (pages .entry)) (now (msg .entry)) (now (out .entry)) (now (guest .entry)) (now (result .entry)) .pages)
-        × (now (out .exit) ≡ messageGiven s (now (vcpus .entry)) (now (pages .entry)) (now (msg .entry)) (now (out .entry)) (now (guest .entry)) (now (result .entry)) .out)
-        × (now (guest .exit) ≡ messageGiven s (now (vcpus .entry)) (now (pages .entry)) (now (msg .entry)) (now (out .entry)) (now (guest .entry)) (now (result .entry)) .guest)
-        × (now (result .exit) ≡ messageGiven s (now (vcpus .entry)) (now (pages .entry)) (now (msg .entry)) (now (out .entry)) (now (guest .entry)) (now (result .entry)) .result) ⌝ }
+    ensures { λ r. ⌜ (r ≡ messageGiven s (now (vcpus .entry)) (now (pages .entry)) (now (msg .entry)) (now (out .entry)) (now (guest .entry)) .done)
+        × (now (vcpus .exit) ≡ messageGiven s (now (vcpus .entry)) (now (pages .entry)) (now (msg .entry)) (now (out .entry)) (now (guest .entry)) .vcpus)
+        × (now (pages .exit) ≡ messageGiven s (now (vcpus .entry)) (now (pages .entry)) (now (msg .entry)) (now (out .entry)) (now (guest .entry)) .pages)
+        × (now (out .exit) ≡ messageGiven s (now (vcpus .entry)) (now (pages .entry)) (now (msg .entry)) (now (out .entry)) (now (guest .entry)) .out)
+        × (now (guest .exit) ≡ messageGiven s (now (vcpus .entry)) (now (pages .entry)) (now (msg .entry)) (now (out .entry)) (now (guest .entry)) .guest)
+        × (now (result .exit) ≡ messageGiven s (now (vcpus .entry)) (now (pages .entry)) (now (msg .entry)) (now (out .entry)) (now (guest .entry)) .result) ⌝ }
 {
     let done = s.message(vcpus, pages, msg, out, guest);
     finish(done, result)
@@ -215,16 +193,17 @@ pub extern "C" fn semblurick_message(
     guest: &mut [u8],
     result: &mut [u64; 5],
 ) -> u32
-    ensures { λ r. ⌜ (r ≡ messageGiven (now (s .entry)) (now (vcpus .entry)) (now (pages .entry)) (now (msg .entry)) (now (out .entry)) (now (guest .entry)) (now (result .entry)) .done .code)
-        × (now (s .exit) ≡ messageGiven (now (s .entry)) (now (vcpus .entry)) (now (pages .entry)) (now (msg .entry)) (now (out .entry)) (now (guest .entry)) (now (result .entry)) .done .session)
-        × (now (vcpus .exit) ≡ messageGiven (now (s .entry)) (now (vcpus .entry)) (now (pages .entry)) (now (msg .entry)) (now (out .entry)) (now (guest .entry)) (now (result .entry)) .vcpus)
-        × (now (pages .exit) ≡ messageGiven (now (s .entry)) (now (vcpus .entry)) (now (pages .entry)) (now (msg .entry)) (now (out .entry)) (now (guest .entry)) (now (result .entry)) .pages)
-        × (now (out .exit) ≡ messageGiven (now (s .entry)) (now (vcpus .entry)) (now (pages .entry)) (now (msg .entry)) (now (out .entry)) (now (guest .entry)) (now (result .entry)) .out)
-        × (now (guest .exit) ≡ messageGiven (now (s .entry)) (now (vcpus .entry)) (now (pages .entry)) (now (msg .entry)) (now (out .entry)) (now (guest .entry)) (now (result .entry)) .guest)
-        × (now (result .exit) ≡ messageGiven (now (s .entry)) (now (vcpus .entry)) (now (pages .entry)) (now (msg .entry)) (now (out .entry)) (now (guest .entry)) (now (result .entry)) .result) ⌝ }
+    ensures { λ r. ⌜ (r ≡ messageGiven (now (s .entry)) (now (vcpus .entry)) (now (pages .entry)) (now (msg .entry)) (now (out .entry)) (now (guest .entry)) .done .code)
+        × (now (s .exit) ≡ messageGiven (now (s .entry)) (now (vcpus .entry)) (now (pages .entry)) (now (msg .entry)) (now (out .entry)) (now (guest .entry)) .done .session)
+        × (now (vcpus .exit) ≡ messageGiven (now (s .entry)) (now (vcpus .entry)) (now (pages .entry)) (now (msg .entry)) (now (out .entry)) (now (guest .entry)) .vcpus)
+        × (now (pages .exit) ≡ messageGiven (now (s .entry)) (now (vcpus .entry)) (now (pages .entry)) (now (msg .entry)) (now (out .entry)) (now (guest .entry)) .pages)
+        × (now (out .exit) ≡ messageGiven (now (s .entry)) (now (vcpus .entry)) (now (pages .entry)) (now (msg .entry)) (now (out .entry)) (now (guest .entry)) .out)
+        × (now (guest .exit) ≡ messageGiven (now (s .entry)) (now (vcpus .entry)) (now (pages .entry)) (now (msg .entry)) (now (out .entry)) (now (guest .entry)) .guest)
+        × (now (result .exit) ≡ messageGiven (now (s .entry)) (now (vcpus .entry)) (now (pages .entry)) (now (msg .entry)) (now (out .entry)) (now (guest .entry)) .result) ⌝ }
 {
     let d = message(*s, vcpus, pages, msg, out, guest, result);
-    *s = d.session;
+    s.tool = d.session.tool;
+    s.ready = d.session.ready;
     d.code
 }
 
@@ -236,10 +215,10 @@ fn enter(
     out: &mut [u8],
     result: &mut [u64; 5],
 ) -> Done
-    ensures { λ r. ⌜ (r ≡ enterGiven s (now (vcpus .entry)) vcpu (now (block .entry)) (now (out .entry)) (now (result .entry)) .done)
-        × (now (vcpus .exit) ≡ enterGiven s (now (vcpus .entry)) vcpu (now (block .entry)) (now (out .entry)) (now (result .entry)) .vcpus)
-        × (now (out .exit) ≡ enterGiven s (now (vcpus .entry)) vcpu (now (block .entry)) (now (out .entry)) (now (result .entry)) .out)
-        × (now (result .exit) ≡ enterGiven s (now (vcpus .entry)) vcpu (now (block .entry)) (now (out .entry)) (now (result .entry)) .result) ⌝ }
+    ensures { λ r. ⌜ (r ≡ enterGiven s (now (vcpus .entry)) vcpu (now (block .entry)) (now (out .entry)) .done)
+        × (now (vcpus .exit) ≡ enterGiven s (now (vcpus .entry)) vcpu (now (block .entry)) (now (out .entry)) .vcpus)
+        × (now (out .exit) ≡ enterGiven s (now (vcpus .entry)) vcpu (now (block .entry)) (now (out .entry)) .out)
+        × (now (result .exit) ≡ enterGiven s (now (vcpus .entry)) vcpu (now (block .entry)) (now (out .entry)) .result) ⌝ }
 {
     let done = s.enter(vcpus, vcpu_number(vcpu), block, out);
     finish(done, result)
@@ -255,14 +234,15 @@ pub extern "C" fn semblurick_enter(
     out: &mut [u8],
     result: &mut [u64; 5],
 ) -> u32
-    ensures { λ r. ⌜ (r ≡ enterGiven (now (s .entry)) (now (vcpus .entry)) vcpu (now (block .entry)) (now (out .entry)) (now (result .entry)) .done .code)
-        × (now (s .exit) ≡ enterGiven (now (s .entry)) (now (vcpus .entry)) vcpu (now (block .entry)) (now (out .entry)) (now (result .entry)) .done .session)
-        × (now (vcpus .exit) ≡ enterGiven (now (s .entry)) (now (vcpus .entry)) vcpu (now (block .entry)) (now (out .entry)) (now (result .entry)) .vcpus)
-        × (now (out .exit) ≡ enterGiven (now (s .entry)) (now (vcpus .entry)) vcpu (now (block .entry)) (now (out .entry)) (now (result .entry)) .out)
-        × (now (result .exit) ≡ enterGiven (now (s .entry)) (now (vcpus .entry)) vcpu (now (block .entry)) (now (out .entry)) (now (result .entry)) .result) ⌝ }
+    ensures { λ r. ⌜ (r ≡ enterGiven (now (s .entry)) (now (vcpus .entry)) vcpu (now (block .entry)) (now (out .entry)) .done .code)
+        × (now (s .exit) ≡ enterGiven (now (s .entry)) (now (vcpus .entry)) vcpu (now (block .entry)) (now (out .entry)) .done .session)
+        × (now (vcpus .exit) ≡ enterGiven (now (s .entry)) (now (vcpus .entry)) vcpu (now (block .entry)) (now (out .entry)) .vcpus)
+        × (now (out .exit) ≡ enterGiven (now (s .entry)) (now (vcpus .entry)) vcpu (now (block .entry)) (now (out .entry)) .out)
+        × (now (result .exit) ≡ enterGiven (now (s .entry)) (now (vcpus .entry)) vcpu (now (block .entry)) (now (out .entry)) .result) ⌝ }
 {
     let d = enter(*s, vcpus, vcpu, block, out, result);
-    *s = d.session;
+    s.tool = d.session.tool;
+    s.ready = d.session.ready;
     d.code
 }
 
@@ -274,10 +254,10 @@ fn image_read(
     image: &[u8],
     result: &mut [u64; 5],
 ) -> Done
-    ensures { λ r. ⌜ (r ≡ readGiven s (now (vcpus .entry)) (now (pages .entry)) (now (image .entry)) (now (result .entry)) .done)
-        × (now (vcpus .exit) ≡ readGiven s (now (vcpus .entry)) (now (pages .entry)) (now (image .entry)) (now (result .entry)) .vcpus)
-        × (now (pages .exit) ≡ readGiven s (now (vcpus .entry)) (now (pages .entry)) (now (image .entry)) (now (result .entry)) .pages)
-        × (now (result .exit) ≡ readGiven s (now (vcpus .entry)) (now (pages .entry)) (now (image .entry)) (now (result .entry)) .result) ⌝ }
+    ensures { λ r. ⌜ (r ≡ readGiven s (now (vcpus .entry)) (now (pages .entry)) (now (image .entry)) .done)
+        × (now (vcpus .exit) ≡ readGiven s (now (vcpus .entry)) (now (pages .entry)) (now (image .entry)) .vcpus)
+        × (now (pages .exit) ≡ readGiven s (now (vcpus .entry)) (now (pages .entry)) (now (image .entry)) .pages)
+        × (now (result .exit) ≡ readGiven s (now (vcpus .entry)) (now (pages .entry)) (now (image .entry)) .result) ⌝ }
 {
     let settings = s.settings;
     let done = image_reader::read_image(settings, image, vcpus, pages);
@@ -293,11 +273,11 @@ pub extern "C" fn semblurick_image_read(
     image: &[u8],
     result: &mut [u64; 5],
 ) -> u32
-    ensures { λ r. ⌜ (r ≡ readGiven (now (s .entry)) (now (vcpus .entry)) (now (pages .entry)) (now (image .entry)) (now (result .entry)) .done .code)
-        × (now (s .exit) ≡ readGiven (now (s .entry)) (now (vcpus .entry)) (now (pages .entry)) (now (image .entry)) (now (result .entry)) .done .session)
-        × (now (vcpus .exit) ≡ readGiven (now (s .entry)) (now (vcpus .entry)) (now (pages .entry)) (now (image .entry)) (now (result .entry)) .vcpus)
-        × (now (pages .exit) ≡ readGiven (now (s .entry)) (now (vcpus .entry)) (now (pages .entry)) (now (image .entry)) (now (result .entry)) .pages)
-        × (now (result .exit) ≡ readGiven (now (s .entry)) (now (vcpus .entry)) (now (pages .entry)) (now (image .entry)) (now (result .entry)) .result) ⌝ }
+    ensures { λ r. ⌜ (r ≡ readGiven (now (s .entry)) (now (vcpus .entry)) (now (pages .entry)) (now (image .entry)) .done .code)
+        × (now (s .exit) ≡ readGiven (now (s .entry)) (now (vcpus .entry)) (now (pages .entry)) (now (image .entry)) .done .session)
+        × (now (vcpus .exit) ≡ readGiven (now (s .entry)) (now (vcpus .entry)) (now (pages .entry)) (now (image .entry)) .vcpus)
+        × (now (pages .exit) ≡ readGiven (now (s .entry)) (now (vcpus .entry)) (now (pages .entry)) (now (image .entry)) .pages)
+        × (now (result .exit) ≡ readGiven (now (s .entry)) (now (vcpus .entry)) (now (pages .entry)) (now (image .entry)) .result) ⌝ }
 {
     let d = image_read(*s, vcpus, pages, image, result);
     *s = d.session;
@@ -311,9 +291,9 @@ fn image_write(
     out: &mut [u8],
     result: &mut [u64; 5],
 ) -> u32
-    ensures { λ r. ⌜ (r ≡ writeGiven s (now (vcpus .entry)) (now (pages .entry)) (now (out .entry)) (now (result .entry)) .done .code)
-        × (now (out .exit) ≡ writeGiven s (now (vcpus .entry)) (now (pages .entry)) (now (out .entry)) (now (result .entry)) .out)
-        × (now (result .exit) ≡ writeGiven s (now (vcpus .entry)) (now (pages .entry)) (now (out .entry)) (now (result .entry)) .result) ⌝ }
+    ensures { λ r. ⌜ (r ≡ writeGiven s (now (vcpus .entry)) (now (pages .entry)) (now (out .entry)) .done .code)
+        × (now (out .exit) ≡ writeGiven s (now (vcpus .entry)) (now (pages .entry)) (now (out .entry)) .out)
+        × (now (result .exit) ≡ writeGiven s (now (vcpus .entry)) (now (pages .entry)) (now (out .entry)) .result) ⌝ }
 {
     let done = image_writer::write_image(s, vcpus, pages, out);
     let d = finish(done, result);
@@ -329,9 +309,9 @@ pub extern "C" fn semblurick_image_write(
     out: &mut [u8],
     result: &mut [u64; 5],
 ) -> u32
-    ensures { λ r. ⌜ (r ≡ writeGiven (now (s .entry)) (now (vcpus .entry)) (now (pages .entry)) (now (out .entry)) (now (result .entry)) .done .code)
-        × (now (out .exit) ≡ writeGiven (now (s .entry)) (now (vcpus .entry)) (now (pages .entry)) (now (out .entry)) (now (result .entry)) .out)
-        × (now (result .exit) ≡ writeGiven (now (s .entry)) (now (vcpus .entry)) (now (pages .entry)) (now (out .entry)) (now (result .entry)) .result) ⌝ }
+    ensures { λ r. ⌜ (r ≡ writeGiven (now (s .entry)) (now (vcpus .entry)) (now (pages .entry)) (now (out .entry)) .done .code)
+        × (now (out .exit) ≡ writeGiven (now (s .entry)) (now (vcpus .entry)) (now (pages .entry)) (now (out .entry)) .out)
+        × (now (result .exit) ≡ writeGiven (now (s .entry)) (now (vcpus .entry)) (now (pages .entry)) (now (out .entry)) .result) ⌝ }
 {
     image_write(*s, vcpus, pages, out, result)
 }

@@ -25,7 +25,7 @@ use Rattle.kvmi.specs.declared.ReplyMode.the-variants.{On, Off, ErrorsOnly}
 use Rattle.kvmi.specs.declared.ReplyKind.{ReplyKind}
 use Rattle.kvmi.specs.declared.ReplyKind.the-variants.{CodeOnly, WithData, Silent}
 use Rattle.kvmi.specs.declared.Change.{Change}
-use Rattle.kvmi.specs.declared.Change.the-variants.{Nothing, SetVmEvent, WritePhysical, QueuePause, SetVcpuEvent, SetCr, SetMsr, SetPages, SetSinglestep, SetReplies, EndWait}
+use Rattle.kvmi.specs.declared.Change.the-variants.{SetVmEvent, QueuePause, SetVcpuEvent, SetCr, SetMsr, SetPages, SetSinglestep, EndWait}
 use Rattle.kvmi.specs.declared.Verdict.{Verdict}
 use Rattle.kvmi.specs.declared.Verdict.the-variants.{Closes, Fails, Does}
 use Rattle.kvmi.specs.Answer.{Paper}
@@ -46,6 +46,7 @@ use Rattle.session.specs.declared.Session.{Session}
 use Rattle.session.specs.State.{State, state, freshSession, closedSession, clearedState, withReadyBits, withSeqOf, withField, modeOfNumber, putBit64, factsIn, Changed, changed, change}
 use Rattle.session.specs.Calls.{Told, toldSame, toldWritten, toldClosing, freshOf, answering, judgedOf, headedOf, messageOf, readyOf, pausingOf, enterOf}
 use Rattle.session.specs.Meaning.{awaitedIn, awaitedOf, tablesOf, modelOf, WordsGood, WellFormed}
+use Rattle.session.proofs.Kept.{change-keeps}
 use Rattle.laws.proofs.Bool.{and-l, and-r, test}
 use Rattle.laws.proofs.Bits.{put-below}
 use Rattle.laws.proofs.Verdicts.{pick, and-false, or-false-l, Passed, verdict-cases, sound-of}
@@ -223,21 +224,6 @@ answering-simulates st st′ mode id seq code d sig out guest h e g =
       words = seq-kept st′ _ g;
     }
 
--- a change keeps the settings
-settings-kept : (st : State) (guest d : List ℕ) (c : Change) → change st guest d c .state .session .settings ≡ st .session .settings
-unfolding change
-settings-kept st guest d Nothing = refl
-settings-kept st guest d (SetVmEvent event on) = refl
-settings-kept st guest d (WritePhysical gpa) = refl
-settings-kept st guest d (QueuePause vcpu wait) = refl
-settings-kept st guest d (SetVcpuEvent vcpu event on) = refl
-settings-kept st guest d (SetCr vcpu cr on) = refl
-settings-kept st guest d (SetMsr vcpu msr on) = refl
-settings-kept st guest d (SetPages view count) = refl
-settings-kept st guest d (SetSinglestep vcpu on) = refl
-settings-kept st guest d (SetReplies mode now) = refl
-settings-kept st guest d (EndWait vcpu crash) = refl
-
 -- an error has no data
 error-bytes : (mode : ReplyMode) (seq id commandSeq : ℕ) (code : ℤ) (d : List ℕ) → isError code ≡ true → length (answerBytes mode seq id commandSeq code d) ≤ 4112
 unfolding answerBytes
@@ -273,7 +259,7 @@ module _ (st : State) (f : WellFormed st) (out guest : List ℕ) where
       let r = change st guest d c in
       let mode = modeFor (modeOfNumber (st .session .tool .mode)) c in
       let l = length-answer (layoutOf id .reply) mode (r .state .session .tool .seq) id seq (r .code) (r .state .session .settings) (r .guest) d fits in
-      let here = answering-simulates st (r .state) mode id seq (r .code) d (signalOf c) out (r .guest) (omega arith) (settings-kept st guest d c) (m .words) in
+      let here = answering-simulates st (r .state) mode id seq (r .code) d (signalOf c) out (r .guest) (omega arith) (change-keeps st guest d c) (m .words) in
       subst (λ (x : Model). S (answering mode id seq (r .code) d (signalOf c) out (r .guest) (r .state)) (model.answering cfg mode id seq (apply (modelOf st) guest d c .code) d (signalOf c) out (apply (modelOf st) guest d c .guest) x)) (m .model)
       (subst (λ (x : List ℕ). S (answering mode id seq (r .code) d (signalOf c) out (r .guest) (r .state)) (model.answering cfg mode id seq (apply (modelOf st) guest d c .code) d (signalOf c) out x (modelOf (r .state)))) (m .guest)
       (subst (λ (x : ℤ). S (answering mode id seq (r .code) d (signalOf c) out (r .guest) (r .state)) (model.answering cfg mode id seq x d (signalOf c) out (r .guest) (modelOf (r .state)))) (m .code) here))

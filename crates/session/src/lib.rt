@@ -177,13 +177,14 @@ fn mode_number(mode: ReplyMode) -> u32
 fn facts_of(s: Session, vcpus: &[u64], guest: usize, vcpu: u16) -> Facts
     ensures { λ r. ⌜ r ≡ factsIn (state s (now (vcpus .entry)) []) guest vcpu ⌝ }
 {
+    let pending = store::words::read_pending(vcpus, vcpu);
     Facts {
         mode: mode_of(s.tool.mode),
         guest,
         ready: store::bits::bit_on(s.ready, vcpu as u32),
-        pauses: store::words::read_field(vcpus, vcpu, store::words::PAUSES),
-        awaited: store::words::read_field(vcpus, vcpu, store::words::AWAITED),
-        seq: store::words::read_field(vcpus, vcpu, store::words::AWAITED_SEQ),
+        pauses: pending.pauses,
+        awaited: pending.awaited,
+        seq: pending.seq,
     }
 }
 

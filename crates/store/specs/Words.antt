@@ -6,6 +6,7 @@ use mathlib.Core.Bool.{Bool, _&&_}
 use lib.ListN.{length, getD, set, replicate}
 use lib.Dec.{ltb}
 use Rattle.kvmi.specs.Bits.{isOn, putBit}
+use Rattle.store.specs.declared.words.Pending.{Pending}
 
 abbrev pub blockWords : ℕ
 blockWords = 272
@@ -36,6 +37,10 @@ MSRS = 16
 
 unfoldable pub field : List ℕ → ℕ → ℕ → ℕ
 field w vcpu k = getD w (vcpu * 272 + k) 0
+
+-- the fields that the tests of a message ask
+abbrev pub pending : List ℕ → ℕ → Pending
+pending w vcpu = record { pauses = field w vcpu PAUSES; awaited = field w vcpu AWAITED; seq = field w vcpu AWAITED-SEQ }
 
 unfoldable pub setField : List ℕ → ℕ → ℕ → ℕ → List ℕ
 setField w vcpu k x = set w (vcpu * 272 + k) x

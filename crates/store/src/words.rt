@@ -3,7 +3,7 @@ use crate::bits::bit_on;
 use crate::bits::put_bit;
 ghost use mathlib.Core.Path.{_≡_};
 ghost use lib.ListN.{getD, set};
-ghost use Rattle.store.specs.Words.{field, setField, msrSlot, msrWord, msrBitOn, setMsrBit, cleared};
+ghost use Rattle.store.specs.Words.{field, setField, pending, msrSlot, msrWord, msrBitOn, setMsrBit, cleared};
 
 // How many words a vCPU has.
 pub const BLOCK_WORDS: usize = 272;
@@ -23,6 +23,13 @@ pub const AWAITED_SEQ: usize = 5;
 
 // The first word of MSR switches.
 pub const MSRS: usize = 16;
+
+// What is pending of a vCPU: how many pauses are queued, and the event whose reply is awaited (0 for none) with its seq.
+pub struct Pending {
+    pub pauses: u64,
+    pub awaited: u64,
+    pub seq: u64,
+}
 
 // The word at a place, or 0 past the end.
 fn word(words: &[u64], at: usize) -> u64
@@ -48,6 +55,25 @@ pub fn read_field(words: &[u64], vcpu: u16, k: usize) -> u64
         word(words, (vcpu as usize) * BLOCK_WORDS + k)
     } else {
         0
+    }
+}
+
+// What is pending of a vCPU. One test finds that all of it is there.
+pub fn read_pending(words: &[u64], vcpu: u16) -> Pending
+    ensures { λ r. ⌜ r ≡ pending (now (words .entry)) vcpu ⌝ }
+{
+    let at = (vcpu as usize) * BLOCK_WORDS;
+    if at + AWAITED_SEQ < words.len() {
+        return Pending {
+            pauses: words[at + PAUSES],
+            awaited: words[at + AWAITED],
+            seq: words[at + AWAITED_SEQ],
+        };
+    }
+    Pending {
+        pauses: read_field(words, vcpu, PAUSES),
+        awaited: read_field(words, vcpu, AWAITED),
+        seq: read_field(words, vcpu, AWAITED_SEQ),
     }
 }
 

@@ -1,17 +1,20 @@
 -- Laws of the table's rows. Assumes nothing.
-use mathlib.Core.Path.{_≡_, refl, ap, _∙_}
+use mathlib.Core.Path.{_≡_, refl, ap, sym, _∙_}
 use mathlib.Core.Logic.{⊎-elim}
 use mathlib.Core.List.{List}
 use mathlib.Core.Bool.{Bool, true, So, cond, not, _&&_}
 use Prim.Native.Nat.{ℕ, zero, suc, _≤_, _<_}
 use native.Mathlib.Omega.{arith}
 use lib.Dec.{leb, eqb}
-use lib.ListN.{List·getD-eq-default}
+use lib.ListN.{length, take, List·getD-eq-default}
+use lib.Seq.{take-all}
 use borrow.Author.Tests.{le-leb, lt-leb, ne-eqb, eqb-true, leb-true}
 use Rattle.wire.proofs.Laws.{le-or-lt}
 use Rattle.kvmi.specs.declared.Settings.{Settings}
 use Rattle.kvmi.specs.declared.Facts.{Facts}
+use Rattle.kvmi.specs.declared.Handler.{Handler}
 use Rattle.kvmi.specs.declared.Layout.{Layout}
+use Rattle.kvmi.specs.declared.SizeRule.the-variants.{Exactly}
 use Rattle.kvmi.specs.declared.Change.the-variants.{Nothing}
 use Rattle.kvmi.specs.declared.Verdict.{Verdict}
 use Rattle.kvmi.specs.declared.Verdict.the-variants.{Closes, Does}
@@ -61,6 +64,13 @@ row-known id =
     (λ e. let h = leb-true 1 id (and-l (leb 1 id) (leb id 16) e) in rw (e, ne-eqb id 0 (λ z. omega arith)))
     (λ e. rw e))
 
+-- a message's row is the row of its handler
+pub own-row : (id : ℕ) (row : Layout) → row ≡ layoutOf id → isKnown (row .handler) ≡ true → layoutOf (idOf (row .handler)) ≡ row
+own-row id row e known =
+    let inside : (leb 1 id && leb id 16) ≡ true = sym (row-known id) ∙ ap (λ r. isKnown (r .handler)) (sym e) ∙ known in
+    let own : idOf (row .handler) ≡ id = ap (λ r. idOf (r .handler)) e ∙ row-id id ∙ rw inside in
+    ap layoutOf own ∙ sym e
+
 -- `verdict` by the table's row: so the row tells all that the number does
 unfoldable pub byRow : Settings → Facts → Layout → ℕ → ℕ → List ℕ → Verdict
 byRow s f row id seq d =
@@ -82,3 +92,12 @@ by-row s f id seq d =
 pub asks-nothing : (s : Settings) (f : Facts) (d : List ℕ) → (commandVerdict s f 1 d ≡ Does Nothing) × (commandVerdict s f 4 d ≡ Does Nothing)
 unfolding commandVerdict isInvalid isUnready isDenied isUnsupported isBusy isAbsent losesErrors changeOf namesVcpu flagsAt firstPadding padding firstOfRuns
 asks-nothing s f d = (refl, refl)
+
+-- data of the fixed size that a message's row says is its own part of that length
+pub fixed-part : {g : Handler} {d : List ℕ} (h : Handler) (n : ℕ) → layoutOf (idOf h) .size ≡ Exactly n → g ≡ h
+    → sizeFits (layoutOf (idOf g) .size) d ≡ true → (n ≡ length (take n d)) × (take n d ≡ d)
+unfolding sizeFits
+fixed-part {g} {d} h n row e fits =
+    let size : length d ≡ n = eqb-true (length d) n (ap (λ r. sizeFits r d) (sym row) ∙ ap (λ x. sizeFits (layoutOf (idOf x) .size) d) (sym e) ∙ fits) in
+    let whole : take n d ≡ d = take-all n d (omega arith) in
+    (sym (ap length whole ∙ size), whole)

@@ -15,6 +15,7 @@ use kvmi::Verdict;
 ghost use mathlib.Core.Path.{_≡_};
 ghost use mathlib.Core.Bool.{true, cond, not};
 ghost use Rattle.kvmi.specs.Settings.{allowsEvent};
+ghost use Rattle.kvmi.specs.Message.{sizeFits, layoutOf};
 ghost use Rattle.kvmi.specs.Verdict.{refuse, isAwaited, eventReplyVerdict, commandVerdict, verdict};
 ghost use Rattle.verdict.specs.Handlers.{idOf, isKnown, handled};
 
@@ -63,28 +64,30 @@ fn pause(settings: Settings, facts: Facts, d: &[u8]) -> Verdict
     Verdict::Closes
 }
 
-// What comes after the tests that the table's row asks for, by the handler.
+// What comes after the tests that the table's row asks for, by the handler. Data of a fixed size goes on as a part of that length,
+// so that no load tests the length again.
 fn handle(settings: Settings, facts: Facts, handler: Handler, seq: u32, d: &[u8]) -> Verdict
     requires { ⌜ isKnown handler ≡ true ⌝ }
+    requires { ⌜ sizeFits (layoutOf (idOf handler) .size) (now d) ≡ true ⌝ }
     ensures { λ r. ⌜ r ≡ handled settings facts (idOf handler) seq (now (d .entry)) ⌝ }
 {
     match handler {
         Handler::GetVersion => Verdict::Does(Change::Nothing),
-        Handler::VmCheckCommand => commands::check_command(settings, facts, d),
-        Handler::VmCheckEvent => commands::check_event(settings, facts, d),
+        Handler::VmCheckCommand => commands::check_command(settings, facts, &d[..8]),
+        Handler::VmCheckEvent => commands::check_event(settings, facts, &d[..8]),
         Handler::VmGetInfo => Verdict::Does(Change::Nothing),
-        Handler::VmControlEvents => commands::control_vm_events(settings, facts, d),
-        Handler::VmReadPhysical => commands::read_physical(settings, facts, d),
+        Handler::VmControlEvents => commands::control_vm_events(settings, facts, &d[..8]),
+        Handler::VmReadPhysical => commands::read_physical(settings, facts, &d[..16]),
         Handler::VmWritePhysical => commands::write_physical(settings, facts, d),
-        Handler::VcpuGetInfo => commands::get_vcpu_info(settings, facts, d),
-        Handler::VcpuPause => pause(settings, facts, d),
-        Handler::VcpuControlEvents => commands::control_vcpu_events(settings, facts, d),
-        Handler::VcpuControlCr => commands::control_cr(settings, facts, d),
-        Handler::VcpuControlMsr => commands::control_msr(settings, facts, d),
+        Handler::VcpuGetInfo => commands::get_vcpu_info(settings, facts, &d[..8]),
+        Handler::VcpuPause => pause(settings, facts, &d[..16]),
+        Handler::VcpuControlEvents => commands::control_vcpu_events(settings, facts, &d[..16]),
+        Handler::VcpuControlCr => commands::control_cr(settings, facts, &d[..16]),
+        Handler::VcpuControlMsr => commands::control_msr(settings, facts, &d[..16]),
         Handler::VmSetPageAccess => commands::set_page_access(settings, facts, d),
-        Handler::VcpuControlSinglestep => commands::control_singlestep(settings, facts, d),
-        Handler::VmControlCmdResponse => commands::control_replies(settings, facts, d),
-        Handler::EventReply => event_reply(facts, seq, d),
+        Handler::VcpuControlSinglestep => commands::control_singlestep(settings, facts, &d[..16]),
+        Handler::VmControlCmdResponse => commands::control_replies(settings, facts, &d[..8]),
+        Handler::EventReply => event_reply(facts, seq, &d[..16]),
         Handler::Unknown => Verdict::Closes,
     }
 }

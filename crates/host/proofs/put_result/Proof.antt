@@ -1,54 +1,138 @@
--- The five words and the number, each as its function says. Assumes nothing.
-use mathlib.Core.Path.{_≡_}
-use Prim.Native.Nat.{ℕ}
-use mathlib.Core.List.{[], _∷_}
-use Rattle.kvmi.specs.Answer.{Paper, paper}
-use Rattle.kvmi.specs.declared.Signal.{Signal}
-use Rattle.host.specs.Host.{signalNumber, signalVcpu, signalWaits, resultWords}
+-- In each arm the answer is known, and with it its number and words. Assumes nothing.
+use mathlib.Core.Path.{refl}
 use borrow.Author.Needs.{needs}
 use Rattle.host.proofs.put_result.Statement.{statement}
 use Rattle.host.proofs.put_result.Tie as tie
 
-words : (p : Paper) {s : Signal} {n o k v w : ℕ} → n ≡ p .count → o ≡ p .offset → s ≡ p .signal → k ≡ signalNumber s → v ≡ signalVcpu s → w ≡ signalWaits s → n ∷ o ∷ k ∷ v ∷ w ∷ [] ≡ resultWords p
-words p en eo es ek ev ew = rw (en, eo, ek, ev, ew, es)
+enum-known-a : tie.Need-enum-known-a
+enum-known-a c = search needs
 
-signal-of-requires : tie.Need-signal-of-requires
-signal-of-requires c κs = search needs
+enum-told : tie.Need-enum-told
+enum-told c = search needs
 
-answer-count-requires : tie.Need-answer-count-requires
-answer-count-requires c κs = search needs
+enum-known-signal : tie.Need-enum-known-signal
+enum-known-signal c = search needs
 
-offset-of-requires : tie.Need-offset-of-requires
-offset-of-requires c κs = search needs
+cast-t13 : tie.Need-cast-t13
+cast-t13 c = search needs
 
-signal-number-requires : tie.Need-signal-number-requires
-signal-number-requires c κs = search needs
+cast-t14 : tie.Need-cast-t14
+cast-t14 c = search needs
 
-signal-vcpu-requires : tie.Need-signal-vcpu-requires
-signal-vcpu-requires c κs = search needs
+enum-known-signal-2 : tie.Need-enum-known-signal-2
+enum-known-signal-2 c = search needs
 
-signal-waits-requires : tie.Need-signal-waits-requires
-signal-waits-requires c κs = search needs
+cast-t16 : tie.Need-cast-t16
+cast-t16 c = search needs
 
-answer-number-requires : tie.Need-answer-number-requires
-answer-number-requires c κs = search needs
+enum-told-2 : tie.Need-enum-told-2
+enum-told-2 c = search needs
 
-cast-result : tie.Need-cast-result
-cast-result c = search needs
+enum-told-3 : tie.Need-enum-told-3
+enum-told-3 c = search needs
+
+enum-told-4 : tie.Need-enum-told-4
+enum-told-4 c = search needs
+
+enum-told-5 : tie.Need-enum-told-5
+enum-told-5 c = search needs
+
+enum-told-6 : tie.Need-enum-told-6
+enum-told-6 c = search needs
+
+enum-told-7 : tie.Need-enum-told-7
+enum-told-7 c = search needs
+
+enum-told-8 : tie.Need-enum-told-8
+enum-told-8 c = search needs
+
+enum-known-a-2 : tie.Need-enum-known-a-2
+enum-known-a-2 c = search needs
+
+enum-known-a-3 : tie.Need-enum-known-a-3
+enum-known-a-3 c = search needs
+
+enum-told-9 : tie.Need-enum-told-9
+enum-told-9 c = search needs
+
+enum-told-10 : tie.Need-enum-told-10
+enum-told-10 c = search needs
 
 returns : tie.Need-returns
-returns c = (c .answer-number .ensures, words (paper (c .before .before .before .before .before .before .before .before .args .a)) (c .before .before .before .before .before .before .answer-count .ensures) (c .before .before .before .before .before .offset-of .ensures) (c .before .before .before .before .before .before .before .signal-of .ensures) (c .before .before .before .before .signal-number .ensures) (c .before .before .before .signal-vcpu .ensures) (c .before .before .signal-waits .ensures))
+returns c = rw (c .before .before .before .before .a .given .1, c .before .enum-told .given .1) (refl, refl)
+
+returns-2 : tie.Need-returns-2
+returns-2 c = rw (c .before .before .before .before .before .a .given .1, c .before .before .signal .given .1) (refl, refl)
+
+returns-3 : tie.Need-returns-3
+returns-3 c = rw (c .before .before .before .before .before .a .given .1, c .before .before .signal2 .given .1) (refl, refl)
+
+returns-4 : tie.Need-returns-4
+returns-4 c = rw (c .before .enum-told2 .given .1) (refl, refl)
+
+returns-5 : tie.Need-returns-5
+returns-5 c = rw (c .before .enum-told3 .given .1) (refl, refl)
+
+returns-6 : tie.Need-returns-6
+returns-6 c = rw (c .before .enum-told4 .given .1) (refl, refl)
+
+returns-7 : tie.Need-returns-7
+returns-7 c = rw (c .before .enum-told5 .given .1) (refl, refl)
+
+returns-8 : tie.Need-returns-8
+returns-8 c = rw (c .before .enum-told6 .given .1) (refl, refl)
+
+returns-9 : tie.Need-returns-9
+returns-9 c = rw (c .before .enum-told7 .given .1) (refl, refl)
+
+returns-10 : tie.Need-returns-10
+returns-10 c = rw (c .before .enum-told8 .given .1) (refl, refl)
+
+returns-11 : tie.Need-returns-11
+returns-11 c = rw (c .before .before .a2 .given .1) (refl, refl)
+
+returns-12 : tie.Need-returns-12
+returns-12 c = rw (c .before .before .a3 .given .1) (refl, refl)
+
+returns-13 : tie.Need-returns-13
+returns-13 c = rw (c .before .enum-told9 .given .1) (refl, refl)
+
+returns-14 : tie.Need-returns-14
+returns-14 c = rw (c .before .enum-told10 .given .1) (refl, refl)
 
 pub put-result-spec : {M : Type 1} → statement M
 put-result-spec =
     tie.close
     (tie.spec
-    signal-of-requires
-    answer-count-requires
-    offset-of-requires
-    signal-number-requires
-    signal-vcpu-requires
-    signal-waits-requires
-    answer-number-requires
-    cast-result
-    returns)
+    enum-known-a
+    enum-told
+    enum-known-signal
+    cast-t13
+    cast-t14
+    enum-known-signal-2
+    cast-t16
+    enum-told-2
+    enum-told-3
+    enum-told-4
+    enum-told-5
+    enum-told-6
+    enum-told-7
+    enum-told-8
+    enum-known-a-2
+    enum-known-a-3
+    enum-told-9
+    enum-told-10
+    returns
+    returns-2
+    returns-3
+    returns-4
+    returns-5
+    returns-6
+    returns-7
+    returns-8
+    returns-9
+    returns-10
+    returns-11
+    returns-12
+    returns-13
+    returns-14)

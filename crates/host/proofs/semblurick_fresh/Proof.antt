@@ -44,6 +44,7 @@ use Rattle.host.specs.declared.Done.{Done}
 use Rattle.host.specs.Host.{Given as Gives, freshGiven}
 use Rattle.session.proofs.Session as S
 use Rattle.session.proofs.Session.Laws as S′
+use Rattle.host.proofs.Stored.{code-fits, session-is}
 use Rattle.host.proofs.Done as D
 use Rattle.host.proofs.Done.Laws as D′
 use Rattle.host.proofs.fresh as callee
@@ -57,13 +58,6 @@ use Rattle.host.proofs.semblurick_fresh.Code as code
 
 abbrev stayed : Stays (f.ended .signature .params) (f.ended .kept)
 stayed = (stay-ref (0 ∷ []) tt (plain (λ _. S.the-row)), (gave-ref (1 ∷ []) tt (ArrayOf (plain (λ _. u64)) (λ _. tt) 4352), (gave-ref (2 ∷ []) tt (ArrayOf (plain (λ _. u64)) (λ _. tt) 1024), (gave-ref (3 ∷ []) tt (ArrayOf (plain (λ _. u64)) (λ _. tt) 5), tt))))
-
--- the relations of the code and of the Session, out of that of the callee's result
-code-fits : (d : Done) (vs : List Val) → Is D.the-row d vs → d .code < 2 ^ 32
-code-fits d vs is = LL.owed D.the-type D′.the-laws d vs is .0 .1
-
-session-is : (d : Done) (vs : List Val) → Is D.the-row d vs → Is S.the-row (d .session) (LL.vals S.the-type S′.the-laws (d .session))
-session-is d vs is = LL.owed D.the-type D′.the-laws d vs is .1 .0
 
 -- the contract that the proof cites
 abbrev Callee : {M : Type 1} (𝓤 : URA M) (H : Heap 𝓤) (A : Atoms 𝓤) (at-mem : Memory → SProp 𝓤) (run : Routine → Fun 𝓤) → Contract 𝓤
@@ -85,7 +79,7 @@ module _ {M : Type 1} (𝓤 : URA M) (H : Heap 𝓤) (A : Atoms 𝓤) (W : Given
 
   -- what the call does
   abbrev did : Gives
-  did = freshGiven h (a-vcpus .now) (a-pages .now) (a-result .now)
+  did = freshGiven h (a-vcpus .now) (a-pages .now)
 
   -- the tokens of the callee's lifetimes
   abbrev Tokens : ItemOf 𝓤

@@ -76,7 +76,7 @@ module _ {M : Type 1} (𝓤 : URA M) (H : Heap 𝓤) (A : Atoms 𝓤) (W : Given
 
   -- what the call does
   abbrev did : Gives
-  did = writeGiven h (a-vcpus .now) (a-pages .now) (a-out .now) (a-result .now)
+  did = writeGiven h (a-vcpus .now) (a-pages .now) (a-out .now)
 
   -- the tokens of the callee's lifetimes
   abbrev Tokens : ItemOf 𝓤

@@ -1,9 +1,12 @@
 -- The tests in their order, on the table's row. Assumes nothing.
-use mathlib.Core.Path.{sym, _∙_}
+use mathlib.Core.Path.{_≡_, ap, sym, _∙_}
+use mathlib.Core.Bool.{true}
 use borrow.Author.Needs.{needs}
 use borrow.Author.Tests.{not-false}
 use Rattle.kvmi.specs.Settings.{allowsCommand}
-use Rattle.verdict.proofs.Rows.{byRow, by-row}
+use Rattle.kvmi.specs.Message.{sizeFits, layoutOf}
+use Rattle.verdict.specs.Handlers.{idOf, isKnown}
+use Rattle.verdict.proofs.Rows.{byRow, by-row, own-row}
 use Rattle.verdict.proofs.judge.Statement.{statement}
 use Rattle.verdict.proofs.judge.Tie as tie
 
@@ -48,7 +51,10 @@ unfolding byRow allowsCommand
 returns-4 c = rw (← by-row, ← c .before .before .before .before .before .before .before .before .before .layout .ensures, ← c .before .before .before .before .before .before .before .before .is-known .ensures, c .before .before .before .before .before .before .before .if1 .left, ← c .before .before .before .before .before .before .allows-command .ensures, c .before .before .before .before .before .if2 .left, ← c .before .before .before .before .replies-on .ensures, ← c .before .before .before .carries-data .ensures, c .before .before .if3 .left, ← c .before .size-fits .ensures, c .if4 .taken)
 
 handle-requires : tie.Need-handle-requires
-handle-requires c κs = sym (c .before .before .before .before .before .before .before .before .is-known .ensures) ∙ not-false _ (c .before .before .before .before .before .before .before .if1 .left)
+handle-requires c κs =
+    let known : isKnown (c .before .before .before .before .before .before .before .before .before .layout .result .handler) ≡ true = sym (c .before .before .before .before .before .before .before .before .is-known .ensures) ∙ not-false _ (c .before .before .before .before .before .before .before .if1 .left) in
+    let own : layoutOf (idOf (c .before .before .before .before .before .before .before .before .before .layout .result .handler)) ≡ c .before .before .before .before .before .before .before .before .before .layout .result = own-row _ _ (c .before .before .before .before .before .before .before .before .before .layout .ensures) known in
+    (known, ap (λ r. sizeFits (r .size) (c .before .before .before .before .before .before .before .before .before .before .before .args .d .now)) own ∙ sym (c .before .size-fits .ensures) ∙ not-false _ (c .if4 .left))
 
 returns-5 : tie.Need-returns-5
 unfolding byRow allowsCommand
