@@ -2,7 +2,7 @@
 use mathlib.Core.Path.{_≡_, refl, sym, ap, _∙_}
 use mathlib.Core.Logic.{⊎-elim}
 use mathlib.Core.List.{List, [], _∷_}
-use mathlib.Core.Bool.{Bool, true, false, not, _&&_, and-eq-true-iff}
+use mathlib.Core.Bool.{Bool, true, false, not, _&&_, and-eq-true-iff, false≢true}
 use Prim.Native.Nat.{ℕ, zero, suc, _+_, _-_, _≤_, _<_, min}
 use native.Mathlib.Nat.{not-suc-le-zero}
 use native.Mathlib.Omega.{arith}
@@ -20,7 +20,8 @@ use Rattle.kvmi.specs.declared.Handler.{Handler}
 use Rattle.kvmi.specs.declared.Layout.{Layout}
 use Rattle.kvmi.proofs.Handler.{the-type}
 use Rattle.kvmi.specs.Codes.{isError}
-use Rattle.kvmi.specs.Message.{layoutOf, messages, unknown, gpaOf, sizeOf}
+use Rattle.kvmi.specs.declared.ReplyKind.the-variants.{CodeOnly}
+use Rattle.kvmi.specs.Message.{layoutOf, messages, unknown, carriesData, gpaOf, sizeOf}
 use Rattle.kvmi.specs.Reply.{replyData}
 use Rattle.reply.specs.Contents.{contentsBytes, contentsCount, contentsEnd, Chosen, Picked}
 use Rattle.reply.specs.declared.Contents.{Contents}
@@ -67,6 +68,14 @@ module _ (s : Settings) (guest d : List ℕ) where
       ∙ sym (ap (λ (k : ℕ). replyData s guest (suc k) d) (place-past n h)))
       (λ h. ap (λ (k : ℕ). replyData s guest (suc k) d) (place-in n h))
       (le-or-lt 16 n)
+
+  -- a message that a code alone answers has none
+  pub code-only : (id : ℕ) → layoutOf id .reply ≡ CodeOnly → replyData s guest id d ≡ []
+  unfolding layoutOf
+  code-only id kind =
+      let no-such : (n : ℕ) → carriesData (layoutOf n .reply) ≡ true → id ≡ n → ⊥
+      = λ n has e. false≢true (sym (ap carriesData kind) ∙ ap (λ (k : ℕ). carriesData (layoutOf k .reply)) e ∙ has) in
+      no-data id (no-such 1 refl) (no-such 4 refl) (no-such 6 refl) (no-such 8 refl)
 
 -- the places of the handlers that answer without data
 abbrev pub bare : List ℕ

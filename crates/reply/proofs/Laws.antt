@@ -1,7 +1,7 @@
 -- Laws of bytes that are written one behind the other, and what they are as one list. Assumes nothing.
 use mathlib.Core.Path.{_≡_, refl, sym, ap, _∙_}
 use mathlib.Core.List.{List, [], _∷_, _++_, append-assoc, append-nil}
-use mathlib.Core.Bool.{Bool, cond}
+use mathlib.Core.Bool.{Bool, true, false, cond}
 use Prim.Native.Nat.{ℕ, zero, suc, _+_, _/_, _%_, _^_, _≤_, _<_}
 use native.Mathlib.Nat.{zero-add, suc-add, pow-suc, div-lt-iff-lt-mul, zero-lt-suc}
 use native.Mathlib.Omega.{arith}
@@ -104,6 +104,17 @@ pub reply-count : (id seq : ℕ) (code : ℤ) (d shown : List ℕ) → shown ≡
 unfolding replyBytes
 reply-count id seq code d shown e =
     rw (← e) (simp (length-message, length-append, length-code, length-le) (omega arith))
+
+-- a reply without data
+none-shown : (failed : Bool) (none : List ℕ) → none ≡ cond failed none none
+none-shown true none = refl
+none-shown false none = refl
+
+pub code-bytes : (id seq : ℕ) (code : ℤ) → le 2 id ++ le 2 8 ++ le 4 seq ++ codeBytes code ++ le 4 0 ≡ replyBytes id seq code []
+code-bytes id seq code = sym (append-nil _) ∙ reply-bytes id seq code [] [] (none-shown (isError code) [])
+
+pub code-count : (id seq : ℕ) (code : ℤ) → 16 ≡ length (replyBytes id seq code [])
+code-count id seq code = reply-count id seq code [] [] (none-shown (isError code) [])
 
 pub front-bytes : (size seq vcpu event : ℕ) → event < 256
     → le 2 17 ++ le 2 size ++ le 4 seq ++ le 2 544 ++ le 2 (vcpu % 65536) ++ le 4 event ≡ eventFront size seq vcpu event

@@ -5,11 +5,13 @@ use kvmi::ReplyKind;
 use kvmi::ReplyMode;
 use kvmi::Settings;
 ghost use mathlib.Core.Path.{_≡_};
+ghost use mathlib.Core.Bool.{cond};
 ghost use mathlib.Core.List.{[], _++_};
 ghost use Prim.Native.Nat.{_+_, _≤_, min};
 ghost use lib.ListN.{length};
 ghost use Rattle.wire.specs.Bytes.{le, store};
 ghost use Rattle.kvmi.specs.Codes.{isError};
+ghost use Rattle.kvmi.specs.Message.{layoutOf};
 ghost use Rattle.kvmi.specs.Model.{nextSeq};
 ghost use Rattle.kvmi.specs.Reply.{replyBytes, replyData, pauseEvent, commandErrorEvent, answerBytes, answerOf, answerSeq};
 ghost use Rattle.reply.specs.Written.{Written};
@@ -144,7 +146,19 @@ fn put_contents(out: &mut [u8], settings: Settings, guest: &[u8], contents: Cont
     }
 }
 
-// The reply to a command.
+// The reply to a command, with no data.
+fn put_code(out: &mut [u8], id: u16, seq: u32, code: i32) -> usize
+    ensures { λ r. ⌜ Written (now (out .entry)) (now (out .exit)) r (replyBytes id seq code []) ⌝ }
+{
+    if 16 <= out.len() {
+        put_header(out, id, 8, seq);
+        wire::store_code(out, 8, code);
+        wire::store32(out, 12, 0);
+    }
+    16
+}
+
+// The reply to a command, with its data.
 fn put_reply(
     out: &mut [u8],
     settings: Settings,
@@ -206,8 +220,30 @@ fn put_command_error(out: &mut [u8], next: u32, code: i32, seq: u32, id: u16) ->
     568
 }
 
-// What is written in answer to a command that is replied to.
-fn put_answer(
+// The event that tells an error while replies are off, and nothing where there is none.
+fn put_failure(out: &mut [u8], next: u32, code: i32, seq: u32, id: u16) -> usize
+    ensures { λ r. ⌜ Written (now (out .entry)) (now (out .exit)) r (cond (isError code) (commandErrorEvent next code seq id) []) ⌝ }
+{
+    if is_error(code) {
+        put_command_error(out, next, code, seq, id)
+    } else {
+        0
+    }
+}
+
+// What is written in answer to a command that a code alone answers.
+fn answer_plainly(out: &mut [u8], mode: ReplyMode, next: u32, id: u16, seq: u32, code: i32) -> usize
+    ensures { λ r. ⌜ Written (now (out .entry)) (now (out .exit)) r (answerBytes mode next id seq code []) ⌝ }
+{
+    match mode {
+        ReplyMode::On => put_code(out, id, seq, code),
+        ReplyMode::Off => 0,
+        ReplyMode::ErrorsOnly => put_failure(out, next, code, seq, id),
+    }
+}
+
+// What is written in answer to a command that is answered with data.
+fn answer_with_data(
     out: &mut [u8],
     settings: Settings,
     guest: &[u8],
@@ -223,13 +259,7 @@ fn put_answer(
     match mode {
         ReplyMode::On => put_reply(out, settings, guest, id, seq, code, d),
         ReplyMode::Off => 0,
-        ReplyMode::ErrorsOnly => {
-            if is_error(code) {
-                put_command_error(out, next, code, seq, id)
-            } else {
-                0
-            }
-        }
+        ReplyMode::ErrorsOnly => put_failure(out, next, code, seq, id),
     }
 }
 
@@ -238,7 +268,6 @@ pub fn answer(
     out: &mut [u8],
     settings: Settings,
     guest: &[u8],
-    kind: ReplyKind,
     mode: ReplyMode,
     next: u32,
     id: u16,
@@ -246,11 +275,14 @@ pub fn answer(
     code: i32,
     d: &[u8],
 ) -> usize
-    ensures { λ r. ⌜ Written (now (out .entry)) (now (out .exit)) r (answerOf kind mode next id seq code (replyData settings (now (guest .entry)) id (now (d .entry)))) ⌝ }
+    ensures { λ r. ⌜ Written (now (out .entry)) (now (out .exit)) r (answerOf (layoutOf id .reply) mode next id seq code (replyData settings (now (guest .entry)) id (now (d .entry)))) ⌝ }
 {
+    let row = kvmi::message::layout(id);
+    let kind = row.reply;
     match kind {
-        ReplyKind::CodeOnly | ReplyKind::WithData => {
-            put_answer(out, settings, guest, mode, next, id, seq, code, d)
+        ReplyKind::CodeOnly => answer_plainly(out, mode, next, id, seq, code),
+        ReplyKind::WithData => {
+            answer_with_data(out, settings, guest, mode, next, id, seq, code, d)
         }
         ReplyKind::Silent => 0,
     }

@@ -367,25 +367,6 @@ fn close(s: Session, vcpus: &mut [u64], pages: &mut [u64]) -> Done
     }
 }
 
-// The bytes of an answer, by a mode, with its code and what the message asked for; `next` is the next event's seq.
-fn put_answer(
-    settings: Settings,
-    mode: ReplyMode,
-    next: u32,
-    id: u16,
-    seq: u32,
-    code: i32,
-    d: &[u8],
-    out: &mut [u8],
-    guest: &[u8],
-) -> usize
-    ensures { λ r. ⌜ Written (now (out .entry)) (now (out .exit)) r (answerOf (layoutOf id .reply) mode next id seq code (replyData settings (now (guest .entry)) id (now (d .entry)))) ⌝ }
-{
-    let row = kvmi::message::layout(id);
-    let kind = row.reply;
-    reply::answer(out, settings, guest, kind, mode, next, id, seq, code, d)
-}
-
 // A message that was answered: the seq after it is the session's next.
 fn answered(s: Session, e: Effect, count: usize) -> Done
     ensures { λ r. ⌜ r ≡ answeredBy s e count ⌝ }
@@ -424,7 +405,7 @@ fn handle(
         Verdict::Does(c) => apply(s, mode, vcpus, pages, guest, d, c),
     };
     let by = e.mode;
-    let count = put_answer(settings, by, e.tool.seq, id, seq, e.code, d, out, guest);
+    let count = reply::answer(out, settings, guest, by, e.tool.seq, id, seq, e.code, d);
     answered(s, e, count)
 }
 

@@ -49,8 +49,8 @@ enum-known-v-2 c = search needs
 apply-requires : tie.Need-apply-requires
 apply-requires c κs = search needs
 
-put-answer-requires : tie.Need-put-answer-requires
-put-answer-requires c κs = search needs
+answer-requires : tie.Need-answer-requires
+answer-requires c κs = search needs
 
 answered-requires : tie.Need-answered-requires
 answered-requires c κs = search needs
@@ -70,7 +70,7 @@ same-length-6 c = ⊎-elim (λ w. rw (w .6) (search needs)) (λ w. rw (w .15) (s
 returns-2 : tie.Need-returns-2
 returns-2 c =
     let f : SFits w32 (c .before .before .before .before .before .before .before .match .e .code) = search needs in
-    let w = rw (toZ-ofZ f) at (c .before .before .before .put-answer .ensures) in
+    let w = rw (toZ-ofZ f) at (c .before .before .before .answer .ensures) in
     let x = effect (c .before .before .before .before .before .before .before .before .before .before .before .before .before .before .before .before .before .before .before .args .s) (c .before .before .before .before .before .before .before .match .e) (c .before .before .before .before .before .before .before .match .vcpus) (c .before .before .before .before .before .before .before .match .pages) (c .before .before .before .before .before .before .before .match .guest) in
     answered-as (c .before .before .before .before .before .before .before .before .before .before .before .before .before .before .before .before .before .before .before .args .s) (c .before .before .before .before .before .before .before .match .e) _ _ _ _ _ _ _ _ _ _ w (c .answered .ensures)
     ∙ ⊎-elim
@@ -97,7 +97,7 @@ handle-spec =
     failing-requires
     enum-known-v-2
     apply-requires
-    put-answer-requires
+    answer-requires
     answered-requires
     same-length-3
     same-length-4
