@@ -21,7 +21,7 @@ use Rattle.kvmi.specs.Image.{vcpuOfRow, msrOfRow, pageOfRow, withRecord, vmForm
 use Rattle.laws.proofs.Bool.{and-l, and-r, length-snoc, test}
 use Rattle.laws.proofs.Bits.{on-put, on-put-other}
 use Rattle.laws.proofs.Record.{parse-next, kind-found}
-use Rattle.session.specs.State.{putBit64}
+use Rattle.store.specs.Words.{putBit64}
 use Rattle.image_reader.specs.Read.{readyLoaded}
 use Rattle.image_reader.specs.declared.Mark.{Mark}
 use Rattle.image_reader.specs.declared.Mark.the-variants.{Vm, Vc, Ms, Pa, En, Cut}

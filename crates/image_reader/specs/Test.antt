@@ -13,7 +13,7 @@ use Rattle.kvmi.specs.Row.{Row}
 use Rattle.kvmi.specs.Record.{Kind, VM, VC, MS, PA, EN, kindIn, kinds, widths, size, Rec, place, kindAt, parse}
 use Rattle.kvmi.specs.Tables.{Tables, isMsr}
 use Rattle.kvmi.specs.Image.{vcpuOfRow, pageOfRow, vmForm, vcForm, paForm, vmMay, vcMay, paMay, recordCount, Loaded, loaded, badForm, forbidden, loadRest}
-use Rattle.session.specs.State.{putBit64}
+use Rattle.store.specs.Words.{putBit64}
 use Rattle.image_reader.specs.Read.{readyLoaded}
 use Rattle.image_reader.specs.declared.Mark.{Mark}
 use Rattle.image_reader.specs.declared.Mark.the-variants.{Vm, Vc, Ms, Pa, En, Cut}

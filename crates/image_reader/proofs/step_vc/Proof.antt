@@ -1,7 +1,7 @@
 -- Each test by itself. Assumes nothing.
 use borrow.Author.Tests.{eq-eqb, ne-eqb, not-true, not-false}
 use Rattle.image_reader.specs.Test.{vcStep}
-use Rattle.session.specs.State.{putBit64}
+use Rattle.store.specs.Words.{putBit64}
 use borrow.Author.Needs.{needs}
 use Rattle.image_reader.proofs.step_vc.Statement.{statement}
 use Rattle.image_reader.proofs.step_vc.Tie as tie

@@ -1,8 +1,8 @@
 -- Two fields written. Assumes nothing.
-use Rattle.session.specs.Code.{endedWait}
+use Rattle.store.specs.Words.{endedWait}
 use borrow.Author.Needs.{needs}
-use Rattle.session.proofs.end_wait.Statement.{statement}
-use Rattle.session.proofs.end_wait.Tie as tie
+use Rattle.store.proofs.words.end_wait.Statement.{statement}
+use Rattle.store.proofs.words.end_wait.Tie as tie
 
 write-field-requires : tie.Need-write-field-requires
 write-field-requires c κs = search needs

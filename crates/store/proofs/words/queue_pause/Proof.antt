@@ -1,8 +1,8 @@
 -- The field read, and written one higher. Assumes nothing.
-use Rattle.session.specs.Code.{queuedPause}
+use Rattle.store.specs.Words.{queuedPause}
 use borrow.Author.Needs.{needs}
-use Rattle.session.proofs.queue_pause.Statement.{statement}
-use Rattle.session.proofs.queue_pause.Tie as tie
+use Rattle.store.proofs.words.queue_pause.Statement.{statement}
+use Rattle.store.proofs.words.queue_pause.Tie as tie
 
 read-field-requires : tie.Need-read-field-requires
 read-field-requires c κs = search needs

@@ -1,9 +1,8 @@
 -- The field read, and written with its bit. Assumes nothing.
-use Rattle.session.specs.Code.{switchedField}
-use Rattle.session.specs.State.{putBit64}
+use Rattle.store.specs.Words.{putBit64, switchedField}
 use borrow.Author.Needs.{needs}
-use Rattle.session.proofs.switch_field.Statement.{statement}
-use Rattle.session.proofs.switch_field.Tie as tie
+use Rattle.store.proofs.words.switch_field.Statement.{statement}
+use Rattle.store.proofs.words.switch_field.Tie as tie
 
 read-field-requires : tie.Need-read-field-requires
 read-field-requires c κs = search needs

@@ -1,8 +1,8 @@
 -- The field read, and written with its bit. Assumes nothing.
-use Rattle.session.specs.Code.{switchedCr}
+use Rattle.store.specs.Words.{switchedCr}
 use borrow.Author.Needs.{needs}
-use Rattle.session.proofs.switch_cr.Statement.{statement}
-use Rattle.session.proofs.switch_cr.Tie as tie
+use Rattle.store.proofs.words.switch_cr.Statement.{statement}
+use Rattle.store.proofs.words.switch_cr.Tie as tie
 
 read-field-requires : tie.Need-read-field-requires
 read-field-requires c κs = search needs
