@@ -1,7 +1,7 @@
 -- One record more of an accepted image: the words hold what the records before it state. Assumes nothing.
 use mathlib.Core.Path.{_≡_, refl, sym, _∙_}
 use mathlib.Core.Logic.{_⊎_, inl, inr, ⊎-elim}
-use Prim.Native.Nat.{ℕ, zero, suc, _+_, _-_, _%_, _^_, _≤_, _<_}
+use Prim.Native.Nat.{ℕ, zero, suc, _+_, _%_, _^_, _≤_, _<_}
 use native.Mathlib.Nat.{add-zero, zero-add, suc-add, add-suc}
 use native.Mathlib.Omega.{arith}
 use mathlib.Core.List.{List, [], _∷_, _++_}
@@ -20,13 +20,14 @@ use Rattle.kvmi.specs.declared.Signal.the-variants.{Quiet}
 use Rattle.kvmi.specs.Answer.{handled, plainAt}
 use Rattle.session.specs.State.{state}
 use Rattle.session.specs.Calls.{Told}
-use Rattle.image_reader.specs.declared.Outcome.the-variants.{Accepted, BadForm, Forbidden}
+use Rattle.image_step.specs.declared.Outcome.the-variants.{Accepted, BadForm, Forbidden}
 use Rattle.image_reader.specs.Read.{vcpuLoaded, vcpusLoaded, msrsLoaded, readyLoaded, pageWord, pagesLoaded, loadedState, toldRefused, toldLoaded}
-use Rattle.image_reader.specs.declared.Mark.{Mark}
-use Rattle.image_reader.specs.declared.Mark.the-variants.{Vm, Vc, Ms, Pa, En, Cut}
-use Rattle.image_reader.specs.Test.{markAt, rowAt, recordsAt, outcome}
+use Rattle.image_form.specs.declared.Mark.{Mark}
+use Rattle.image_form.specs.declared.Mark.the-variants.{Vm, Vc, Ms, Pa, En, Cut}
+use Rattle.image_form.specs.Form.{markAt, rowAt}
+use Rattle.image_form.proofs.Forms.{mark-cut, mark-room}
+use Rattle.image_reader.specs.Test.{recordsAt, outcome}
 use Rattle.image_reader.specs.Load.{sizeBy, pageBy, wordOf, vcpusBy, pagesBy, openedSession}
-use Rattle.image_reader.proofs.Tests.{mark-cut, mark-room}
 use Rattle.image_reader.proofs.Steps.{rest-whole, cut-none, first-none}
 
 -- ---- one element more

@@ -8,10 +8,10 @@ use Rattle.kvmi.specs.Image.{vcpuOfRow}
 use Rattle.kvmi.specs.declared.Settings.{Settings}
 use Rattle.session.specs.declared.Session.{Session}
 use Rattle.store.specs.Words.{setMsrBit}
+use Rattle.image_form.specs.Form.{rowAt}
 use Rattle.image_reader.specs.Read.{vcpuLoaded}
-use Rattle.image_reader.specs.Test.{rowAt}
-use Rattle.image_reader.specs.declared.Mark.{Mark}
-use Rattle.image_reader.specs.declared.Mark.the-variants.{Vm, Vc, Ms, Pa, En, Cut}
+use Rattle.image_form.specs.declared.Mark.{Mark}
+use Rattle.image_form.specs.declared.Mark.the-variants.{Vm, Vc, Ms, Pa, En, Cut}
 
 -- the bytes of a record that loads words
 abbrev pub sizeBy : Mark → ℕ

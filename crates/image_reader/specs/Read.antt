@@ -1,7 +1,7 @@
 -- The image reader as code performs it: an accepted image on cleared words, record by record; a refused one leaves every word as it was.
 use Prim.Native.Nat.{ℕ, suc, _+_, _*_, _^_}
 use mathlib.Core.List.{List, [], _∷_}
-use mathlib.Core.Bool.{Bool, true, cond}
+use mathlib.Core.Bool.{true, cond}
 use lib.ListN.{length, set}
 use Rattle.kvmi.specs.declared.Settings.{Settings}
 use Rattle.kvmi.specs.declared.Signal.the-variants.{Quiet}

@@ -1,7 +1,7 @@
 -- The image writer as code performs it, for any bits in the session: no more vCPUs are stated than there are blocks, and no more pages than words.
 use Prim.Native.Nat.{ℕ, min}
-use mathlib.Core.List.{List, [], _∷_}
-use mathlib.Core.Bool.{Bool, cond, not}
+use mathlib.Core.List.{List, []}
+use mathlib.Core.Bool.{cond, not}
 use lib.ListN.{length}
 use lib.Dec.{ltb, eqb}
 use Rattle.kvmi.specs.declared.Signal.the-variants.{Quiet}

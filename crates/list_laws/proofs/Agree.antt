@@ -25,8 +25,8 @@ use Rattle.kvmi.specs.Message.{layoutOf, sizeFits, namesVcpu, vcpuOf, enableAt,
 use Rattle.kvmi.specs.Verdict.{isInvalid, isUnready, isDenied, isUnsupported, isBusy, isAbsent, changeOf, losesErrors, commandVerdict, verdict}
 use Rattle.kvmi.specs.Reply.{messageBytes}
 use Rattle.kvmi.specs.Case.{registerData}
-use Rattle.store.specs.Words.{field, setField, CRS}
-use Rattle.session.specs.State.{State, putBit64, factsIn, change}
+use Rattle.store.specs.Words.{field, setField, putBit64, CRS}
+use Rattle.session.specs.State.{State, factsIn, change}
 use Rattle.session.specs.Calls.{Told, answering, judgedOf, headedOf, messageOf, readyOf}
 use Rattle.laws.proofs.Bool.{test}
 use Rattle.laws.proofs.Bits.{bit-eqb}

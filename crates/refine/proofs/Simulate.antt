@@ -40,10 +40,10 @@ use Rattle.kvmi.specs.Change.{Applied, applied, apply, signalOf, modeFor}
 use Rattle.kvmi.specs.Reply.{replyBytes, replyData, commandErrorEvent, pauseEvent, answerBytes, answerOf, answerSeq}
 use Rattle.kvmi.specs.Valid.{Valid}
 use Rattle.kvmi.specs.Call as model
-use Rattle.store.specs.Words.{field, setField, cleared, SINGLESTEP, PAUSES, AWAITED, AWAITED-SEQ}
+use Rattle.store.specs.Words.{field, setField, putBit64, cleared, SINGLESTEP, PAUSES, AWAITED, AWAITED-SEQ}
 use Rattle.store.specs.Meaning.{pagesOf, msrsOf, vcpusOf, vcpuOfWords, PagesGood}
 use Rattle.session.specs.declared.Session.{Session}
-use Rattle.session.specs.State.{State, state, freshSession, closedSession, clearedState, withReadyBits, withSeqOf, withField, modeOfNumber, putBit64, factsIn, Changed, changed, change}
+use Rattle.session.specs.State.{State, state, freshSession, closedSession, clearedState, withReadyBits, withSeqOf, withField, modeOfNumber, factsIn, Changed, changed, change}
 use Rattle.session.specs.Calls.{Told, toldSame, toldWritten, toldClosing, freshOf, answering, judgedOf, headedOf, messageOf, readyOf, pausingOf, enterOf}
 use Rattle.session.specs.Meaning.{awaitedIn, awaitedOf, tablesOf, modelOf, WordsGood, WellFormed}
 use Rattle.session.proofs.Kept.{change-keeps}

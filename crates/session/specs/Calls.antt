@@ -23,10 +23,10 @@ use Rattle.kvmi.specs.Message.{layoutOf, vcpuOf}
 use Rattle.kvmi.specs.Verdict.{verdict}
 use Rattle.kvmi.specs.Change.{signalOf, modeFor}
 use Rattle.kvmi.specs.Reply.{replyData, pauseEvent, answerOf, answerSeq}
-use Rattle.store.specs.Words.{field, PAUSES, AWAITED, AWAITED-SEQ}
+use Rattle.store.specs.Words.{field, putBit64, PAUSES, AWAITED, AWAITED-SEQ}
 use Rattle.session.specs.declared.Session.{Session}
 use Rattle.session.specs.declared.Done.{Done}
-use Rattle.session.specs.State.{State, state, freshSession, closedSession, clearedState, withReadyBits, withSeqOf, withField, modeOfNumber, putBit64, factsIn, Changed, change}
+use Rattle.session.specs.State.{State, state, freshSession, closedSession, clearedState, withReadyBits, withSeqOf, withField, modeOfNumber, factsIn, Changed, change}
 
 -- what a call gives and leaves
 pub record Told : Type 0 where

@@ -1,5 +1,5 @@
 -- What small parts of the code give.
-use Prim.Native.Nat.{ℕ, _+_, _%_, _^_}
+use Prim.Native.Nat.{ℕ}
 use mathlib.Core.List.{List, []}
 use mathlib.Core.Bool.{Bool, cond, not, _&&_}
 use lib.ListN.{length, drop}
@@ -10,20 +10,18 @@ use Rattle.kvmi.specs.declared.ReplyMode.{ReplyMode}
 use Rattle.kvmi.specs.declared.Signal.{Signal}
 use Rattle.kvmi.specs.declared.Signal.the-variants.{Quiet}
 use Rattle.kvmi.specs.declared.Change.{Change}
-use Rattle.kvmi.specs.Bits.{putBit}
 use Rattle.kvmi.specs.Codes.{OK, ENOMEM}
-use Rattle.kvmi.specs.Tables.{crBit}
 use Rattle.kvmi.specs.Message.{vcpuOf, entriesOf}
 use Rattle.kvmi.specs.Verdict.{verdict}
 use Rattle.kvmi.specs.Change.{pageLimit, signalOf, modeFor}
 use Rattle.kvmi.specs.Reply.{answerSeq}
-use Rattle.store.specs.Words.{field, setField, CRS, PAUSES, AWAITED, AWAITED-SEQ}
+use Rattle.store.specs.Words.{field, PAUSES, AWAITED}
 use Rattle.store.specs.PageWords.{PageTable, runEntries}
 use Rattle.session.specs.declared.Done.{Done}
 use Rattle.session.specs.declared.Effect.{Effect}
 use Rattle.session.specs.declared.Session.{Session}
 use Rattle.session.specs.declared.Tool.{Tool}
-use Rattle.session.specs.State.{State, state, putBit64, factsIn, Changed, change, withTool, withToolPages, withToolSeq}
+use Rattle.session.specs.State.{State, state, factsIn, Changed, change, withTool, withToolPages, withToolSeq}
 use Rattle.session.specs.Calls.{Told, toldSame, toldWritten, judgedOf, pausingOf}
 
 -- a change, and how it is answered
@@ -47,18 +45,6 @@ effect s r vcpus pages guest =
       mode = r .mode;
       signal = r .signal;
     }
-
-unfoldable pub queuedPause : List ℕ → ℕ → List ℕ
-queuedPause w vcpu = setField w vcpu PAUSES ((field w vcpu PAUSES + 1) % 2 ^ 64)
-
-unfoldable pub switchedField : List ℕ → ℕ → ℕ → ℕ → Bool → List ℕ
-switchedField w vcpu k bit on = setField w vcpu k (putBit64 (field w vcpu k) bit on)
-
-unfoldable pub switchedCr : List ℕ → ℕ → ℕ → Bool → List ℕ
-switchedCr w vcpu cr on = setField w vcpu CRS (putBit (field w vcpu CRS) (crBit cr) on)
-
-unfoldable pub endedWait : List ℕ → ℕ → List ℕ
-endedWait w vcpu = setField (setField w vcpu AWAITED 0) vcpu AWAITED-SEQ 0
 
 abbrev pub cleanEffect : Tool → ReplyMode → Signal → Effect
 cleanEffect t mode signal = record { tool = t; code = OK; mode = mode; signal = signal }

@@ -4,7 +4,7 @@ use mathlib.Core.List.{List}
 use mathlib.Core.Bool.{Bool, true, false, cond}
 use lib.IntN.{ℤ}
 use lib.ListN.{length, drop}
-use lib.Dec.{eqb, ltb}
+use lib.Dec.{eqb}
 use Rattle.wire.specs.Bytes.{store}
 use Rattle.kvmi.specs.declared.Settings.{Settings}
 use Rattle.kvmi.specs.declared.ReplyMode.{ReplyMode}
@@ -17,7 +17,7 @@ use Rattle.kvmi.specs.Codes.{OK, ENOMEM}
 use Rattle.kvmi.specs.Tables.{crBit}
 use Rattle.kvmi.specs.Message.{entriesOf}
 use Rattle.kvmi.specs.Change.{pageLimit}
-use Rattle.store.specs.Words.{field, setField, setMsrBit, cleared, SINGLESTEP, CRS, EVENTS, PAUSES, AWAITED, AWAITED-SEQ}
+use Rattle.store.specs.Words.{field, setField, setMsrBit, putBit64, cleared, SINGLESTEP, CRS, EVENTS, PAUSES, AWAITED, AWAITED-SEQ}
 use Rattle.store.specs.PageWords.{PageTable, runEntries}
 use Rattle.session.specs.declared.Tool.{Tool}
 use Rattle.session.specs.declared.Session.{Session}
@@ -84,10 +84,6 @@ abbrev pub numberOfMode : ReplyMode → ℕ
 numberOfMode On = 0
 numberOfMode Off = 1
 numberOfMode ErrorsOnly = 2
-
--- bit k of a 64-bit word as given; there is none past 63
-unfoldable pub putBit64 : ℕ → ℕ → Bool → ℕ
-putBit64 w k on = cond (ltb k 64) (putBit w k on) w
 
 -- what the tests of a message ask
 abbrev pub factsIn : State → ℕ → ℕ → Facts

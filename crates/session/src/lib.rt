@@ -19,9 +19,9 @@ ghost use Rattle.reply.specs.Written.{Written};
 ghost use Rattle.kvmi.specs.Settings.{inRange};
 ghost use Rattle.kvmi.specs.Verdict.{verdict};
 ghost use Rattle.store.specs.Words.{field, setField, PAUSES, AWAITED, AWAITED-SEQ};
-ghost use Rattle.session.specs.State.{state, freshSession, closedSession, withTool, withToolEvents, withToolMode, withToolSeq, withToolPages, withReadyBits, modeOfNumber, numberOfMode, putBit64, factsIn};
+ghost use Rattle.session.specs.State.{state, freshSession, closedSession, withTool, withToolEvents, withToolMode, withToolSeq, withToolPages, withReadyBits, modeOfNumber, numberOfMode, factsIn};
 ghost use Rattle.session.specs.Calls.{told, toldClosing, freshOf, judgedOf, messageOf, readyOf, pausingOf, enterOf};
-ghost use Rattle.session.specs.Code.{applied, effect, cleanEffect, codeEffect, queuedPause, switchedField, switchedCr, endedWait, pagesEffect, pagesSet, answeredBy, handledOf, enteredOf, countsFit};
+ghost use Rattle.session.specs.Code.{applied, effect, cleanEffect, codeEffect, pagesEffect, pagesSet, answeredBy, handledOf, enteredOf, countsFit};
 
 // What one introspection tool owns: unsigned integers only, so that any bits are a value. A flag is set where it is not 0.
 #[repr(C)]
@@ -188,41 +188,6 @@ fn facts_of(s: Session, vcpus: &[u64], guest: usize, vcpu: u16) -> Facts
     }
 }
 
-// One pause more in a vCPU's queue.
-fn queue_pause(vcpus: &mut [u64], vcpu: u16)
-    ensures { λ _. ⌜ now (vcpus .exit) ≡ queuedPause (now (vcpus .entry)) vcpu ⌝ }
-{
-    let queued = store::words::read_field(vcpus, vcpu, store::words::PAUSES);
-    let more = std::num::wrapping_add_u64(queued, 1);
-    store::words::write_field(vcpus, vcpu, store::words::PAUSES, more);
-}
-
-// One bit of a vCPU's field.
-fn switch_field(vcpus: &mut [u64], vcpu: u16, k: usize, bit: u32, on: bool)
-    ensures { λ _. ⌜ now (vcpus .exit) ≡ switchedField (now (vcpus .entry)) vcpu k bit on ⌝ }
-{
-    let was = store::words::read_field(vcpus, vcpu, k);
-    let is = store::bits::put_bit(was, bit, on);
-    store::words::write_field(vcpus, vcpu, k, is);
-}
-
-// One control register's switch of a vCPU.
-fn switch_cr(vcpus: &mut [u64], vcpu: u16, cr: u32, on: bool)
-    ensures { λ _. ⌜ now (vcpus .exit) ≡ switchedCr (now (vcpus .entry)) vcpu cr on ⌝ }
-{
-    let was = store::words::read_field(vcpus, vcpu, store::words::CRS);
-    let is = store::bits::put_cr(was, cr, on);
-    store::words::write_field(vcpus, vcpu, store::words::CRS, is);
-}
-
-// No reply awaited any more.
-fn end_wait(vcpus: &mut [u64], vcpu: u16)
-    ensures { λ _. ⌜ now (vcpus .exit) ≡ endedWait (now (vcpus .entry)) vcpu ⌝ }
-{
-    store::words::write_field(vcpus, vcpu, store::words::AWAITED, 0);
-    store::words::write_field(vcpus, vcpu, store::words::AWAITED_SEQ, 0);
-}
-
 // No error, and something for the host to do.
 fn signalling(tool: Tool, mode: ReplyMode, signal: Signal) -> Effect
     ensures { λ r. ⌜ r ≡ cleanEffect tool mode signal ⌝ }
@@ -315,15 +280,15 @@ fn apply(
             quiet(tool, mode)
         }
         Change::QueuePause { vcpu, wait } => {
-            queue_pause(vcpus, vcpu);
+            store::words::queue_pause(vcpus, vcpu);
             signalling(tool, mode, Signal::Kick { vcpu, wait })
         }
         Change::SetVcpuEvent { vcpu, event, on } => {
-            switch_field(vcpus, vcpu, store::words::EVENTS, event, on);
+            store::words::switch_field(vcpus, vcpu, store::words::EVENTS, event, on);
             quiet(tool, mode)
         }
         Change::SetCr { vcpu, cr, on } => {
-            switch_cr(vcpus, vcpu, cr, on);
+            store::words::switch_cr(vcpus, vcpu, cr, on);
             quiet(tool, mode)
         }
         Change::SetMsr { vcpu, msr, on } => {
@@ -344,7 +309,7 @@ fn apply(
             }
         }
         Change::EndWait { vcpu, crash } => {
-            end_wait(vcpus, vcpu);
+            store::words::end_wait(vcpus, vcpu);
             if crash {
                 signalling(tool, mode, Signal::Crash { vcpu })
             } else {

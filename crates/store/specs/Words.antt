@@ -1,11 +1,12 @@
 -- The vCPU words: 272 for each vCPU, 16 plain fields and then 256 words of MSR switches, a bit each. A word past the end reads as 0, and a
 -- store there changes nothing.
-use Prim.Native.Nat.{ℕ, _+_, _*_, _/_, _%_}
+use Prim.Native.Nat.{ℕ, _+_, _*_, _/_, _%_, _^_}
 use mathlib.Core.List.{List}
-use mathlib.Core.Bool.{Bool, _&&_}
+use mathlib.Core.Bool.{Bool, cond}
 use lib.ListN.{length, getD, set, replicate}
 use lib.Dec.{ltb}
 use Rattle.kvmi.specs.Bits.{isOn, putBit}
+use Rattle.kvmi.specs.Tables.{crBit}
 use Rattle.store.specs.declared.words.Pending.{Pending}
 
 abbrev pub blockWords : ℕ
@@ -58,6 +59,23 @@ msrBitOn w vcpu msr = isOn (getD w (msrWord vcpu msr) 0) (msrSlot msr % 64)
 unfoldable pub setMsrBit : List ℕ → ℕ → ℕ → Bool → List ℕ
 setMsrBit w vcpu msr on = set w (msrWord vcpu msr) (putBit (getD w (msrWord vcpu msr) 0) (msrSlot msr % 64) on)
 
--- all words 0
+-- bit k of a 64-bit word as given; there is none past 63
+unfoldable pub putBit64 : ℕ → ℕ → Bool → ℕ
+putBit64 w k on = cond (ltb k 64) (putBit w k on) w
+
+-- ---- what a command does to the plain fields of a vCPU
+unfoldable pub queuedPause : List ℕ → ℕ → List ℕ
+queuedPause w vcpu = setField w vcpu PAUSES ((field w vcpu PAUSES + 1) % 2 ^ 64)
+
+unfoldable pub switchedField : List ℕ → ℕ → ℕ → ℕ → Bool → List ℕ
+switchedField w vcpu k bit on = setField w vcpu k (putBit64 (field w vcpu k) bit on)
+
+unfoldable pub switchedCr : List ℕ → ℕ → ℕ → Bool → List ℕ
+switchedCr w vcpu cr on = setField w vcpu CRS (putBit (field w vcpu CRS) (crBit cr) on)
+
+unfoldable pub endedWait : List ℕ → ℕ → List ℕ
+endedWait w vcpu = setField (setField w vcpu AWAITED 0) vcpu AWAITED-SEQ 0
+
+-- ---- all words 0
 unfoldable pub cleared : List ℕ → List ℕ
 cleared w = replicate (length w) 0

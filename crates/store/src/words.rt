@@ -1,9 +1,10 @@
 // The vCPU words: a block for each vCPU, plain fields first and then a bit for each MSR switch.
 use crate::bits::bit_on;
 use crate::bits::put_bit;
+use crate::bits::put_cr;
 ghost use mathlib.Core.Path.{_≡_};
 ghost use lib.ListN.{getD, set};
-ghost use Rattle.store.specs.Words.{field, setField, pending, msrSlot, msrWord, msrBitOn, setMsrBit, cleared};
+ghost use Rattle.store.specs.Words.{field, setField, pending, msrSlot, msrWord, msrBitOn, setMsrBit, queuedPause, switchedField, switchedCr, endedWait, cleared};
 
 // How many words a vCPU has.
 pub const BLOCK_WORDS: usize = 272;
@@ -116,6 +117,41 @@ pub fn write_msr(words: &mut [u64], vcpu: u16, msr: u32, on: bool)
     let at = msr_word(vcpu, msr);
     let w = put_bit(word(words, at), msr_slot(msr) % 64, on);
     set_word(words, at, w);
+}
+
+// One pause more in a vCPU's queue.
+pub fn queue_pause(words: &mut [u64], vcpu: u16)
+    ensures { λ _. ⌜ now (words .exit) ≡ queuedPause (now (words .entry)) vcpu ⌝ }
+{
+    let queued = read_field(words, vcpu, PAUSES);
+    let more = std::num::wrapping_add_u64(queued, 1);
+    write_field(words, vcpu, PAUSES, more);
+}
+
+// One bit of a vCPU's field.
+pub fn switch_field(words: &mut [u64], vcpu: u16, k: usize, bit: u32, on: bool)
+    ensures { λ _. ⌜ now (words .exit) ≡ switchedField (now (words .entry)) vcpu k bit on ⌝ }
+{
+    let was = read_field(words, vcpu, k);
+    let is = put_bit(was, bit, on);
+    write_field(words, vcpu, k, is);
+}
+
+// One control register's switch of a vCPU.
+pub fn switch_cr(words: &mut [u64], vcpu: u16, cr: u32, on: bool)
+    ensures { λ _. ⌜ now (words .exit) ≡ switchedCr (now (words .entry)) vcpu cr on ⌝ }
+{
+    let was = read_field(words, vcpu, CRS);
+    let is = put_cr(was, cr, on);
+    write_field(words, vcpu, CRS, is);
+}
+
+// No reply awaited any more.
+pub fn end_wait(words: &mut [u64], vcpu: u16)
+    ensures { λ _. ⌜ now (words .exit) ≡ endedWait (now (words .entry)) vcpu ⌝ }
+{
+    write_field(words, vcpu, AWAITED, 0);
+    write_field(words, vcpu, AWAITED_SEQ, 0);
 }
 
 // Every word set to 0.

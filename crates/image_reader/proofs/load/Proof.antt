@@ -9,7 +9,7 @@ use lib.ListN.{length}
 use Rattle.kvmi.specs.declared.Settings.{Settings}
 use Rattle.kvmi.specs.Tables.{Tables}
 use Rattle.kvmi.specs.Image.{loadImage, loaded}
-use Rattle.image_reader.specs.Test.{markAt}
+use Rattle.image_form.specs.Form.{markAt}
 use Rattle.image_reader.proofs.Loads.{Loading, load-begins, load-ended, load-more, load-room, page-small, some-size}
 use Rattle.image_reader.proofs.load.Statement.{statement}
 use Rattle.image_reader.proofs.load.Tie as tie

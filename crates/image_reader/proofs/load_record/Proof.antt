@@ -3,7 +3,7 @@ use mathlib.Core.Path.{refl, sym, _∙_}
 use denote.Ref.{now}
 use Rattle.image_reader.specs.Load.{vcpusBy, pagesBy}
 use Rattle.kvmi.specs.Record.{VC, MS, PA}
-use Rattle.image_reader.proofs.Tests.{mark-room}
+use Rattle.image_form.proofs.Forms.{mark-room}
 use borrow.Author.Needs.{needs}
 use Rattle.image_reader.proofs.load_record.Statement.{statement}
 use Rattle.image_reader.proofs.load_record.Tie as tie

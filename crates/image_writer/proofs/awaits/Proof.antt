@@ -4,7 +4,7 @@ use Prim.Native.Nat.{_≤_, _-_}
 use native.Mathlib.Omega.{arith}
 use Rattle.kvmi.specs.Call.{awaitsAny}
 use Rattle.session.specs.Meaning.{awaitedOf}
-use Rattle.image_writer.proofs.Written.{awaits-here, awaits-next, awaits-none}
+use Rattle.image_writer.proofs.Call.{awaits-here, awaits-next, awaits-none}
 use borrow.Author.Needs.{needs}
 use Rattle.image_writer.proofs.awaits.Statement.{statement}
 use Rattle.image_writer.proofs.awaits.Tie as tie

@@ -1,39 +1,21 @@
--- The parts' lengths are the image's. Assumes nothing.
-use Prim.Native.Nat.{_*_}
-use native.Mathlib.Omega.{arith}
+-- The session's image is that of its words. Assumes nothing.
+use mathlib.Core.Path.{ap, _∙_}
+use lib.ListN.{length}
+use Rattle.kvmi.specs.Tables.{Tables}
+use Rattle.kvmi.specs.Image.{image}
 use Rattle.session.specs.State.{state}
-use Rattle.image_writer.proofs.Written.{from-bound, stated-length}
+use Rattle.image_writer.proofs.Call.{stated-same}
 use borrow.Author.Needs.{needs}
 use Rattle.image_writer.proofs.image_size.Statement.{statement}
 use Rattle.image_writer.proofs.image_size.Tie as tie
 
-stated-requires : tie.Need-stated-requires
-stated-requires c κs = search needs
-
-smaller-requires : tie.Need-smaller-requires
-smaller-requires c κs = search needs
-
-cast-count-on : tie.Need-cast-count-on
-cast-count-on c = search needs
-
-count-on-requires : tie.Need-count-on-requires
-count-on-requires c κs = search needs
-
-size-of-requires : tie.Need-size-of-requires
-size-of-requires c κs = let b = from-bound (c .before .before .before .before .before .args .vcpus .now) 0 (c .before .before .stated .result * 16384) in omega arith
+measure-requires : tie.Need-measure-requires
+measure-requires c κs = search needs
 
 returns : tie.Need-returns
 returns c =
-    let a = c .before .before .before .before .before .before .args in
-    stated-length (state (a .s) (a .vcpus .now) (a .pages .now)) _ _ (c .before .before .before .stated .ensures) (c .before .before .smaller .ensures) _ _ (c .before .count-on .ensures) (c .size-of .ensures)
+    let a = c .before .before .before .args in
+    c .measure .ensures (a .s .tool .events) (a .s .ready) ∙ ap (λ (t : Tables). length (image t)) (stated-same (state (a .s) (a .vcpus .now) (a .pages .now)))
 
 pub image-size-spec : {M : Type 1} → statement M
-image-size-spec =
-    tie.close
-    (tie.spec
-    stated-requires
-    smaller-requires
-    cast-count-on
-    count-on-requires
-    size-of-requires
-    returns)
+image-size-spec = tie.close (tie.spec measure-requires returns)

@@ -1,7 +1,8 @@
 -- Each change by itself. Assumes nothing.
 use mathlib.Core.Path.{ap}
-use Rattle.session.specs.State.{putBit64, change}
-use Rattle.session.specs.Code.{queuedPause, switchedField, switchedCr, endedWait, pagesSet, PagesChanged}
+use Rattle.session.specs.State.{change}
+use Rattle.session.specs.Code.{pagesSet, PagesChanged}
+use Rattle.store.specs.Words.{putBit64, queuedPause, switchedField, switchedCr, endedWait}
 use Rattle.session.proofs.Laws.{paged}
 use borrow.Author.Needs.{needs}
 use Rattle.session.proofs.apply.Statement.{statement}

@@ -1,7 +1,7 @@
 -- Each test by itself. Assumes nothing.
 use borrow.Author.Tests.{le-leb, lt-leb, eq-eqb, ne-eqb}
 use Rattle.session.specs.Calls.{readyOf}
-use Rattle.session.specs.State.{putBit64}
+use Rattle.store.specs.Words.{putBit64}
 use Rattle.wire.proofs.Laws.{store-none}
 use borrow.Author.Needs.{needs}
 use Rattle.session.proofs.Session.ready.Statement.{statement}

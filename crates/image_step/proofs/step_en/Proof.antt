@@ -1,0 +1,72 @@
+-- Each test by itself. Assumes nothing.
+use borrow.Author.Tests.{eq-eqb, ne-eqb, not-true, not-false}
+use Rattle.image_step.specs.Step.{enStep}
+use borrow.Author.Needs.{needs}
+use Rattle.image_step.proofs.step_en.Statement.{statement}
+use Rattle.image_step.proofs.step_en.Tie as tie
+
+add-next : tie.Need-add-next
+add-next c = search needs
+
+add-load32 : tie.Need-add-load32
+add-load32 c = search needs
+
+load32-requires : tie.Need-load32-requires
+load32-requires c κs = search needs
+
+is-after-requires : tie.Need-is-after-requires
+is-after-requires c κs = search needs
+
+refuse-requires : tie.Need-refuse-requires
+refuse-requires c κs = search needs
+
+returns : tie.Need-returns
+unfolding enStep
+returns c = rw (← c .before .before .before .load32 .ensures, ← c .before .before .is-after .ensures, not-true (c .before .before .is-after .result) (c .before .if1 .taken)) (c .refuse .ensures)
+
+refuse-requires-2 : tie.Need-refuse-requires-2
+refuse-requires-2 c κs = search needs
+
+returns-2 : tie.Need-returns-2
+unfolding enStep
+returns-2 c = rw (← c .before .before .before .before .before .before .load32 .ensures, ← c .before .before .before .before .before .is-after .ensures, not-false (c .before .before .before .before .before .is-after .result) (c .before .before .before .before .if1 .left), ne-eqb _ _ (c .before .if2 .taken)) (c .refuse2 .ensures)
+
+cast-if3 : tie.Need-cast-if3
+cast-if3 c = search needs
+
+refuse-requires-3 : tie.Need-refuse-requires-3
+refuse-requires-3 c κs = search needs
+
+returns-3 : tie.Need-returns-3
+unfolding enStep
+returns-3 c = rw (← c .before .before .before .before .before .before .before .load32 .ensures, ← c .before .before .before .before .before .before .is-after .ensures, not-false (c .before .before .before .before .before .before .is-after .result) (c .before .before .before .before .before .if1 .left), eq-eqb _ _ (c .before .before .if2 .left), ne-eqb _ _ (c .before .if3 .taken)) (c .refuse3 .ensures)
+
+refuse-requires-4 : tie.Need-refuse-requires-4
+refuse-requires-4 c κs = search needs
+
+returns-4 : tie.Need-returns-4
+unfolding enStep
+returns-4 c = rw (← c .before .before .before .before .before .before .before .before .load32 .ensures, ← c .before .before .before .before .before .before .before .is-after .ensures, not-false (c .before .before .before .before .before .before .before .is-after .result) (c .before .before .before .before .before .before .if1 .left), eq-eqb _ _ (c .before .before .before .if2 .left), eq-eqb _ _ (c .before .before .if3 .left), ne-eqb _ _ (c .before .if4 .taken)) (c .refuse4 .ensures)
+
+returns-5 : tie.Need-returns-5
+unfolding enStep
+returns-5 c = rw (← c .before .before .before .before .before .before .before .load32 .ensures, ← c .before .before .before .before .before .before .is-after .ensures, not-false (c .before .before .before .before .before .before .is-after .result) (c .before .before .before .before .before .if1 .left), eq-eqb _ _ (c .before .before .if2 .left), eq-eqb _ _ (c .before .if3 .left), eq-eqb _ _ (c .if4 .left))
+
+pub step-en-spec : {M : Type 1} → statement M
+step-en-spec =
+    tie.close
+    (tie.spec
+    add-next
+    add-load32
+    load32-requires
+    is-after-requires
+    refuse-requires
+    returns
+    refuse-requires-2
+    returns-2
+    cast-if3
+    refuse-requires-3
+    returns-3
+    refuse-requires-4
+    returns-4
+    returns-5)

@@ -1,0 +1,79 @@
+-- Each test by itself. Assumes nothing.
+use borrow.Author.Tests.{eq-eqb, ne-eqb, not-true, not-false}
+use Rattle.image_step.specs.Step.{msStep}
+use borrow.Author.Needs.{needs}
+use Rattle.image_step.proofs.step_ms.Statement.{statement}
+use Rattle.image_step.proofs.step_ms.Tie as tie
+
+add-next : tie.Need-add-next
+add-next c = search needs
+
+add-load16 : tie.Need-add-load16
+add-load16 c = search needs
+
+load16-requires : tie.Need-load16-requires
+load16-requires c κs = search needs
+
+add-load32 : tie.Need-add-load32
+add-load32 c = search needs
+
+load32-requires : tie.Need-load32-requires
+load32-requires c κs = search needs
+
+cast-is-after : tie.Need-cast-is-after
+cast-is-after c = search needs
+
+is-after-requires : tie.Need-is-after-requires
+is-after-requires c κs = search needs
+
+refuse-requires : tie.Need-refuse-requires
+refuse-requires c κs = search needs
+
+returns : tie.Need-returns
+unfolding msStep
+returns c = rw (← c .before .before .before .before .load16 .ensures, ← c .before .before .before .load32 .ensures, ← c .before .before .is-after .ensures, not-true (c .before .before .is-after .result) (c .before .if1 .taken)) (c .refuse .ensures)
+
+refuse-requires-2 : tie.Need-refuse-requires-2
+refuse-requires-2 c κs = search needs
+
+returns-2 : tie.Need-returns-2
+unfolding msStep
+returns-2 c = rw (← c .before .before .before .before .before .before .before .load16 .ensures, ← c .before .before .before .before .before .before .load32 .ensures, ← c .before .before .before .before .before .is-after .ensures, not-false (c .before .before .before .before .before .is-after .result) (c .before .before .before .before .if1 .left), ne-eqb _ _ (c .before .if2 .taken)) (c .refuse2 .ensures)
+
+ms-form-requires : tie.Need-ms-form-requires
+ms-form-requires c κs = search needs
+
+refuse-requires-3 : tie.Need-refuse-requires-3
+refuse-requires-3 c κs = search needs
+
+returns-3 : tie.Need-returns-3
+unfolding msStep
+returns-3 c = rw (← c .before .before .before .before .before .before .before .before .before .load16 .ensures, ← c .before .before .before .before .before .before .before .before .load32 .ensures, ← c .before .before .before .before .before .before .before .is-after .ensures, not-false (c .before .before .before .before .before .before .before .is-after .result) (c .before .before .before .before .before .before .if1 .left), eq-eqb _ _ (c .before .before .before .if2 .left), ← c .before .before .ms-form .ensures, not-true (c .before .before .ms-form .result) (c .before .if3 .taken)) (c .refuse3 .ensures)
+
+cast-t11 : tie.Need-cast-t11
+cast-t11 c = search needs
+
+returns-4 : tie.Need-returns-4
+unfolding msStep
+returns-4 c = rw (← c .before .before .before .before .before .before .before .before .load16 .ensures, ← c .before .before .before .before .before .before .before .load32 .ensures, ← c .before .before .before .before .before .before .is-after .ensures, not-false (c .before .before .before .before .before .before .is-after .result) (c .before .before .before .before .before .if1 .left), eq-eqb _ _ (c .before .before .if2 .left), ← c .before .ms-form .ensures, not-false (c .before .ms-form .result) (c .if3 .left))
+
+pub step-ms-spec : {M : Type 1} → statement M
+step-ms-spec =
+    tie.close
+    (tie.spec
+    add-next
+    add-load16
+    load16-requires
+    add-load32
+    load32-requires
+    cast-is-after
+    is-after-requires
+    refuse-requires
+    returns
+    refuse-requires-2
+    returns-2
+    ms-form-requires
+    refuse-requires-3
+    returns-3
+    cast-t11
+    returns-4)

@@ -1,0 +1,130 @@
+-- Each test by itself. Assumes nothing.
+use native.Mathlib.Omega.{arith}
+use borrow.Author.Tests.{eq-eqb, ne-eqb, not-true, not-false}
+use Rattle.store.specs.Words.{putBit64}
+use Rattle.image_step.specs.Step.{vcStep}
+use borrow.Author.Needs.{needs}
+use Rattle.image_step.proofs.step_vc.Statement.{statement}
+use Rattle.image_step.proofs.step_vc.Tie as tie
+
+add-next : tie.Need-add-next
+add-next c = search needs
+
+add-load16 : tie.Need-add-load16
+add-load16 c = search needs
+
+load16-requires : tie.Need-load16-requires
+load16-requires c κs = search needs
+
+add-byte : tie.Need-add-byte
+add-byte c = search needs
+
+byte-requires : tie.Need-byte-requires
+byte-requires c κs = search needs
+
+add-byte-2 : tie.Need-add-byte-2
+add-byte-2 c = search needs
+
+byte-requires-2 : tie.Need-byte-requires-2
+byte-requires-2 c κs = search needs
+
+add-load16-2 : tie.Need-add-load16-2
+add-load16-2 c = search needs
+
+load16-requires-2 : tie.Need-load16-requires-2
+load16-requires-2 c κs = search needs
+
+add-byte-3 : tie.Need-add-byte-3
+add-byte-3 c = search needs
+
+byte-requires-3 : tie.Need-byte-requires-3
+byte-requires-3 c κs = search needs
+
+add-byte-4 : tie.Need-add-byte-4
+add-byte-4 c = omega (arith, c .before .before .before .before .before .before .pre, c .before .before .before .before .before .before .good .1 .0 .0)
+
+byte-requires-4 : tie.Need-byte-requires-4
+byte-requires-4 c κs = search needs
+
+is-after-requires : tie.Need-is-after-requires
+is-after-requires c κs = search needs
+
+refuse-requires : tie.Need-refuse-requires
+refuse-requires c κs = search needs
+
+returns : tie.Need-returns
+unfolding vcStep
+returns c = rw (← c .before .before .before .before .before .before .before .before .load16 .ensures, ← c .before .before .is-after .ensures, not-true (c .before .before .is-after .result) (c .before .if1 .taken)) (c .refuse .ensures)
+
+cast-if2 : tie.Need-cast-if2
+cast-if2 c = search needs
+
+refuse-requires-2 : tie.Need-refuse-requires-2
+refuse-requires-2 c κs = search needs
+
+returns-2 : tie.Need-returns-2
+unfolding vcStep
+returns-2 c = rw (← c .before .before .before .before .before .before .before .before .before .before .load16 .ensures, ← c .before .before .before .before .is-after .ensures, not-false (c .before .before .before .before .is-after .result) (c .before .before .before .if1 .left), ne-eqb _ _ (c .before .if2 .taken)) (c .refuse2 .ensures)
+
+vc-form-requires : tie.Need-vc-form-requires
+vc-form-requires c κs = search needs
+
+refuse-requires-3 : tie.Need-refuse-requires-3
+refuse-requires-3 c κs = search needs
+
+returns-3 : tie.Need-returns-3
+unfolding vcStep
+returns-3 c = rw (← c .before .before .before .before .before .before .before .before .before .before .before .before .load16 .ensures, ← c .before .before .before .before .before .before .before .before .before .before .before .byte .ensures, ← c .before .before .before .before .before .before .before .before .before .before .byte2 .ensures, ← c .before .before .before .before .before .before .before .before .before .load162 .ensures, ← c .before .before .before .before .before .before .before .before .byte3 .ensures, ← c .before .before .before .before .before .before .before .byte4 .ensures, ← c .before .before .vc-form .ensures, ← c .before .before .before .before .before .before .is-after .ensures, not-false (c .before .before .before .before .before .before .is-after .result) (c .before .before .before .before .before .if1 .left), eq-eqb _ _ (c .before .before .before .if2 .left), not-true (c .before .before .vc-form .result) (c .before .if3 .taken)) (c .refuse3 .ensures)
+
+vc-may-requires : tie.Need-vc-may-requires
+vc-may-requires c κs = search needs
+
+forbid-requires : tie.Need-forbid-requires
+forbid-requires c κs = search needs
+
+returns-4 : tie.Need-returns-4
+unfolding vcStep
+returns-4 c = rw (← c .before .before .before .before .before .before .before .before .before .before .before .before .before .before .load16 .ensures, ← c .before .before .before .before .before .before .before .before .before .before .before .before .before .byte .ensures, ← c .before .before .before .before .before .before .before .before .before .before .before .before .byte2 .ensures, ← c .before .before .before .before .before .before .before .before .before .before .before .load162 .ensures, ← c .before .before .before .before .before .before .before .before .before .before .byte3 .ensures, ← c .before .before .before .before .before .before .before .before .before .byte4 .ensures, ← c .before .before .before .before .vc-form .ensures, ← c .before .before .vc-may .ensures (c .before .before .before .before .before .before .before .before .before .before .before .before .before .before .load16 .result) (c .before .before .before .before .before .before .before .before .before .before .before .before .byte2 .result) (c .before .before .before .before .before .before .before .before .before .byte4 .result), ← c .before .before .before .before .before .before .before .before .is-after .ensures, not-false (c .before .before .before .before .before .before .before .before .is-after .result) (c .before .before .before .before .before .before .before .if1 .left), eq-eqb _ _ (c .before .before .before .before .before .if2 .left), not-false (c .before .before .before .before .vc-form .result) (c .before .before .before .if3 .left), not-true (c .before .before .vc-may .result) (c .before .if4 .taken)) (c .forbid .ensures)
+
+add-t16 : tie.Need-add-t16
+add-t16 c = omega (arith, c .before .before .before .before .before .if2 .left)
+
+put-bit-requires : tie.Need-put-bit-requires
+put-bit-requires c κs = search needs
+
+returns-5 : tie.Need-returns-5
+unfolding vcStep putBit64
+returns-5 c = rw (← c .before .before .before .before .before .before .before .before .before .before .before .before .before .before .before .load16 .ensures, ← c .before .before .before .before .before .before .before .before .before .before .before .before .before .before .byte .ensures, ← c .before .before .before .before .before .before .before .before .before .before .before .before .before .byte2 .ensures, ← c .before .before .before .before .before .before .before .before .before .before .before .before .load162 .ensures, ← c .before .before .before .before .before .before .before .before .before .before .before .byte3 .ensures, ← c .before .before .before .before .before .before .before .before .before .before .byte4 .ensures, ← c .before .before .before .before .before .vc-form .ensures, ← c .before .before .before .vc-may .ensures (c .before .before .before .before .before .before .before .before .before .before .before .before .before .before .before .load16 .result) (c .before .before .before .before .before .before .before .before .before .before .before .before .before .byte2 .result) (c .before .before .before .before .before .before .before .before .before .before .byte4 .result), ← c .before .before .before .before .before .before .before .before .before .is-after .ensures, not-false (c .before .before .before .before .before .before .before .before .before .is-after .result) (c .before .before .before .before .before .before .before .before .if1 .left), eq-eqb _ _ (c .before .before .before .before .before .before .if2 .left), not-false (c .before .before .before .before .before .vc-form .result) (c .before .before .before .before .if3 .left), not-false (c .before .before .before .vc-may .result) (c .before .before .if4 .left), ← c .put-bit .ensures)
+
+pub step-vc-spec : {M : Type 1} → statement M
+step-vc-spec =
+    tie.close
+    (tie.spec
+    add-next
+    add-load16
+    load16-requires
+    add-byte
+    byte-requires
+    add-byte-2
+    byte-requires-2
+    add-load16-2
+    load16-requires-2
+    add-byte-3
+    byte-requires-3
+    add-byte-4
+    byte-requires-4
+    is-after-requires
+    refuse-requires
+    returns
+    cast-if2
+    refuse-requires-2
+    returns-2
+    vc-form-requires
+    refuse-requires-3
+    returns-3
+    vc-may-requires
+    forbid-requires
+    returns-4
+    add-t16
+    put-bit-requires
+    returns-5)

@@ -1,0 +1,67 @@
+-- Each test by itself. Assumes nothing.
+use borrow.Author.Tests.{eq-eqb, ne-eqb, not-true, not-false}
+use Rattle.image_step.specs.Step.{vmStep}
+use borrow.Author.Needs.{needs}
+use Rattle.image_step.proofs.step_vm.Statement.{statement}
+use Rattle.image_step.proofs.step_vm.Tie as tie
+
+load16-requires : tie.Need-load16-requires
+load16-requires c κs = search needs
+
+load16-requires-2 : tie.Need-load16-requires-2
+load16-requires-2 c κs = search needs
+
+load16-requires-3 : tie.Need-load16-requires-3
+load16-requires-3 c κs = search needs
+
+refuse-requires : tie.Need-refuse-requires
+refuse-requires c κs = search needs
+
+returns : tie.Need-returns
+unfolding vmStep
+returns c = rw (← c .before .before .load163 .ensures, ne-eqb _ _ (c .before .if1 .taken)) (c .refuse .ensures)
+
+vm-form-requires : tie.Need-vm-form-requires
+vm-form-requires c κs = search needs
+
+refuse-requires-2 : tie.Need-refuse-requires-2
+refuse-requires-2 c κs = search needs
+
+returns-2 : tie.Need-returns-2
+unfolding vmStep
+returns-2 c = rw (← c .before .before .before .before .load163 .ensures, ← c .before .before .before .before .before .before .load16 .ensures, ← c .before .before .before .before .before .load162 .ensures, eq-eqb _ _ (c .before .before .before .if1 .left), ← c .before .before .vm-form .ensures, not-true (c .before .before .vm-form .result) (c .before .if2 .taken)) (c .refuse2 .ensures)
+
+vm-may-requires : tie.Need-vm-may-requires
+vm-may-requires c κs = search needs
+
+forbid-requires : tie.Need-forbid-requires
+forbid-requires c κs = search needs
+
+returns-3 : tie.Need-returns-3
+unfolding vmStep
+returns-3 c = rw (← c .before .before .before .before .before .before .load163 .ensures, ← c .before .before .before .before .before .before .before .before .load16 .ensures, ← c .before .before .before .before .before .before .before .load162 .ensures, eq-eqb _ _ (c .before .before .before .before .before .if1 .left), ← c .before .before .before .before .vm-form .ensures, not-false (c .before .before .before .before .vm-form .result) (c .before .before .before .if2 .left), ← c .before .before .vm-may .ensures, not-true (c .before .before .vm-may .result) (c .before .if3 .taken)) (c .forbid .ensures)
+
+cast-t9 : tie.Need-cast-t9
+cast-t9 c = search needs
+
+returns-4 : tie.Need-returns-4
+unfolding vmStep
+returns-4 c = rw (← c .before .before .before .before .before .load163 .ensures, ← c .before .before .before .before .before .before .before .load16 .ensures, ← c .before .before .before .before .before .before .load162 .ensures, eq-eqb _ _ (c .before .before .before .before .if1 .left), ← c .before .before .before .vm-form .ensures, not-false (c .before .before .before .vm-form .result) (c .before .before .if2 .left), ← c .before .vm-may .ensures, not-false (c .before .vm-may .result) (c .if3 .left))
+
+pub step-vm-spec : {M : Type 1} → statement M
+step-vm-spec =
+    tie.close
+    (tie.spec
+    load16-requires
+    load16-requires-2
+    load16-requires-3
+    refuse-requires
+    returns
+    vm-form-requires
+    refuse-requires-2
+    returns-2
+    vm-may-requires
+    forbid-requires
+    returns-3
+    cast-t9
+    returns-4)

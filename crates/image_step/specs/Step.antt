@@ -1,0 +1,112 @@
+-- The test of one record as code performs it, with what it asks of the records before it.
+use Prim.Native.Nat.{ℕ, suc, _+_}
+use mathlib.Core.List.{List}
+use mathlib.Core.Bool.{Bool, true, false, _&&_}
+use lib.ListN.{length}
+use lib.Dec.{eqb, leb}
+use Rattle.kvmi.specs.declared.Settings.{Settings}
+use Rattle.kvmi.specs.Row.{Row}
+use Rattle.kvmi.specs.Record.{VM, VC, MS, PA, EN, widths, place}
+use Rattle.kvmi.specs.Image.{vcpuOfRow, pageOfRow, vmForm, vmMay, vcMay, paMay}
+use Rattle.store.specs.Words.{putBit64}
+use Rattle.image_form.specs.declared.Mark.{Mark}
+use Rattle.image_form.specs.declared.Mark.the-variants.{Vm, Vc, Ms, Pa, En, Cut}
+use Rattle.image_form.specs.Form.{markAt, rowAt, vcFits, msFits, paFits}
+use Rattle.image_step.specs.declared.Progress.{Progress}
+use Rattle.image_step.specs.declared.Outcome.the-variants.{Accepted, BadForm, Forbidden}
+use Rattle.image_step.specs.declared.Step.{Step}
+use Rattle.image_step.specs.declared.Step.the-variants.{Next, Stop}
+
+-- ---- a record judged
+abbrev pub judgeStep : Bool → Bool → ℕ → Progress → Step
+judgeStep true true off next = Next next
+judgeStep true false off next = Stop (Forbidden off)
+judgeStep false may off next = Stop (BadForm off)
+
+-- a place comes after that of the last record
+unfoldable pub isAfter : Progress → ℕ → ℕ → ℕ → Bool
+isAfter p kind major minor = leb (suc (place (p .kind) (p .major) (p .minor))) (place kind major minor)
+
+abbrev pub firstProgress : ℕ → Progress
+firstProgress events =
+    record { at = 8; kind = 0; major = 0; minor = 0; events = events; count = 0; ready = 0; pages = 0 }
+
+abbrev pub pastVc : Progress → Row (widths VC) → Progress
+pastVc p f =
+    record {
+      at = p .at + 10;
+      kind = 1;
+      major = f .0;
+      minor = 0;
+      events = p .events;
+      count = p .count + 1;
+      ready = putBit64 (p .ready) (p .count) (vcpuOfRow f .ready);
+      pages = p .pages;
+    }
+
+abbrev pub pastMs : Progress → Row (widths MS) → Progress
+pastMs p f =
+    record {
+      at = p .at + 8;
+      kind = 2;
+      major = f .0;
+      minor = f .1 .0;
+      events = p .events;
+      count = p .count;
+      ready = p .ready;
+      pages = p .pages;
+    }
+
+abbrev pub pastPa : Progress → Row (widths PA) → Progress
+pastPa p f =
+    record {
+      at = p .at + 14;
+      kind = 3;
+      major = f .0;
+      minor = f .1 .1 .1 .0;
+      events = p .events;
+      count = p .count;
+      ready = p .ready;
+      pages = p .pages + 1;
+    }
+
+-- each kind of record, its numbers given
+unfoldable pub vmStep : Settings → Row (widths VM) → Step
+vmStep s f = judgeStep (eqb (f .0) 1 && vmForm (f .1 .0) (f .1 .1 .0)) (vmMay s (f .1 .0) (f .1 .1 .0)) 0 (firstProgress (f .1 .1 .0))
+
+unfoldable pub vcStep : Settings → Progress → Row (widths VC) → Step
+vcStep s p f = judgeStep (isAfter p 1 (f .0) 0 && eqb (f .0) (p .count) && vcFits s f) (vcMay s (vcpuOfRow f)) (p .at) (pastVc p f)
+
+unfoldable pub msStep : Settings → Progress → Row (widths MS) → Step
+msStep s p f = judgeStep (isAfter p 2 (f .0) (f .1 .0) && eqb (p .count) (s .vcpus) && msFits (p .count) (p .ready) f) true (p .at) (pastMs p f)
+
+unfoldable pub paStep : Settings → Progress → Row (widths PA) → Step
+paStep s p f = judgeStep (isAfter p 3 (f .0) (f .1 .1 .1 .0) && eqb (p .count) (s .vcpus) && paFits (p .pages) f) (paMay s (pageOfRow f)) (p .at) (pastPa p f)
+
+-- EN behind so many records, and then nothing
+abbrev pub endStep : Bool → Bool → Progress → Step
+endStep true true p = Stop (Accepted (p .events) (p .pages) (p .ready))
+endStep true false p = Stop (BadForm (p .at + 6))
+endStep false last p = Stop (BadForm (p .at))
+
+unfoldable pub enStep : Settings → ℕ → Progress → ℕ → Row (widths EN) → Step
+enStep s n p records f = endStep (isAfter p 4 0 0 && eqb (p .count) (s .vcpus) && eqb (f .0) records) (eqb n (p .at + 6)) p
+
+unfoldable pub stepBy : Settings → List ℕ → Progress → ℕ → Mark → Step
+stepBy s l p records Vm = Stop (BadForm (p .at))
+stepBy s l p records Vc = vcStep s p (rowAt VC l (p .at))
+stepBy s l p records Ms = msStep s p (rowAt MS l (p .at))
+stepBy s l p records Pa = paStep s p (rowAt PA l (p .at))
+stepBy s l p records En = enStep s (length l) p records (rowAt EN l (p .at))
+stepBy s l p records Cut = Stop (BadForm (p .at))
+
+unfoldable pub stepOf : Settings → List ℕ → Progress → ℕ → Step
+stepOf s l p records = stepBy s l p records (markAt l (p .at))
+
+unfoldable pub firstBy : Settings → List ℕ → Mark → Step
+firstBy s l Vm = vmStep s (rowAt VM l 0)
+firstBy s l Vc = Stop (BadForm 0)
+firstBy s l Ms = Stop (BadForm 0)
+firstBy s l Pa = Stop (BadForm 0)
+firstBy s l En = Stop (BadForm 0)
+firstBy s l Cut = Stop (BadForm 0)
