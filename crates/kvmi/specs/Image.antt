@@ -7,7 +7,7 @@ use lib.Dec.{eqb, leb, ltb}
 use Rattle.kvmi.specs.declared.Settings.{Settings}
 use Rattle.kvmi.specs.Limits.{pageLimit, pauseLimit}
 use Rattle.kvmi.specs.Bits.{bit, bitsHave, among}
-use Rattle.kvmi.specs.Settings.{allowsEvent, canSinglestep, uncatchable, taken}
+use Rattle.kvmi.specs.Settings.{allowsEvent, canSinglestep, uncatchable, heldByHost}
 use Rattle.kvmi.specs.Row.{Row}
 use Rattle.kvmi.specs.Record.{Kind, VM, VC, MS, PA, EN, widths, size, vmVersion, vmCount, vmEvents, vcVcpu, vcFlags, vcCrs, vcEvents, vcPauses, vcZero, msVcpu, msMsr, paView, paAccess, paZero, paPage, enCount, Rec, whole, cut, orderOf, writeAll, parse}
 use Rattle.kvmi.specs.Tables.{Vcpu, Msr, Page, Tables, resting, isMsr, withVcpus, withMsrs, withPages}
@@ -129,7 +129,7 @@ vmMay s n events = eqb n (s .vcpus) && bitsHave (allowsEvent s) 0 16 events
 
 -- an event that the settings let be on
 unfoldable pub mayEnable : Settings → ℕ → Bool
-mayEnable s event = allowsEvent s event && not (taken s event) && not (uncatchable s event)
+mayEnable s event = allowsEvent s event && not (heldByHost s event) && not (uncatchable s event)
 
 -- "event not allowed, pauses without event 2 allowed, event 4 held by the host, event 8 or singlestep not supported"
 unfoldable pub vcMay : Settings → Vcpu → Bool

@@ -84,8 +84,8 @@ unfoldable pub enables : ℕ → List ℕ → Bool
 enables id d = eqb (getD d (enableAt id) 0) 1
 
 -- the places of the bytes that are 0 or 1: enable; wait; now and flags
-unfoldable pub flagsAt : ℕ → List ℕ
-flagsAt id = cond (among id (5 ∷ 9 ∷ 10 ∷ 11 ∷ 12 ∷ 14 ∷ [])) (enableAt id ∷ []) (cond (eqb id 15) (0 ∷ 1 ∷ 2 ∷ []) [])
+unfoldable pub switchesAt : ℕ → List ℕ
+switchesAt id = cond (among id (5 ∷ 9 ∷ 10 ∷ 11 ∷ 12 ∷ 14 ∷ [])) (enableAt id ∷ []) (cond (eqb id 15) (0 ∷ 1 ∷ 2 ∷ []) [])
 
 -- message 15: enable u8, now u8, flags u8, then padding; "flag bit 0" is the only one, since "response flags above 1" are -22
 abbrev pub isNow : List ℕ → Bool

@@ -31,5 +31,5 @@ unfoldable pub uncatchable : Settings → ℕ → Bool
 uncatchable s event = eqb event 8 && not (isSet (s .descriptors))
 
 -- "enabling event 4 while the host has it"
-unfoldable pub taken : Settings → ℕ → Bool
-taken s event = eqb event 4 && isSet (s .breakpoints)
+unfoldable pub heldByHost : Settings → ℕ → Bool
+heldByHost s event = eqb event 4 && isSet (s .breakpoints)

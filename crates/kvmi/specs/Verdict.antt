@@ -17,10 +17,10 @@ use Rattle.kvmi.specs.declared.Verdict.the-variants.{Closes, Fails, Does
 use Rattle.kvmi.specs.Limits.{pauseLimit}
 use Rattle.kvmi.specs.Bits.{among, every}
 use Rattle.kvmi.specs.Codes.{EPERM, ENOENT, EAGAIN, EBUSY, EINVAL, EOPNOTSUPP, ENOSYS}
-use Rattle.kvmi.specs.Settings.{allowsCommand, allowsEvent, canSinglestep, uncatchable, taken}
+use Rattle.kvmi.specs.Settings.{allowsCommand, allowsEvent, canSinglestep, uncatchable, heldByHost}
 use Rattle.kvmi.specs.Tables.{isCr, isMsr, vcpuAt}
 use Rattle.kvmi.specs.Model.{Awaited, Model, awaitedBy}
-use Rattle.kvmi.specs.Message.{layoutOf, sizeFits, carriesData, namesVcpu, vcpuOf, commandOf, enables, isNow, hasFlag, actionOf, repliedEvent, flagsAt, eventOf, registerOf, gpaOf, sizeOf, countOf, countFits, viewOf, Entry, entriesOf, firstPadding, takesEvent}
+use Rattle.kvmi.specs.Message.{layoutOf, sizeFits, carriesData, namesVcpu, vcpuOf, commandOf, enables, isNow, hasFlag, actionOf, repliedEvent, switchesAt, eventOf, registerOf, gpaOf, sizeOf, countOf, countFits, viewOf, Entry, entriesOf, firstPadding, takesEvent}
 
 -- the event that a vCPU awaits a reply to, 0 for none, and its seq
 abbrev pub awaitedEvent : Option Awaited → ℕ
@@ -64,7 +64,7 @@ unfoldable pub isInvalid : Settings → ℕ → List ℕ → Bool
 isInvalid s id d =
     not (eqb (firstPadding id d) 0)
     || namesVcpu id && leb (s .vcpus) (vcpuOf d)
-    || not (every (λ at. leb (getD d at 0) 1) (flagsAt id))
+    || not (every (λ at. leb (getD d at 0) 1) (switchesAt id))
     || among id (3 ∷ 5 ∷ 10 ∷ []) && not (takesEvent id (eventOf id d))
     || eqb id 2 && not (leb 1 (commandOf d) && leb (commandOf d) 15)
     || eqb id 11 && not (isCr (registerOf d))
@@ -87,7 +87,7 @@ isUnsupported s id d = eqb id 14 && not (canSinglestep s) || eqb id 10 && enable
 
 -- -16 EBUSY
 unfoldable pub isBusy : Settings → Facts → ℕ → List ℕ → Bool
-isBusy s f id d = eqb id 10 && enables id d && taken s (eventOf id d) || eqb id 9 && leb pauseLimit (f .pauses)
+isBusy s f id d = eqb id 10 && enables id d && heldByHost s (eventOf id d) || eqb id 9 && leb pauseLimit (f .pauses)
 
 -- "a page (4,096 bytes) exists if it lies wholly inside"
 unfoldable pub pageExists : ℕ → ℕ → Bool

@@ -20,14 +20,15 @@ use Rattle.kvmi.specs.declared.Change.the-variants.{Nothing, SetVmEvent, WriteP
 use Rattle.kvmi.specs.declared.Verdict.{Verdict}
 use Rattle.kvmi.specs.declared.Verdict.the-variants.{Closes, Fails, Does}
 use Rattle.kvmi.specs.Bits.{every, among, putBit, bitsHave}
-use Rattle.kvmi.specs.Settings.{inRange, allowsEvent, canSinglestep, uncatchable, taken}
+use Rattle.kvmi.specs.Settings.{inRange, allowsEvent, canSinglestep, uncatchable, heldByHost}
 use Rattle.kvmi.specs.Table.{rising, has, put, forget}
 use Rattle.kvmi.specs.Tables.{Vcpu, Msr, Page, Tables, msrKey, pageKey, resting, vcpuAt, setVcpu, withVmEvents, withMsrs, withPages, withReady, withPauses, withEvents, withCrs, withSinglestep, isMsr}
 use Rattle.kvmi.specs.Model.{Model, fresh, begun, onVcpu, awaitedBy, isSome}
 use Rattle.kvmi.specs.Message.{namesVcpu, vcpuOf, enables, eventOf, registerOf, countOf, countFits, viewOf, Entry, entryOf, entriesOf, isVmEvent, isVcpuEvent, takesEvent}
 use Rattle.kvmi.specs.declared.Facts.{Facts}
 use Rattle.kvmi.specs.Verdict.{factsOf, isAccess, isInvalid, isUnready, isDenied, isUnsupported, isBusy, changeOf, modeOf, verdict}
-use Rattle.kvmi.specs.Change.{Run, pageOf, pageLimit, isSkipped, setPage, takeEntry, takeEntries, setMsr, Applied, apply}
+use Rattle.kvmi.specs.Limits.{pageLimit}
+use Rattle.kvmi.specs.Change.{Run, pageOf, isSkipped, setPage, takeEntry, takeEntries, setMsr, Applied, apply}
 use Rattle.kvmi.specs.Image.{vmForm, msForm, paForm, vmMay, mayEnable, paMay, image, Loaded, loaded, loadImage}
 use Rattle.kvmi.specs.Call.{Began, anew, fromImage, Call, message, ready, enter, writeImage, Step, answering, judged, headed, messageStep, readyStep, pausing, enterStep, awaitsAny, imageStep, step, move, after}
 use Rattle.laws.proofs.Bool.{and-l, and-r, and-i, or-l, or-r, either, test, clash, every-head, every-tail, every-and}
@@ -197,7 +198,7 @@ module _ (s : Settings) (ok : So (inRange s)) (m : Model) (a : Valid s (m .table
       let event = eventOf 10 d in
       let r = is-ready 10 refl (p .ready) in
       let may : enables 10 d ≡ true → So (mayEnable s event)
-      = λ on. and-i _ _ (and-i _ _ (event-allowed 10 refl (p .allowed)) (ap not (and-false (enables 10 d) (taken s event) (or-false-l _ false (p .free)) on)))
+      = λ on. and-i _ _ (and-i _ _ (event-allowed 10 refl (p .allowed)) (ap not (and-false (enables 10 d) (heldByHost s event) (or-false-l _ false (p .free)) on)))
       (ap not (and-false (enables 10 d) (uncatchable s event) (p .supported) on)) in
       vcpu-fine _ (event-good s (vcpuAt (m .tables) (vcpuOf d)) event (enables 10 d) r (event-taken 10 refl (p .valid)) may own-good) r
 

@@ -19,7 +19,7 @@ use Rattle.kvmi.specs.Bits.{among, every}
 use Rattle.kvmi.specs.Codes.{isError, EPERM, ENOENT, EAGAIN, EBUSY, EINVAL, EOPNOTSUPP, ENOSYS}
 use Rattle.kvmi.specs.Settings.{allowsCommand, allowsEvent}
 use Rattle.kvmi.specs.Tables.{isCr, isMsr}
-use Rattle.kvmi.specs.Message.{layoutOf, sizeFits, carriesData, namesVcpu, vcpuOf, flagsAt, eventOf, registerOf, gpaOf, sizeOf, countOf, countFits, viewOf, Entry, entriesOf, firstPadding, takesEvent}
+use Rattle.kvmi.specs.Message.{layoutOf, sizeFits, carriesData, namesVcpu, vcpuOf, switchesAt, eventOf, registerOf, gpaOf, sizeOf, countOf, countFits, viewOf, Entry, entriesOf, firstPadding, takesEvent}
 use Rattle.kvmi.specs.declared.Facts.{Facts}
 use Rattle.kvmi.specs.Verdict.{repliesOn, isAccess, inOnePage, isInvalid, isUnready, isDenied, isUnsupported, isBusy, isAbsent, changeOf, losesErrors, commandVerdict, isAwaited, eventReplyVerdict, refuse, verdict}
 
@@ -88,7 +88,7 @@ verdict-cases P s f id seq d closes fails does ends =
 pub record Sound (s : Settings) (id : ℕ) (d : List ℕ) : Type 0 where
   pub padding : not (eqb (firstPadding id d) 0) ≡ false
   pub vcpu : (namesVcpu id && leb (s .vcpus) (vcpuOf d)) ≡ false
-  pub flags : not (every (λ at. leb (getD d at 0) 1) (flagsAt id)) ≡ false
+  pub flags : not (every (λ at. leb (getD d at 0) 1) (switchesAt id)) ≡ false
   pub event : (among id (3 ∷ 5 ∷ 10 ∷ []) && not (takesEvent id (eventOf id d))) ≡ false
   pub command : (eqb id 2 && not (leb 1 (load 2 d 0) && leb (load 2 d 0) 15)) ≡ false
   pub cr : (eqb id 11 && not (isCr (registerOf d))) ≡ false

@@ -21,7 +21,7 @@ use Rattle.kvmi.specs.Bits.{bit, isOn, putBit, every}
 use Rattle.kvmi.specs.Codes.{EAGAIN, EINVAL}
 use Rattle.kvmi.specs.Settings.{inRange, allowsCommand}
 use Rattle.kvmi.specs.Tables.{isCr, crBit}
-use Rattle.kvmi.specs.Message.{layoutOf, sizeFits, namesVcpu, vcpuOf, enableAt, enables, flagsAt, registerOf, padding, firstNonZero, firstOfRuns, firstPadding}
+use Rattle.kvmi.specs.Message.{layoutOf, sizeFits, namesVcpu, vcpuOf, enableAt, enables, switchesAt, registerOf, padding, firstNonZero, firstOfRuns, firstPadding}
 use Rattle.kvmi.specs.Verdict.{isInvalid, isUnready, isDenied, isUnsupported, isBusy, isAbsent, changeOf, losesErrors, commandVerdict, verdict}
 use Rattle.kvmi.specs.Reply.{messageBytes}
 use Rattle.kvmi.specs.Case.{registerData}
@@ -95,8 +95,8 @@ module _ (vcpu cr : ℕ) (on : Bool) (v : vcpu < 2 ^ 16) (c : cr < 2 ^ 32) where
   unfolding firstPadding padding firstOfRuns firstNonZero le
   clean = refl
 
-  flags : every (λ at. leb (getD d at 0) 1) (flagsAt 11) ≡ true
-  unfolding flagsAt enableAt le
+  flags : every (λ at. leb (getD d at 0) 1) (switchesAt 11) ≡ true
+  unfolding switchesAt enableAt le
   flags = small on
     where
       small : (b : Bool) → (leb (bit b) 1 && true) ≡ true

@@ -21,7 +21,8 @@ use Rattle.kvmi.specs.Tables.{Vcpu, Msr, Tables, vcpuAt, setVcpu, withCrs, with
 use Rattle.kvmi.specs.Model.{Awaited, Model, withTables, onVcpu, setAwaited}
 use Rattle.kvmi.specs.Message.{Entry, entriesOf, isVmEvent, isVcpuEvent}
 use Rattle.kvmi.specs.Verdict.{isAccess}
-use Rattle.kvmi.specs.Change.{Run, pageLimit, takeEntries, setMsr, Applied, applied, apply}
+use Rattle.kvmi.specs.Limits.{pageLimit}
+use Rattle.kvmi.specs.Change.{Run, takeEntries, setMsr, Applied, applied, apply}
 use Rattle.store.specs.Words.{field, setField, setMsrBit, putBit64, SINGLESTEP, CRS, EVENTS, PAUSES, AWAITED, AWAITED-SEQ}
 use Rattle.store.specs.PageWords.{PageTable, runEntries}
 use Rattle.store.specs.Meaning.{pagesOf, msrsOf, vcpusOf, vcpuOfWords}

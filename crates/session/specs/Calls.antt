@@ -17,6 +17,7 @@ use Rattle.kvmi.specs.declared.Change.{Change}
 use Rattle.kvmi.specs.declared.Verdict.{Verdict}
 use Rattle.kvmi.specs.declared.Verdict.the-variants.{Closes, Fails, Does}
 use Rattle.kvmi.specs.Answer.{Paper, paper, handled, plain}
+use Rattle.kvmi.specs.Limits.{leastOut, eventOut, stateBytes}
 use Rattle.kvmi.specs.Settings.{inRange}
 use Rattle.kvmi.specs.Model.{nextSeq}
 use Rattle.kvmi.specs.Message.{layoutOf, vcpuOf}
@@ -78,7 +79,7 @@ headedOf st d out guest (Whole id size seq) =
 unfoldable pub messageOf : State → List ℕ → List ℕ → List ℕ → Told
 messageOf st msg out guest =
     cond (not (eqb (st .session .tool .closed) 0)) (toldSame 2 st out guest)
-    (cond (ltb (length out) 4112) (toldSame 3 st out guest)
+    (cond (ltb (length out) leastOut) (toldSame 3 st out guest)
     (headedOf st (drop 8 msg) out guest (headerOf msg)))
 
 -- ---- a ready mark
@@ -102,7 +103,7 @@ unfoldable pub enterOf : State → ℕ → List ℕ → List ℕ → Told
 enterOf st vcpu block out =
     cond (not (eqb (st .session .tool .closed) 0)) (toldSame 2 st out [])
     (cond (leb (st .session .settings .vcpus) vcpu) (toldSame 4 st out [])
-    (cond (not (eqb (length block) 536)) (toldSame 5 st out [])
-    (cond (ltb (length out) 552) (toldSame 3 st out [])
+    (cond (not (eqb (length block) stateBytes)) (toldSame 5 st out [])
+    (cond (ltb (length out) eventOut) (toldSame 3 st out [])
     (cond (not (eqb (field (st .vcpus) vcpu AWAITED) 0)) (toldSame 6 st out [])
     (cond (leb 1 (field (st .vcpus) vcpu PAUSES)) (pausingOf st vcpu block out) (toldWritten [] Quiet st out []))))))

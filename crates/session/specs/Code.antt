@@ -13,7 +13,8 @@ use Rattle.kvmi.specs.declared.Change.{Change}
 use Rattle.kvmi.specs.Codes.{OK, ENOMEM}
 use Rattle.kvmi.specs.Message.{vcpuOf, entriesOf}
 use Rattle.kvmi.specs.Verdict.{verdict}
-use Rattle.kvmi.specs.Change.{pageLimit, signalOf, modeFor}
+use Rattle.kvmi.specs.Limits.{pageLimit}
+use Rattle.kvmi.specs.Change.{signalOf, modeFor}
 use Rattle.kvmi.specs.Reply.{answerSeq}
 use Rattle.store.specs.Words.{field, PAUSES, AWAITED}
 use Rattle.store.specs.PageWords.{PageTable, runEntries}

@@ -16,7 +16,7 @@ use Rattle.kvmi.specs.Bits.{bit, isOn, putBit}
 use Rattle.kvmi.specs.Codes.{OK, ENOMEM}
 use Rattle.kvmi.specs.Tables.{crBit}
 use Rattle.kvmi.specs.Message.{entriesOf}
-use Rattle.kvmi.specs.Change.{pageLimit}
+use Rattle.kvmi.specs.Limits.{pageLimit}
 use Rattle.store.specs.Words.{field, setField, setMsrBit, putBit64, cleared, SINGLESTEP, CRS, EVENTS, PAUSES, AWAITED, AWAITED-SEQ}
 use Rattle.store.specs.PageWords.{PageTable, runEntries}
 use Rattle.session.specs.declared.Tool.{Tool}

@@ -9,6 +9,7 @@ use Rattle.kvmi.specs.Bits.{isOn, putBit}
 use Rattle.kvmi.specs.Tables.{crBit}
 use Rattle.store.specs.declared.words.Pending.{Pending}
 
+-- how many words a vCPU has
 abbrev pub blockWords : ℕ
 blockWords = 272
 
@@ -36,26 +37,31 @@ AWAITED-SEQ = 5
 abbrev pub MSRS : ℕ
 MSRS = 16
 
+-- field k of a vCPU
 unfoldable pub field : List ℕ → ℕ → ℕ → ℕ
-field w vcpu k = getD w (vcpu * 272 + k) 0
+field w vcpu k = getD w (vcpu * blockWords + k) 0
 
 -- the fields that the tests of a message ask
 abbrev pub pending : List ℕ → ℕ → Pending
 pending w vcpu = record { pauses = field w vcpu PAUSES; awaited = field w vcpu AWAITED; seq = field w vcpu AWAITED-SEQ }
 
+-- field k of a vCPU set
 unfoldable pub setField : List ℕ → ℕ → ℕ → ℕ → List ℕ
-setField w vcpu k x = set w (vcpu * 272 + k) x
+setField w vcpu k x = set w (vcpu * blockWords + k) x
 
 -- the place of an MSR's switch among the 16,384 of a vCPU: 0..0x1FFF first, then 0xC0000000..0xC0001FFF
 unfoldable pub msrSlot : ℕ → ℕ
 msrSlot msr = msr / 0xC0000000 * 8192 + msr % 8192
 
+-- the place of the word with an MSR's switch
 unfoldable pub msrWord : ℕ → ℕ → ℕ
-msrWord vcpu msr = vcpu * 272 + 16 + msrSlot msr / 64
+msrWord vcpu msr = vcpu * blockWords + MSRS + msrSlot msr / 64
 
+-- whether a vCPU's switch for an MSR is on
 unfoldable pub msrBitOn : List ℕ → ℕ → ℕ → Bool
 msrBitOn w vcpu msr = isOn (getD w (msrWord vcpu msr) 0) (msrSlot msr % 64)
 
+-- a vCPU's switch for an MSR as given
 unfoldable pub setMsrBit : List ℕ → ℕ → ℕ → Bool → List ℕ
 setMsrBit w vcpu msr on = set w (msrWord vcpu msr) (putBit (getD w (msrWord vcpu msr) 0) (msrSlot msr % 64) on)
 
@@ -64,15 +70,19 @@ unfoldable pub putBit64 : ℕ → ℕ → Bool → ℕ
 putBit64 w k on = cond (ltb k 64) (putBit w k on) w
 
 -- ---- what a command does to the plain fields of a vCPU
+-- one pause more
 unfoldable pub queuedPause : List ℕ → ℕ → List ℕ
 queuedPause w vcpu = setField w vcpu PAUSES ((field w vcpu PAUSES + 1) % 2 ^ 64)
 
+-- one bit of a field
 unfoldable pub switchedField : List ℕ → ℕ → ℕ → ℕ → Bool → List ℕ
 switchedField w vcpu k bit on = setField w vcpu k (putBit64 (field w vcpu k) bit on)
 
+-- one control register's switch
 unfoldable pub switchedCr : List ℕ → ℕ → ℕ → Bool → List ℕ
 switchedCr w vcpu cr on = setField w vcpu CRS (putBit (field w vcpu CRS) (crBit cr) on)
 
+-- no reply awaited any more
 unfoldable pub endedWait : List ℕ → ℕ → List ℕ
 endedWait w vcpu = setField (setField w vcpu AWAITED 0) vcpu AWAITED-SEQ 0
 

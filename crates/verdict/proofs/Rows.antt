@@ -20,7 +20,7 @@ use Rattle.kvmi.specs.declared.Verdict.{Verdict}
 use Rattle.kvmi.specs.declared.Verdict.the-variants.{Closes, Does}
 use Rattle.kvmi.specs.Codes.{EPERM, ENOSYS}
 use Rattle.kvmi.specs.Settings.{allowsCommand}
-use Rattle.kvmi.specs.Message.{sizeFits, carriesData, layoutOf, messages, unknown, namesVcpu, flagsAt, firstPadding, padding, firstOfRuns}
+use Rattle.kvmi.specs.Message.{sizeFits, carriesData, layoutOf, messages, unknown, namesVcpu, switchesAt, firstPadding, padding, firstOfRuns}
 use Rattle.kvmi.specs.Verdict.{repliesOn, refuse, verdict, commandVerdict, isInvalid, isUnready, isDenied, isUnsupported, isBusy, isAbsent, losesErrors, changeOf}
 use Rattle.laws.proofs.Bool.{test, and-l, and-r}
 use Rattle.verdict.specs.Handlers.{idOf, isKnown, handled}
@@ -90,7 +90,7 @@ by-row s f id seq d =
 
 -- messages 1 and 4 ask nothing and change nothing
 pub asks-nothing : (s : Settings) (f : Facts) (d : List ℕ) → (commandVerdict s f 1 d ≡ Does Nothing) × (commandVerdict s f 4 d ≡ Does Nothing)
-unfolding commandVerdict isInvalid isUnready isDenied isUnsupported isBusy isAbsent losesErrors changeOf namesVcpu flagsAt firstPadding padding firstOfRuns
+unfolding commandVerdict isInvalid isUnready isDenied isUnsupported isBusy isAbsent losesErrors changeOf namesVcpu switchesAt firstPadding padding firstOfRuns
 asks-nothing s f d = (refl, refl)
 
 -- data of the fixed size that a message's row says is its own part of that length

@@ -1,6 +1,6 @@
 -- Each test by itself. Assumes nothing.
 use borrow.Author.Tests.{eq-eqb, ne-eqb}
-use Rattle.kvmi.specs.Settings.{allowsEvent, taken}
+use Rattle.kvmi.specs.Settings.{allowsEvent, heldByHost}
 use borrow.Author.Needs.{needs}
 use Rattle.image_form.proofs.may_pause.Statement.{statement}
 use Rattle.image_form.proofs.may_pause.Tie as tie

@@ -1,7 +1,7 @@
 -- Each test by itself. Assumes nothing.
 use borrow.Author.Tests.{eq-eqb, ne-eqb}
 use Rattle.kvmi.specs.Image.{vmMay}
-use Rattle.kvmi.specs.Settings.{allowsEvent, taken}
+use Rattle.kvmi.specs.Settings.{allowsEvent, heldByHost}
 use borrow.Author.Needs.{needs}
 use Rattle.image_form.proofs.vm_may.Statement.{statement}
 use Rattle.image_form.proofs.vm_may.Tie as tie

@@ -2,7 +2,7 @@
 use mathlib.Core.Path.{_∙_}
 use mathlib.Core.Bool.{or-false, and-true}
 use borrow.Author.Needs.{needs}
-use Rattle.kvmi.specs.Message.{namesVcpu, flagsAt, enables, enableAt, firstPadding, padding}
+use Rattle.kvmi.specs.Message.{namesVcpu, switchesAt, enables, enableAt, firstPadding, padding}
 use Rattle.kvmi.specs.Settings.{allowsEvent}
 use Rattle.kvmi.specs.Verdict.{isInvalid, isUnready, isDenied, isUnsupported, isBusy, isAbsent, losesErrors, changeOf, commandVerdict}
 use Rattle.verdict.specs.Causes.{decided}
@@ -43,7 +43,7 @@ decide-requires : tie.Need-decide-requires
 decide-requires c κs = search needs
 
 returns : tie.Need-returns
-unfolding commandVerdict isInvalid isUnready isDenied isUnsupported isBusy isAbsent losesErrors changeOf decided namesVcpu flagsAt enables enableAt firstPadding padding allowsEvent
+unfolding commandVerdict isInvalid isUnready isDenied isUnsupported isBusy isAbsent losesErrors changeOf decided namesVcpu switchesAt enables enableAt firstPadding padding allowsEvent
 returns c =
     c .decide .ensures ∙ rw (c .before .before .before .new .ensures, ← c .before .before .before .before .before .before .before .before .before .before .byte .ensures, ← c .before .before .before .before .before .before .before .before .before .byte2 .ensures, ← c .before .before .before .before .before .before .before .before .byte3 .ensures, ← c .before .before .before .before .of-switch .ensures, ← c .before .before .before .before .before .before .before .is-switch .ensures, ← c .before .before .before .before .before .before .is-switch2 .ensures, ← c .before .before .before .before .before .is-switch3 .ensures, ← c .before .before .is-on .ensures, ← c .before .mode-of .ensures) (simp (or-false, and-true))
 

@@ -2,8 +2,8 @@
 use mathlib.Core.Path.{_∙_}
 use mathlib.Core.Bool.{or-false, and-true}
 use borrow.Author.Needs.{needs}
-use Rattle.kvmi.specs.Message.{namesVcpu, flagsAt, vcpuOf, eventOf, takesEvent, enables, enableAt}
-use Rattle.kvmi.specs.Settings.{allowsEvent, uncatchable, taken}
+use Rattle.kvmi.specs.Message.{namesVcpu, switchesAt, vcpuOf, eventOf, takesEvent, enables, enableAt}
+use Rattle.kvmi.specs.Settings.{allowsEvent, uncatchable, heldByHost}
 use Rattle.kvmi.specs.Verdict.{isInvalid, isUnready, isDenied, isUnsupported, isBusy, isAbsent, losesErrors, changeOf, commandVerdict}
 use Rattle.verdict.specs.Causes.{decided}
 use Rattle.verdict.proofs.commands.control_vcpu_events.Statement.{statement}
@@ -46,7 +46,7 @@ decide-requires : tie.Need-decide-requires
 decide-requires c κs = search needs
 
 returns : tie.Need-returns
-unfolding commandVerdict isInvalid isUnready isDenied isUnsupported isBusy isAbsent losesErrors changeOf decided namesVcpu flagsAt vcpuOf eventOf takesEvent enables enableAt allowsEvent uncatchable taken
+unfolding commandVerdict isInvalid isUnready isDenied isUnsupported isBusy isAbsent losesErrors changeOf decided namesVcpu switchesAt vcpuOf eventOf takesEvent enables enableAt allowsEvent uncatchable heldByHost
 returns c =
     c .decide .ensures ∙ rw (c .before .before .before .before .new .ensures, ← c .before .before .before .before .before .before .before .before .before .before .before .load16 .ensures, ← c .before .before .before .before .before .before .before .before .before .before .load162 .ensures, ← c .before .before .before .before .before .before .before .before .before .byte .ensures, ← c .before .before .before .before .before .before .before .before .of-vcpu-event .ensures, and-true, ← c .before .before .before .before .before .before .before .is-malformed .ensures, ← c .before .before .before .before .before .before .is-vcpu-event .ensures, ← c .before .before .before .is-on .ensures, ← c .before .before .is-set .ensures, ← c .before .is-set2 .ensures) (simp or-false)
 

@@ -2,7 +2,7 @@
 use mathlib.Core.Path.{_∙_}
 use mathlib.Core.Bool.{or-false, and-true}
 use borrow.Author.Needs.{needs}
-use Rattle.kvmi.specs.Message.{namesVcpu, flagsAt, eventOf, takesEvent, enables, enableAt}
+use Rattle.kvmi.specs.Message.{namesVcpu, switchesAt, eventOf, takesEvent, enables, enableAt}
 use Rattle.kvmi.specs.Settings.{allowsEvent}
 use Rattle.kvmi.specs.Verdict.{isInvalid, isUnready, isDenied, isUnsupported, isBusy, isAbsent, losesErrors, changeOf, commandVerdict}
 use Rattle.verdict.specs.Causes.{decided}
@@ -34,7 +34,7 @@ decide-requires : tie.Need-decide-requires
 decide-requires c κs = search needs
 
 returns : tie.Need-returns
-unfolding commandVerdict isInvalid isUnready isDenied isUnsupported isBusy isAbsent losesErrors changeOf decided namesVcpu flagsAt eventOf takesEvent enables enableAt allowsEvent
+unfolding commandVerdict isInvalid isUnready isDenied isUnsupported isBusy isAbsent losesErrors changeOf decided namesVcpu switchesAt eventOf takesEvent enables enableAt allowsEvent
 returns c =
     c .decide .ensures ∙ rw (c .before .before .new .ensures, ← c .before .before .before .before .before .before .before .load16 .ensures, ← c .before .before .before .before .before .before .byte .ensures, ← c .before .before .before .before .before .of-switch .ensures, ← c .before .before .before .before .is-switch .ensures, ← c .before .before .before .is-vm-event .ensures, ← c .before .is-on .ensures) (simp (or-false, and-true))
 

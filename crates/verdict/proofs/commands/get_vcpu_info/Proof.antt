@@ -2,7 +2,7 @@
 use mathlib.Core.Path.{_∙_}
 use mathlib.Core.Bool.{or-false, and-true}
 use borrow.Author.Needs.{needs}
-use Rattle.kvmi.specs.Message.{namesVcpu, flagsAt, vcpuOf, firstPadding, padding}
+use Rattle.kvmi.specs.Message.{namesVcpu, switchesAt, vcpuOf, firstPadding, padding}
 use Rattle.kvmi.specs.Verdict.{isInvalid, isUnready, isDenied, isUnsupported, isBusy, isAbsent, losesErrors, changeOf, commandVerdict}
 use Rattle.verdict.specs.Causes.{decided}
 use Rattle.verdict.proofs.commands.get_vcpu_info.Statement.{statement}
@@ -24,7 +24,7 @@ decide-requires : tie.Need-decide-requires
 decide-requires c κs = search needs
 
 returns : tie.Need-returns
-unfolding commandVerdict isInvalid isUnready isDenied isUnsupported isBusy isAbsent losesErrors changeOf decided namesVcpu flagsAt vcpuOf firstPadding padding
+unfolding commandVerdict isInvalid isUnready isDenied isUnsupported isBusy isAbsent losesErrors changeOf decided namesVcpu switchesAt vcpuOf firstPadding padding
 returns c =
     c .decide .ensures ∙ rw (c .before .new .ensures, ← c .before .before .before .before .before .load16 .ensures, ← c .before .before .before .before .of-number .ensures) (simp (or-false, and-true))
 

@@ -2,7 +2,7 @@
 use mathlib.Core.Path.{_∙_}
 use mathlib.Core.Bool.{or-false, and-true}
 use borrow.Author.Needs.{needs}
-use Rattle.kvmi.specs.Message.{namesVcpu, flagsAt, vcpuOf, enables, enableAt}
+use Rattle.kvmi.specs.Message.{namesVcpu, switchesAt, vcpuOf, enables, enableAt}
 use Rattle.kvmi.specs.Verdict.{isInvalid, isUnready, isDenied, isUnsupported, isBusy, isAbsent, losesErrors, changeOf, commandVerdict}
 use Rattle.verdict.specs.Causes.{decided}
 use Rattle.verdict.proofs.commands.pause_vcpu.Statement.{statement}
@@ -27,7 +27,7 @@ decide-requires : tie.Need-decide-requires
 decide-requires c κs = search needs
 
 returns : tie.Need-returns
-unfolding commandVerdict isInvalid isUnready isDenied isUnsupported isBusy isAbsent losesErrors changeOf decided namesVcpu flagsAt vcpuOf enables enableAt
+unfolding commandVerdict isInvalid isUnready isDenied isUnsupported isBusy isAbsent losesErrors changeOf decided namesVcpu switchesAt vcpuOf enables enableAt
 returns c =
     c .decide .ensures ∙ rw (c .before .before .new .ensures, ← c .before .before .before .before .before .before .byte .ensures, ← c .before .before .before .before .before .before .before .load16 .ensures, ← c .before .before .before .before .before .of-vcpu-switch .ensures, and-true, ← c .before .before .before .before .is-malformed .ensures) (simp or-false)
 

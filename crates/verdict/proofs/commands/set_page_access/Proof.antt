@@ -2,7 +2,7 @@
 use mathlib.Core.Path.{_∙_}
 use mathlib.Core.Bool.{or-false}
 use borrow.Author.Needs.{needs}
-use Rattle.kvmi.specs.Message.{namesVcpu, flagsAt, viewOf, countOf}
+use Rattle.kvmi.specs.Message.{namesVcpu, switchesAt, viewOf, countOf}
 use Rattle.kvmi.specs.Verdict.{isInvalid, isUnready, isDenied, isUnsupported, isBusy, isAbsent, losesErrors, changeOf, commandVerdict}
 use Rattle.verdict.specs.Causes.{decided}
 use Rattle.verdict.proofs.commands.set_page_access.Statement.{statement}
@@ -30,7 +30,7 @@ decide-requires : tie.Need-decide-requires
 decide-requires c κs = search needs
 
 returns : tie.Need-returns
-unfolding commandVerdict isInvalid isUnready isDenied isUnsupported isBusy isAbsent losesErrors changeOf decided namesVcpu flagsAt viewOf countOf
+unfolding commandVerdict isInvalid isUnready isDenied isUnsupported isBusy isAbsent losesErrors changeOf decided namesVcpu switchesAt viewOf countOf
 returns c =
     c .decide .ensures ∙ rw (c .before .new .ensures, ← c .before .before .entries-fit .ensures, ← c .before .before .before .before .of-pages .ensures, ← c .before .before .before .before .before .before .load16 .ensures, ← c .before .before .before .before .before .load162 .ensures) (simp or-false)
 
