@@ -1,2 +1,4 @@
 pub mod Codes
 pub mod Cuts
+pub mod Texts
+pub mod Lines

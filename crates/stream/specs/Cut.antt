@@ -20,3 +20,13 @@ cutOf head =
     (cond (ltb (length head) 8) Tail
     (cond (ltb 65536 (totalOf head)) Long
     (Message (totalOf head))))
+
+-- how many bytes there are to be read of the message, where these are its first ones
+abbrev pub extentBy : Cut → ℕ → ℕ
+extentBy (Message total) n = total
+extentBy End n = n
+extentBy Tail n = n
+extentBy Long n = n
+
+unfoldable pub extentOf : List ℕ → ℕ
+extentOf head = extentBy (cutOf head) (length head)

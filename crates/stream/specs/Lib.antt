@@ -1,3 +1,4 @@
 pub mod Cut
 pub mod Signed
 pub mod Line
+pub mod Text

@@ -5,8 +5,7 @@ use mathlib.Core.Bool.{Bool, _&&_, cond}
 use lib.ListN.{length}
 use lib.Dec.{leb, eqb}
 use Rattle.wire.specs.Bytes.{load}
-use Rattle.kvmi.specs.declared.Answer.{Answer}
-use Rattle.kvmi.specs.Answer.{paper}
+use Rattle.kvmi.specs.Answer.{Paper}
 use Rattle.stream.specs.Signed.{signedOf}
 use Rattle.stream.specs.declared.Number.{Number}
 use Rattle.stream.specs.declared.Number.the-variants.{Missing, Shown}
@@ -34,12 +33,12 @@ unfoldable pub errorOf : List ℕ → ℕ → Code
 errorOf out count = cond (eqb count 0) Unwritten (Written (signedOf (load 4 out (errorAt out count))))
 
 -- of a message, the output after it, and its answer
-unfoldable pub lineOf : List ℕ → List ℕ → Answer → Line
+unfoldable pub lineOf : List ℕ → List ℕ → Paper → Line
 lineOf msg out a =
     record {
       id = idOf msg;
       seq = seqOf msg;
-      answer = paper a .number;
-      count = paper a .count;
-      error = errorOf out (paper a .count);
+      answer = a .number;
+      count = a .count;
+      error = errorOf out (a .count);
     }

@@ -1,11 +1,13 @@
-// A stream of messages, end to end: where the next one ends, and the facts of the line that tells what became of it.
+// A stream of messages, end to end: where the next one ends, and the line that tells what became of it, its facts and its text.
 // Reading and printing are the caller's.
+pub mod text;
+
 use kvmi::Answer;
 ghost use mathlib.Core.Path.{_≡_};
 ghost use lib.Dec.{eqb};
 ghost use lib.IntN.{natAbs};
 ghost use Rattle.kvmi.specs.Answer.{paper};
-ghost use Rattle.stream.specs.Cut.{cutOf};
+ghost use Rattle.stream.specs.Cut.{cutOf, extentOf};
 ghost use Rattle.stream.specs.Signed.{signedOf};
 ghost use Rattle.stream.specs.Line.{idOf, seqOf, errorAt, errorOf, lineOf};
 
@@ -39,6 +41,13 @@ pub struct Line {
     pub error: Code,
 }
 
+// How a run ends: the input is over, a message closed the session, or the next one is too long to be taken.
+pub enum End {
+    Open,
+    Closed,
+    Long,
+}
+
 // What the first bytes of a message say of it.
 pub fn cut_next(head: &[u8]) -> Cut
     ensures { λ r. ⌜ r ≡ cutOf (now (head .entry)) ⌝ }
@@ -55,6 +64,20 @@ pub fn cut_next(head: &[u8]) -> Cut
         return Cut::Long;
     }
     Cut::Message { total }
+}
+
+// How many bytes a message has in all of which these are the first, at most 8: no more than these, where they are all of it
+// or it is not taken.
+pub fn extent(head: &[u8]) -> usize
+    ensures { λ r. ⌜ r ≡ extentOf (now (head .entry)) ⌝ }
+{
+    let cut = cut_next(head);
+    match cut {
+        Cut::End => head.len(),
+        Cut::Tail => head.len(),
+        Cut::Long => head.len(),
+        Cut::Message { total } => total,
+    }
 }
 
 // The number whose two's complement is n.
@@ -168,7 +191,7 @@ fn error_of(out: &[u8], count: usize) -> Code
 
 // What is told of a message, by the output after it and its answer.
 pub fn describe(msg: &[u8], out: &[u8], answer: Answer) -> Line
-    ensures { λ r. ⌜ r ≡ lineOf (now (msg .entry)) (now (out .entry)) answer ⌝ }
+    ensures { λ r. ⌜ r ≡ lineOf (now (msg .entry)) (now (out .entry)) (paper answer) ⌝ }
 {
     let count = answer_count(answer);
     Line {

@@ -5,14 +5,14 @@ use native.Mathlib.Omega.{arith}
 use borrow.Author.Needs.{needs}
 use lib.ListN.{length}
 use Rattle.io.proofs.Counting.{counts}
-use Rattle.replay.proofs.read_part.Statement.{statement}
-use Rattle.replay.proofs.read_part.Tie as tie
+use Rattle.runner.proofs.read_part.Statement.{statement}
+use Rattle.runner.proofs.read_part.Tie as tie
 
 abbrev Inv-loop : tie.InvT-loop
-Inv-loop fd buf₀ from to at₀ buf at = (at ≤ to) × (length buf ≡ length buf₀)
+Inv-loop buf₀ from to at₀ buf at = (at ≤ to) × (length buf ≡ length buf₀)
 
 abbrev μ-loop : tie.MeasureT-loop
-μ-loop fd buf₀ from to at₀ buf at = to - at
+μ-loop buf₀ from to at₀ buf at = to - at
 
 loop-holds : tie.Need-loop-holds Inv-loop μ-loop
 loop-holds c = search needs
@@ -33,7 +33,7 @@ same-length : tie.Need-same-length Inv-loop μ-loop
 same-length c = search needs
 
 returns : tie.Need-returns Inv-loop μ-loop
-returns c = counts _ _ (omega arith)
+returns c = (counts _ _ (omega arith), omega arith)
 
 add-at : tie.Need-add-at Inv-loop μ-loop
 add-at c = search needs
@@ -48,7 +48,7 @@ same-length-2 : tie.Need-same-length-2 Inv-loop μ-loop
 same-length-2 c = search needs
 
 returns-2 : tie.Need-returns-2 Inv-loop μ-loop
-returns-2 c = counts _ _ (omega arith)
+returns-2 c = (counts _ _ (omega arith), omega arith)
 
 pub read-part-spec : {M : Type 1} → statement M
 read-part-spec =
