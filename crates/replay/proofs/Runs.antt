@@ -8,11 +8,11 @@ use Rattle.wire.specs.Header.{isWhole, headerOf}
 use Rattle.wire.specs.Code.{twos, codeBytes}
 use Rattle.kvmi.specs.Bits.{bitOf, isOn, putBit, bitsHave}
 use Rattle.kvmi.specs.Settings.{inRange, isSet, allowsCommand, allowsEvent}
-use Rattle.kvmi.specs.Message.{layoutOf, sizeFits, namesVcpu, vcpuOf, flagsAt, padding, firstNonZero, firstOfRuns, firstPadding, countFits}
+use Rattle.kvmi.specs.Message.{layoutOf, sizeFits, namesVcpu, vcpuOf, switchesAt, padding, firstNonZero, firstOfRuns, firstPadding, countFits}
 use Rattle.kvmi.specs.Verdict.{isInvalid, isUnready, isDenied, isUnsupported, isBusy, isAbsent, changeOf, losesErrors, commandVerdict, verdict}
 use Rattle.kvmi.specs.Reply.{messageBytes, replyBytes, replyData, answerBytes, answerSeq, answerOf}
-use Rattle.store.specs.Words.{field, cleared}
-use Rattle.session.specs.State.{freshSession, withReadyBits, clearedState, modeOfNumber, putBit64, change}
+use Rattle.store.specs.Words.{field, putBit64, cleared}
+use Rattle.session.specs.State.{freshSession, withReadyBits, clearedState, modeOfNumber, change}
 use Rattle.session.specs.Calls.{freshOf, answering, judgedOf, headedOf, messageOf, readyOf}
 use Rattle.stream.specs.Cut.{totalOf, cutOf, extentOf}
 use Rattle.stream.specs.Signed.{signedOf}
@@ -54,5 +54,5 @@ rows =
     ∷ []
 
 pub rows-right : map (λ r. printedOf (r .input)) rows ≡ map (λ r. ascii (r .printed)) rows
-unfolding le num load store isWhole headerOf twos codeBytes bitOf isOn putBit bitsHave inRange isSet allowsCommand allowsEvent layoutOf sizeFits namesVcpu vcpuOf flagsAt padding firstNonZero firstOfRuns firstPadding countFits isInvalid isUnready isDenied isUnsupported isBusy isAbsent changeOf losesErrors commandVerdict verdict messageBytes replyBytes replyData answerBytes answerSeq answerOf field cleared modeOfNumber putBit64 change freshOf answering judgedOf headedOf messageOf readyOf totalOf cutOf extentOf signedOf idOf seqOf isCommandError errorAt errorOf lineOf digits decimal signedText numberText codeText lineText endText startOf passedOf toldOf turnBy turnOf runOf printedOf
+unfolding le num load store isWhole headerOf twos codeBytes bitOf isOn putBit bitsHave inRange isSet allowsCommand allowsEvent layoutOf sizeFits namesVcpu vcpuOf switchesAt padding firstNonZero firstOfRuns firstPadding countFits isInvalid isUnready isDenied isUnsupported isBusy isAbsent changeOf losesErrors commandVerdict verdict messageBytes replyBytes replyData answerBytes answerSeq answerOf field cleared modeOfNumber putBit64 change freshOf answering judgedOf headedOf messageOf readyOf totalOf cutOf extentOf signedOf idOf seqOf isCommandError errorAt errorOf lineOf digits decimal signedText numberText codeText lineText endText startOf passedOf toldOf turnBy turnOf runOf printedOf
 rows-right = refl
