@@ -25,7 +25,8 @@ use Rattle.laws.proofs.Bool.{test}
 use Rattle.laws.proofs.Bits.{on-none}
 use Rattle.laws.proofs.Record.{length-write}
 use Rattle.store.specs.Words.{field, SINGLESTEP, CRS, EVENTS, PAUSES}
-use Rattle.store.specs.Meaning.{msrAt, switchesOn, msrsOf, vcpuOfWords, vcpusOf, pageOfWord, pagesOf}
+use Rattle.store.specs.Meaning.{msrAt, switchesOn, msrsOf, vcpuOfWords, vcpusOf}
+use Rattle.page_words.specs.Meaning.{pageOfWord, pagesOf}
 use Rattle.image_bytes.specs.Parts.{vcBytes, msBytes, paBytes, switchAt, msrOfPlace, switchesFrom, bitsFrom, Blank, Put, tables, statedOf}
 
 -- ---- numbers: the low bytes are those of the remainder

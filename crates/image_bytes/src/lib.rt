@@ -11,7 +11,8 @@ ghost use Rattle.wire.specs.Bytes.{store};
 ghost use Rattle.kvmi.specs.Bits.{bit};
 ghost use Rattle.kvmi.specs.Record.{write};
 ghost use Rattle.kvmi.specs.Image.{vmRecord, vcRecord, msRecord, paRecord, enRecord, image};
-ghost use Rattle.store.specs.Meaning.{msrAt, vcpuOfWords, vcpusOf, pageOfWord, pagesOf};
+ghost use Rattle.store.specs.Meaning.{msrAt, vcpuOfWords, vcpusOf};
+ghost use Rattle.page_words.specs.Meaning.{pageOfWord, pagesOf};
 ghost use Rattle.image_bytes.specs.Parts.{vcBytes, msBytes, paBytes, msrOfPlace, switchesFrom, bitsFrom, Blank, Scanned, Put, tables, statedOf};
 
 // The marks of the records, ASCII.

@@ -2,8 +2,8 @@
 use native.Mathlib.Omega.{arith}
 use borrow.Author.Needs.{needs}
 use Rattle.kvmi.specs.Message.{entryOf}
-use Rattle.store.proofs.pages.read_entry.Statement.{statement}
-use Rattle.store.proofs.pages.read_entry.Tie as tie
+use Rattle.page_words.proofs.read_entry.Statement.{statement}
+use Rattle.page_words.proofs.read_entry.Tie as tie
 
 load64-requires : tie.Need-load64-requires
 load64-requires c κs = search needs

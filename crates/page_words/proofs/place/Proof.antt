@@ -4,10 +4,10 @@ use Prim.Native.Nat.{_≤_, _+_, min}
 use native.Mathlib.Omega.{arith}
 use lib.ListN.{length}
 use borrow.Author.Needs.{needs}
-use Rattle.store.specs.PageWords.{bisect, placeOf}
-use Rattle.store.proofs.PageLaws.{bisect-turn, turn-inside}
-use Rattle.store.proofs.pages.place.Statement.{statement}
-use Rattle.store.proofs.pages.place.Tie as tie
+use Rattle.page_words.specs.PageWords.{bisect, placeOf}
+use Rattle.page_words.proofs.PageLaws.{bisect-turn, turn-inside}
+use Rattle.page_words.proofs.place.Statement.{statement}
+use Rattle.page_words.proofs.place.Tie as tie
 
 abbrev Inv-loop : tie.InvT-loop
 Inv-loop words count key base₀ len₀ base len = (base + len ≤ min count (length words)) × (placeOf words (min count (length words)) key ≡ bisect len words key base len)

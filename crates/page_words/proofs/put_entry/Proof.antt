@@ -4,10 +4,10 @@ use Prim.Native.Nat.{min}
 use native.Mathlib.Omega.{arith}
 use lib.ListN.{length}
 use borrow.Author.Needs.{needs}
-use Rattle.store.specs.PageWords.{putEntry}
-use Rattle.store.proofs.PageLaws.{place-le, place-whole, stands-lt}
-use Rattle.store.proofs.pages.put_entry.Statement.{statement}
-use Rattle.store.proofs.pages.put_entry.Tie as tie
+use Rattle.page_words.specs.PageWords.{putEntry}
+use Rattle.page_words.proofs.PageLaws.{place-le, place-whole, stands-lt}
+use Rattle.page_words.proofs.put_entry.Statement.{statement}
+use Rattle.page_words.proofs.put_entry.Tie as tie
 
 place-requires : tie.Need-place-requires
 place-requires c κs = search needs

@@ -1,9 +1,9 @@
 -- Assumes nothing.
 use borrow.Author.Tests.{lt-ltb, le-ltb}
 use borrow.Author.Needs.{needs}
-use Rattle.store.specs.PageWords.{wordKey, standsAt}
-use Rattle.store.proofs.pages.stands_at.Statement.{statement}
-use Rattle.store.proofs.pages.stands_at.Tie as tie
+use Rattle.page_words.specs.PageWords.{wordKey, standsAt}
+use Rattle.page_words.proofs.stands_at.Statement.{statement}
+use Rattle.page_words.proofs.stands_at.Tie as tie
 
 mul-result : tie.Need-mul-result
 mul-result c = search needs

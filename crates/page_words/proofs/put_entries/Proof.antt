@@ -6,10 +6,10 @@ use native.Mathlib.Omega.{arith}
 use lib.ListN.{length, drop}
 use borrow.Author.Needs.{needs}
 use Rattle.kvmi.specs.Message.{entriesOf}
-use Rattle.store.specs.PageWords.{keyOf, pageTable, putEntries, runEntries}
-use Rattle.store.proofs.PageLaws.{part-clamped, page-bound, put-bound, run-entry, run-end}
-use Rattle.store.proofs.pages.put_entries.Statement.{statement}
-use Rattle.store.proofs.pages.put_entries.Tie as tie
+use Rattle.page_words.specs.PageWords.{keyOf, pageTable, putEntries, runEntries}
+use Rattle.page_words.proofs.PageLaws.{part-clamped, page-bound, put-bound, run-entry, run-end}
+use Rattle.page_words.proofs.put_entries.Statement.{statement}
+use Rattle.page_words.proofs.put_entries.Tie as tie
 
 abbrev Inv-loop : tie.InvT-loop
 Inv-loop words₀ count limit view n d first t₀ i₀ words t i =

@@ -4,10 +4,10 @@ use Prim.Native.Nat.{_≤_}
 use native.Mathlib.Omega.{arith}
 use lib.ListN.{length, length-set}
 use borrow.Author.Needs.{needs}
-use Rattle.store.specs.PageWords.{insertWord}
-use Rattle.store.proofs.PageLaws.{insert-step, insert-last}
-use Rattle.store.proofs.pages.insert.Statement.{statement}
-use Rattle.store.proofs.pages.insert.Tie as tie
+use Rattle.page_words.specs.PageWords.{insertWord}
+use Rattle.page_words.proofs.PageLaws.{insert-step, insert-last}
+use Rattle.page_words.proofs.insert.Statement.{statement}
+use Rattle.page_words.proofs.insert.Tie as tie
 
 abbrev Inv-loop : tie.InvT-loop
 Inv-loop words₀ count at x i₀ words i = (at ≤ i) × (i ≤ count) × (length words ≡ length words₀) × (insertWord words₀ count at x ≡ insertWord words i at x)

@@ -1,9 +1,9 @@
 -- Assumes nothing.
 use borrow.Author.Tests.{eq-eqb, ne-eqb}
 use borrow.Author.Needs.{needs}
-use Rattle.store.specs.PageWords.{changeWord}
-use Rattle.store.proofs.pages.change_word.Statement.{statement}
-use Rattle.store.proofs.pages.change_word.Tie as tie
+use Rattle.page_words.specs.PageWords.{changeWord}
+use Rattle.page_words.proofs.change_word.Statement.{statement}
+use Rattle.page_words.proofs.change_word.Tie as tie
 
 remove-requires : tie.Need-remove-requires
 remove-requires c κs = search needs

@@ -1,9 +1,9 @@
 -- Assumes nothing.
 use borrow.Author.Tests.{lt-leb, le-leb, eq-eqb, ne-eqb}
 use borrow.Author.Needs.{needs}
-use Rattle.store.specs.PageWords.{addWord}
-use Rattle.store.proofs.pages.add_word.Statement.{statement}
-use Rattle.store.proofs.pages.add_word.Tie as tie
+use Rattle.page_words.specs.PageWords.{addWord}
+use Rattle.page_words.proofs.add_word.Statement.{statement}
+use Rattle.page_words.proofs.add_word.Tie as tie
 
 returns : tie.Need-returns
 unfolding addWord

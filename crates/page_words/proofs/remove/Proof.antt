@@ -4,10 +4,10 @@ use Prim.Native.Nat.{_<_, _+_, _-_}
 use native.Mathlib.Omega.{arith}
 use lib.ListN.{length, length-set}
 use borrow.Author.Needs.{needs}
-use Rattle.store.specs.PageWords.{removeWord}
-use Rattle.store.proofs.PageLaws.{remove-step, remove-last}
-use Rattle.store.proofs.pages.remove.Statement.{statement}
-use Rattle.store.proofs.pages.remove.Tie as tie
+use Rattle.page_words.specs.PageWords.{removeWord}
+use Rattle.page_words.proofs.PageLaws.{remove-step, remove-last}
+use Rattle.page_words.proofs.remove.Statement.{statement}
+use Rattle.page_words.proofs.remove.Tie as tie
 
 abbrev Inv-loop : tie.InvT-loop
 Inv-loop words₀ count at last i₀ words i = (i < count) × (length words ≡ length words₀) × (removeWord words₀ count at ≡ removeWord words count i)

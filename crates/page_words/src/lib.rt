@@ -1,11 +1,12 @@
-// The page words: one for each page below rwx, ascending and dense, with 0 after those in use.
+// The page words that a host lends: one for each page below rwx, ascending and dense, with 0 after those in use.
+// Every public function takes words of any length and any numbers.
 ghost use mathlib.Core.Path.{_≡_};
 ghost use Prim.Native.Nat.{_≤_, _<_, _^_, min};
 ghost use lib.Dec.{ltb};
 ghost use lib.ListN.{length};
 ghost use Rattle.kvmi.specs.Bits.{bit};
 ghost use Rattle.kvmi.specs.Message.{entryOf, entriesOf};
-ghost use Rattle.store.specs.PageWords.{wordKey, placeOf, insertWord, removeWord, standsAt, pageTable, changeWord, addWord, putEntry, runEntries};
+ghost use Rattle.page_words.specs.PageWords.{wordKey, placeOf, insertWord, removeWord, standsAt, pageTable, changeWord, addWord, putEntry, runEntries};
 
 // The access of a page that no word stands for: read, write and execute.
 const RWX: u8 = 7;

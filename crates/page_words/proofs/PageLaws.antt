@@ -13,7 +13,7 @@ use borrow.Author.Tests.{lt-ltb, le-ltb, ltb-true, ltb-false, leb-false, eq-eqb,
 use Rattle.wire.proofs.Laws.{le-or-lt}
 use Rattle.kvmi.specs.Bits.{bit}
 use Rattle.kvmi.specs.Message.{Entry, entryOf, entriesOf}
-use Rattle.store.specs.PageWords.{wordKey, keyOf, bisect, placeOf, standsAt, insertWord, removeWord, PageTable, pageTable, changeWord, addWord, putEntry, putEntries, runEntries}
+use Rattle.page_words.specs.PageWords.{wordKey, keyOf, bisect, placeOf, standsAt, insertWord, removeWord, PageTable, pageTable, changeWord, addWord, putEntry, putEntries, runEntries}
 
 -- ---- bisection
 

@@ -3,10 +3,10 @@ use native.Mathlib.Omega.{arith}
 use Prim.Native.Nat.{_/_}
 use borrow.Author.Needs.{needs}
 use borrow.Author.Tests.{lt-ltb}
-use Rattle.store.specs.PageWords.{wordKey}
-use Rattle.store.proofs.PageLaws.{below-bit}
-use Rattle.store.proofs.pages.is_below.Statement.{statement}
-use Rattle.store.proofs.pages.is_below.Tie as tie
+use Rattle.page_words.specs.PageWords.{wordKey}
+use Rattle.page_words.proofs.PageLaws.{below-bit}
+use Rattle.page_words.proofs.is_below.Statement.{statement}
+use Rattle.page_words.proofs.is_below.Tie as tie
 
 sub-result : tie.Need-sub-result
 sub-result c = search needs
