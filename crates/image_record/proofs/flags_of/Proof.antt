@@ -1,7 +1,7 @@
 -- The two tests. Assumes nothing.
 use borrow.Author.Tests.{eq-eqb, ne-eqb}
-use Rattle.image_bytes.proofs.flags_of.Statement.{statement}
-use Rattle.image_bytes.proofs.flags_of.Tie as tie
+use Rattle.image_record.proofs.flags_of.Statement.{statement}
+use Rattle.image_record.proofs.flags_of.Tie as tie
 
 returns : tie.Need-returns
 returns c = simp (c .if2 .taken, ne-eqb _ _ (c .before .if1 .taken))

@@ -2,11 +2,13 @@
 use mathlib.Core.Path.{_∙_}
 use native.Mathlib.Omega.{arith}
 use Rattle.wire.proofs.Laws.{length-le}
+use Rattle.kvmi.specs.Record.{VM}
+use Rattle.laws.proofs.Record.{length-write}
 use Rattle.reply.proofs.Laws.{placed, more}
-use Rattle.image_bytes.proofs.Written.{vm-bytes}
+use Rattle.image_record.proofs.Bytes.{vm-bytes, too-short}
 use borrow.Author.Needs.{needs}
-use Rattle.image_bytes.proofs.vm_record.Statement.{statement}
-use Rattle.image_bytes.proofs.vm_record.Tie as tie
+use Rattle.image_record.proofs.vm.Statement.{statement}
+use Rattle.image_record.proofs.vm.Tie as tie
 
 store16-requires : tie.Need-store16-requires
 store16-requires c κs = search needs
@@ -32,10 +34,13 @@ returns c =
     let p2 = more _ p1 (length-le 2 _) (c .before .before .before .before .before .before .before .before .before .before .store162 .ensures) (omega arith) in
     let p3 = more _ p2 (length-le 2 _) (c .before .before .before .before .before .before .store163 .ensures) (omega arith) in
     let p4 = more _ p3 (length-le 2 _) (c .before .before .store164 .ensures) (omega arith) in
-    p4 .there ∙ rw (vm-bytes (c .before .before .before .before .before .before .before .before .before .before .before .before .before .before .before .before .before .args .n) (c .before .before .before .before .before .before .before .before .before .before .before .before .before .before .before .before .before .args .events))
+    p4 .there ∙ rw (vm-bytes (c .before .before .before .before .before .before .before .before .before .before .before .before .before .before .before .before .before .before .args .n) (c .before .before .before .before .before .before .before .before .before .before .before .before .before .before .before .before .before .before .args .events))
 
-pub vm-record-spec : {M : Type 1} → statement M
-vm-record-spec =
+returns-2 : tie.Need-returns-2
+returns-2 c = too-short _ _ 8 (length-write VM _) (c .if1 .left)
+
+pub vm-spec : {M : Type 1} → statement M
+vm-spec =
     tie.close
     (tie.spec
     store16-requires
@@ -44,4 +49,5 @@ vm-record-spec =
     cast-store16
     store16-requires-4
     same-length
-    returns)
+    returns
+    returns-2)
