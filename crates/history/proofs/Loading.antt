@@ -19,8 +19,9 @@ use Rattle.kvmi.specs.Image.{msForm, paForm, paMay}
 use Rattle.kvmi.specs.Change.{setMsr}
 use Rattle.kvmi.specs.Valid.{Valid, paGood}
 use Rattle.store.specs.Words.{field, setField, setMsrBit, msrWord, msrSlot, cleared, SINGLESTEP, CRS, EVENTS, PAUSES}
-use Rattle.store.specs.PageWords.{wordKey}
-use Rattle.store.specs.Meaning.{pageOfWord, pagesOf, msrsOf, vcpuOfWords, vcpusOf, goodWord, PagesGood}
+use Rattle.page_words.specs.PageWords.{wordKey}
+use Rattle.store.specs.Meaning.{msrsOf, vcpuOfWords, vcpusOf}
+use Rattle.page_words.specs.Meaning.{pageOfWord, pagesOf, goodWord, PagesGood}
 use Rattle.image_reader.specs.Read.{vcpuLoaded, vcpusLoaded, msrsLoaded, readyLoaded, pageWord, pagesLoaded}
 use Rattle.laws.proofs.Bool.{and-l, and-r, and-i, every-head, every-tail, test, length-snoc}
 use Rattle.laws.proofs.Bits.{on-put, on-put-other, put-below, on-none}

@@ -3,7 +3,7 @@
 use mathlib.Core.Path.{_≡_, refl, sym, ap, _∙_}
 use mathlib.Core.Logic.{⊎-elim}
 use mathlib.Core.List.{List, [], _∷_, _++_, map, append-assoc, append-nil}
-use mathlib.Core.Bool.{Bool, true, false, not}
+use mathlib.Core.Bool.{true, false}
 use Prim.Native.Nat.{ℕ, zero, suc, _+_, _-_, _*_, _/_, _%_, _^_, _≤_, _<_, min}
 use native.Mathlib.Nat.{add-zero, zero-add, add-suc, suc-add, pow-suc, pow-succ', div-one, div-div-eq-div-mul}
 use native.Mathlib.Numerals.{add-one}
@@ -14,24 +14,19 @@ use lib.Bits.{bitOr, and-le-l, and-le-r, or-add-and}
 use lib.Count.{ones, onesIn, ones-step, trailingZeros, under}
 use lib.Seq.{drop-cons, drop-drop, drop-length, getD-take}
 use borrow.Author.Tests.{eqb-true, eqb-false}
-use Rattle.wire.specs.Bytes.{le, store}
-use Rattle.wire.proofs.Laws.{le-or-lt, le-join, length-store, store-join, store-none, store-start, store-whole}
-use Rattle.kvmi.specs.Bits.{bit, bitOf, isOn}
+use Rattle.wire.specs.Bytes.{store}
+use Rattle.wire.proofs.Laws.{le-or-lt, length-store, store-join, store-none, store-start, store-whole}
+use Rattle.kvmi.specs.Bits.{bitOf, isOn}
 use Rattle.kvmi.specs.Record.{VM, VC, MS, PA, EN, Rec, write, writeAll}
-use Rattle.kvmi.specs.Row.{writeRow}
 use Rattle.kvmi.specs.Tables.{Vcpu, Msr, Page, Tables}
 use Rattle.kvmi.specs.Image.{vmRecord, vcRecord, msRecord, paRecord, enRecord, vcRecords, onto, recordCount, image}
 use Rattle.laws.proofs.Bool.{test}
 use Rattle.laws.proofs.Bits.{on-none}
 use Rattle.laws.proofs.Record.{length-write}
-use Rattle.store.specs.Words.{field, SINGLESTEP, CRS, EVENTS, PAUSES}
-use Rattle.store.specs.Meaning.{msrAt, switchesOn, msrsOf, vcpuOfWords, vcpusOf, pageOfWord, pagesOf}
+use Rattle.store.specs.Words.{field}
+use Rattle.store.specs.Meaning.{switchesOn, msrsOf, vcpuOfWords, vcpusOf}
+use Rattle.page_words.specs.Meaning.{pageOfWord, pagesOf}
 use Rattle.image_bytes.specs.Parts.{vcBytes, msBytes, paBytes, switchAt, msrOfPlace, switchesFrom, bitsFrom, Blank, Put, tables, statedOf}
-
--- ---- numbers: the low bytes are those of the remainder
-pub le-low : (k n : ℕ) → le k (n % 256 ^ k) ≡ le k n
-unfolding le
-le-low k n = sym (append-nil (le k (n % 256 ^ k))) ∙ le-join k 0 n ∙ rw add-zero
 
 -- ---- an image is its parts
 vc-onto : (i : ℕ) (vs : List Vcpu) (rs : List Rec) → writeAll (vcRecords i vs rs) ≡ vcBytes i vs ++ writeAll rs
@@ -71,31 +66,6 @@ length-pa (p ∷ ps) = rw (length-append, length-write PA, length-pa ps) (omega 
 pub length-image : (t : Tables) → length (image t) ≡ 14 + 10 * length (t .vcpus) + 8 * length (t .msrs) + 14 * length (t .pages)
 length-image t =
     rw image-parts (simp (length-append, length-vc, length-ms, length-pa, length-write VM, length-write EN) (omega arith))
-
--- ---- the bytes of one record
-pub vm-bytes : (n events : ℕ) → le 2 0x4D56 ++ le 2 1 ++ le 2 n ++ le 2 (events % 65536) ≡ write (vmRecord n events)
-unfolding writeRow
-vm-bytes n events = rw (le-low 2 events) (simp (append-assoc, append-nil))
-
-pub vc-bytes : (i ready : ℕ) (w : List ℕ) (on : Bool) (flags step crs events pauses : ℕ)
-    → on ≡ isOn ready i → step ≡ field w i SINGLESTEP → crs ≡ field w i CRS → events ≡ field w i EVENTS → pauses ≡ field w i PAUSES
-    → flags ≡ bit on + 2 * bit (not (eqb step 0))
-    → le 2 0x4356 ++ le 2 i ++ le 1 flags ++ le 1 (crs % 256) ++ le 2 (events % 65536) ++ le 1 (pauses % 256) ++ le 1 0 ≡ write (vcRecord i (vcpuOfWords ready w i))
-unfolding writeRow vcpuOfWords
-vc-bytes i ready w on flags step crs events pauses a b c d e f =
-    rw (le-low 1 crs, le-low 2 events, le-low 1 pauses, f, a, b, c, d, e) (simp (append-assoc, append-nil))
-
-pub ms-bytes : (g msr : ℕ) → msr ≡ msrAt (g % 16384) → le 2 0x534D ++ le 2 (g / 16384) ++ le 4 msr ≡ write (msRecord (msrOfPlace g))
-unfolding writeRow msrOfPlace
-ms-bytes g msr e = rw e (simp (append-assoc, append-nil))
-
-pub pa-bytes : (w : ℕ) → le 2 0x4150 ++ le 2 (w / 2 ^ 55) ++ le 1 (w % 8) ++ le 1 0 ++ le 8 (w / 8 % 2 ^ 52) ≡ write (paRecord (pageOfWord w))
-unfolding writeRow pageOfWord
-pa-bytes w = simp (append-assoc, append-nil)
-
-pub en-bytes : (n : ℕ) → le 2 0x4E45 ++ le 4 (n % 4294967296) ≡ write (enRecord n)
-unfolding writeRow
-en-bytes n = rw (le-low 4 n, append-nil)
 
 -- ---- switches along one row of places
 module _ (w : List ℕ) where
@@ -374,13 +344,10 @@ module _ {s : List ℕ} {at : ℕ} {b out : List ℕ} {p : ℕ} {left : List ℕ
 pub going-put : {s : List ℕ} {at : ℕ} {ms : List Msr} {out : List ℕ} {p : ℕ} {left : List ℕ} → Going s at (msBytes ms) out p left → left ≡ [] → Put s at ms out p
 going-put {ms = ms} g e = record { there = going-end g e; next = omega (arith, rw e at (g .place), length-ms ms) }
 
--- a part that was lent has its length, and with all of it written is a store
-pub part-size : (s : List ℕ) (at k : ℕ) → at + k ≤ length s → length (take (at + k - at) (drop at s)) ≡ k
-part-size s at k h = rw (length-take, length-drop) (omega arith)
-
-pub part-written : (s : List ℕ) (at k : ℕ) (b m : List ℕ) → length b ≡ k → at + k ≤ length s → m ≡ store (take (at + k - at) (drop at s)) 0 b
+-- a part that was lent, with all of it written, is a store
+pub part-written : (s : List ℕ) (at k : ℕ) (b m : List ℕ) → m ≡ store (take (at + k - at) (drop at s)) 0 b → length b ≡ k → at + k ≤ length s
     → take at s ++ (m ++ drop (at + k - at) (drop at s)) ≡ store s at b
-part-written s at k b m h g e =
+part-written s at k b m e h g =
     let size : at + k - at ≡ length b = omega arith in
     let all : length (take (length b) (drop at s)) ≡ length b = rw (length-take, length-drop) (omega arith) in
     let none : drop (length b) (take (length b) (drop at s)) ≡ [] = ap (λ (n : ℕ). drop n (take (length b) (drop at s))) (sym all) ∙ drop-length (take (length b) (drop at s)) in

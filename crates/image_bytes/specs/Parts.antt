@@ -11,7 +11,8 @@ use Rattle.kvmi.specs.Record.{writeAll}
 use Rattle.kvmi.specs.Tables.{Vcpu, Msr, Page, Tables}
 use Rattle.kvmi.specs.Image.{vcRecords, onto, msRecord, paRecord}
 use Rattle.store.specs.Words.{field}
-use Rattle.store.specs.Meaning.{pagesOf, msrAt, msrsOf, vcpusOf}
+use Rattle.store.specs.Meaning.{msrAt, msrsOf, vcpusOf}
+use Rattle.page_words.specs.Meaning.{pagesOf}
 
 -- ---- the bytes of records of one kind
 -- of the vCPUs from i on

@@ -3,39 +3,21 @@
 use store::words::BLOCK_WORDS;
 use store::words::MSRS;
 ghost use mathlib.Core.Path.{_≡_};
-ghost use mathlib.Core.Bool.{true, not};
+ghost use mathlib.Core.Bool.{true};
 ghost use Prim.Native.Nat.{ℕ, _+_, _*_, _≤_, _<_, _^_, min};
-ghost use lib.Dec.{eqb};
 ghost use lib.ListN.{length};
 ghost use Rattle.wire.specs.Bytes.{store};
-ghost use Rattle.kvmi.specs.Bits.{bit};
 ghost use Rattle.kvmi.specs.Record.{write};
-ghost use Rattle.kvmi.specs.Image.{vmRecord, vcRecord, msRecord, paRecord, enRecord, image};
-ghost use Rattle.store.specs.Meaning.{msrAt, vcpuOfWords, vcpusOf, pageOfWord, pagesOf};
+ghost use Rattle.kvmi.specs.Image.{msRecord, image};
+ghost use Rattle.store.specs.Meaning.{msrAt, vcpusOf};
+ghost use Rattle.page_words.specs.Meaning.{pagesOf};
 ghost use Rattle.image_bytes.specs.Parts.{vcBytes, msBytes, paBytes, msrOfPlace, switchesFrom, bitsFrom, Blank, Scanned, Put, tables, statedOf};
-
-// The marks of the records, ASCII.
-const VM: u16 = 0x4D56;
-
-const VC: u16 = 0x4356;
-
-const MS: u16 = 0x534D;
-
-const PA: u16 = 0x4150;
-
-const EN: u16 = 0x4E45;
 
 // How many MSR switches a vCPU has.
 const SWITCHES: usize = 16384;
 
 // How many switches a word has.
 const BITS: usize = 64;
-
-// Views stand in a page word from this number on, 2^55.
-const VIEW: u64 = 36028797018963968;
-
-// How many pages a view has, 2^52.
-const PAGES: u64 = 4503599627370496;
 
 // The smaller of two numbers.
 fn smaller(a: usize, b: usize) -> usize
@@ -128,83 +110,14 @@ fn msr_at(slot: usize) -> u32
     }
 }
 
-// The flags of a vCPU: 1 ready, 2 singlestep.
-fn flags_of(ready: bool, singlestep: u64) -> u8
-    ensures { λ r. ⌜ r ≡ bit ready + 2 * bit (not (eqb singlestep 0)) ⌝ }
-{
-    if singlestep != 0 {
-        if ready { 3 } else { 2 }
-    } else {
-        if ready { 1 } else { 0 }
-    }
-}
-
-// The VM record, at the start.
-fn vm_record(out: &mut [u8], n: u16, events: u64)
-    requires { ⌜ 8 ≤ length (now out) ⌝ }
-    ensures { λ _. ⌜ now (out .exit) ≡ store (now (out .entry)) 0 (write (vmRecord n events)) ⌝ }
-{
-    wire::store16(out, 0, VM);
-    wire::store16(out, 2, 1);
-    wire::store16(out, 4, n);
-    wire::store16(out, 6, (events % 65536) as u16);
-}
-
-// The VC record of a vCPU.
-fn vc_record(out: &mut [u8], at: usize, ready: u64, words: &[u64], i: u16)
-    requires { ⌜ at + 10 ≤ length (now out) ⌝ }
-    ensures { λ _. ⌜ now (out .exit) ≡ store (now (out .entry)) at (write (vcRecord i (vcpuOfWords ready (now (words .entry)) i))) ⌝ }
-{
-    let is_ready = store::bits::bit_on(ready, i as u32);
-    let singlestep = store::words::read_field(words, i, store::words::SINGLESTEP);
-    let crs = store::words::read_field(words, i, store::words::CRS);
-    let events = store::words::read_field(words, i, store::words::EVENTS);
-    let pauses = store::words::read_field(words, i, store::words::PAUSES);
-    let flags = flags_of(is_ready, singlestep);
-    let end = at + 10;
-    let r = &mut out[at..end];
-    wire::store16(r, 0, VC);
-    wire::store16(r, 2, i);
-    wire::store8(r, 4, flags);
-    wire::store8(r, 5, (crs % 256) as u8);
-    wire::store16(r, 6, (events % 65536) as u16);
-    wire::store8(r, 8, (pauses % 256) as u8);
-    wire::store8(r, 9, 0);
-}
-
 // The MS record of a place.
-fn ms_record(out: &mut [u8], at: usize, g: usize)
+fn put_ms(out: &mut [u8], at: usize, g: usize)
     requires { ⌜ (at + 8 ≤ length (now out)) × (g < 262144) ⌝ }
     ensures { λ _. ⌜ now (out .exit) ≡ store (now (out .entry)) at (write (msRecord (msrOfPlace g))) ⌝ }
 {
     let end = at + 8;
-    let r = &mut out[at..end];
-    wire::store16(r, 0, MS);
-    wire::store16(r, 2, (g / SWITCHES) as u16);
-    wire::store32(r, 4, msr_at(g % SWITCHES));
-}
-
-// The PA record of a page word.
-fn pa_record(out: &mut [u8], at: usize, w: u64)
-    requires { ⌜ at + 14 ≤ length (now out) ⌝ }
-    ensures { λ _. ⌜ now (out .exit) ≡ store (now (out .entry)) at (write (paRecord (pageOfWord w))) ⌝ }
-{
-    let end = at + 14;
-    let r = &mut out[at..end];
-    wire::store16(r, 0, PA);
-    wire::store16(r, 2, (w / VIEW) as u16);
-    wire::store8(r, 4, (w % 8) as u8);
-    wire::store8(r, 5, 0);
-    wire::store64(r, 6, w / 8 % PAGES);
-}
-
-// The EN record.
-fn en_record(out: &mut [u8], at: usize, count: usize)
-    requires { ⌜ at + 6 ≤ length (now out) ⌝ }
-    ensures { λ _. ⌜ now (out .exit) ≡ store (now (out .entry)) at (write (enRecord count)) ⌝ }
-{
-    wire::store16(out, at, EN);
-    wire::store32(out, at + 2, (count % 4294967296) as u32);
+    let msr = msr_at(g % SWITCHES);
+    image_record::ms(&mut out[at..end], (g / SWITCHES) as u16, msr);
 }
 
 // The VC records of n vCPUs.
@@ -214,7 +127,9 @@ fn put_vcpus(out: &mut [u8], at: usize, ready: u64, words: &[u64], n: u16)
 {
     let mut i = 0;
     while i < n {
-        vc_record(out, at + 10 * (i as usize), ready, words, i);
+        let from = at + 10 * (i as usize);
+        let end = from + 10;
+        image_record::vc(&mut out[from..end], ready, words, i);
         i += 1;
     }
 }
@@ -229,7 +144,7 @@ fn put_bits(out: &mut [u8], at: usize, g: usize, w: u64) -> usize
     let mut x = w;
     while x != 0 {
         let k = u64::trailing_zeros(x) as usize;
-        ms_record(out, to, p + k);
+        put_ms(out, to, p + k);
         to += 8;
         p += k + 1;
         x = x >> k >> 1;
@@ -273,7 +188,9 @@ fn put_pages(out: &mut [u8], at: usize, pages: &[u64], used: usize)
 {
     let mut i = 0;
     while i < used {
-        pa_record(out, at + 14 * i, pages[i]);
+        let from = at + 14 * i;
+        let end = from + 14;
+        image_record::pa(&mut out[from..end], pages[i]);
         i += 1;
     }
 }
@@ -295,11 +212,12 @@ fn put_image(
     let switches = 8 + 10 * (n as usize);
     let rest = switches + 8 * on;
     let last = rest + 14 * used;
-    vm_record(out, n, events);
+    let end = last + 6;
+    image_record::vm(out, n, events);
     put_vcpus(out, 8, ready, vcpus, n);
     put_switches(out, switches, vcpus, n as usize);
     put_pages(out, rest, pages, used);
-    en_record(out, last, 1 + (n as usize) + on + used);
+    image_record::en(&mut out[last..end], 1 + (n as usize) + on + used);
 }
 
 // How many bytes an image has; events and ready marks are no matter.

@@ -8,7 +8,8 @@ use Rattle.kvmi.specs.declared.Signal.the-variants.{Quiet}
 use Rattle.kvmi.specs.Tables.{Tables}
 use Rattle.kvmi.specs.Image.{image}
 use Rattle.kvmi.specs.Call.{awaitsAny}
-use Rattle.store.specs.Meaning.{pagesOf, msrsOf, vcpusOf}
+use Rattle.store.specs.Meaning.{msrsOf, vcpusOf}
+use Rattle.page_words.specs.Meaning.{pagesOf}
 use Rattle.session.specs.State.{State}
 use Rattle.session.specs.Calls.{Told, toldSame, toldWritten}
 use Rattle.session.specs.Meaning.{awaitedOf}

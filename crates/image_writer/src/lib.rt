@@ -1,4 +1,4 @@
-// The image writer: what a session's calls left, as an image, and when there is none.
+// The image writer: the image of a session, or the answer where none is written.
 use kvmi::Answer;
 use kvmi::Signal;
 use session::Done;

@@ -24,8 +24,9 @@ use Rattle.kvmi.specs.Verdict.{isAccess}
 use Rattle.kvmi.specs.Limits.{pageLimit}
 use Rattle.kvmi.specs.Change.{Run, takeEntries, setMsr, Applied, applied, apply}
 use Rattle.store.specs.Words.{field, setField, setMsrBit, putBit64, SINGLESTEP, CRS, EVENTS, PAUSES, AWAITED, AWAITED-SEQ}
-use Rattle.store.specs.PageWords.{PageTable, runEntries}
-use Rattle.store.specs.Meaning.{pagesOf, msrsOf, vcpusOf, vcpuOfWords}
+use Rattle.page_words.specs.PageWords.{PageTable, runEntries}
+use Rattle.store.specs.Meaning.{msrsOf, vcpusOf, vcpuOfWords}
+use Rattle.page_words.specs.Meaning.{pagesOf}
 use Rattle.session.specs.State.{State, state, withField, withVcpuWords, numberOfMode, modeOfNumber, Changed, changed, change}
 use Rattle.session.specs.Meaning.{awaitedIn, awaitedOf, tablesOf, modelOf, WordsGood}
 use Rattle.laws.proofs.Bool.{test, every-and}

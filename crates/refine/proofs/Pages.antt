@@ -17,8 +17,8 @@ use Rattle.kvmi.specs.Tables.{Page, pageKey}
 use Rattle.kvmi.specs.Message.{Entry}
 use Rattle.kvmi.specs.Verdict.{isAccess}
 use Rattle.kvmi.specs.Change.{Run, pageOf, isSkipped, setPage, takeEntry, takeEntries}
-use Rattle.store.specs.PageWords.{wordKey, keyOf, bisect, placeOf, standsAt, insertWord, removeWord, PageTable, pageTable, changeWord, addWord, putEntry, putEntries, runEntries}
-use Rattle.store.specs.Meaning.{pageOfWord, pagesOf, goodWord, PagesGood}
+use Rattle.page_words.specs.PageWords.{wordKey, keyOf, bisect, placeOf, standsAt, insertWord, removeWord, PageTable, pageTable, changeWord, addWord, putEntry, putEntries, runEntries}
+use Rattle.page_words.specs.Meaning.{pageOfWord, pagesOf, goodWord, PagesGood}
 use Rattle.laws.proofs.Bool.{and-l, and-r, and-i, either, test, clash, every-head, every-tail, every-cons}
 use Rattle.laws.proofs.Table.{has-past, Side, below, level, over, side, put-cases, forget-cases, has-cases, rising-low, rising-rest, rising-put, rising-forget, every-put, every-forget, forget-none}
 

@@ -41,7 +41,8 @@ use Rattle.kvmi.specs.Reply.{replyBytes, replyData, commandErrorEvent, pauseEve
 use Rattle.kvmi.specs.Valid.{Valid}
 use Rattle.kvmi.specs.Call as model
 use Rattle.store.specs.Words.{field, setField, putBit64, cleared, SINGLESTEP, PAUSES, AWAITED, AWAITED-SEQ}
-use Rattle.store.specs.Meaning.{pagesOf, msrsOf, vcpusOf, vcpuOfWords, PagesGood}
+use Rattle.store.specs.Meaning.{msrsOf, vcpusOf, vcpuOfWords}
+use Rattle.page_words.specs.Meaning.{pagesOf, PagesGood}
 use Rattle.session.specs.declared.Session.{Session}
 use Rattle.session.specs.State.{State, state, freshSession, closedSession, clearedState, withReadyBits, withSeqOf, withField, modeOfNumber, factsIn, Changed, changed, change}
 use Rattle.session.specs.Calls.{Told, toldSame, toldWritten, toldClosing, freshOf, answering, judgedOf, headedOf, messageOf, readyOf, pausingOf, enterOf}

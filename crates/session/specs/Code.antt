@@ -17,7 +17,7 @@ use Rattle.kvmi.specs.Limits.{pageLimit}
 use Rattle.kvmi.specs.Change.{signalOf, modeFor}
 use Rattle.kvmi.specs.Reply.{answerSeq}
 use Rattle.store.specs.Words.{field, PAUSES, AWAITED}
-use Rattle.store.specs.PageWords.{PageTable, runEntries}
+use Rattle.page_words.specs.PageWords.{PageTable, runEntries}
 use Rattle.session.specs.declared.Done.{Done}
 use Rattle.session.specs.declared.Effect.{Effect}
 use Rattle.session.specs.declared.Session.{Session}

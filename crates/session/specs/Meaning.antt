@@ -11,7 +11,8 @@ use Rattle.kvmi.specs.Tables.{Tables}
 use Rattle.kvmi.specs.Model.{Awaited, Model}
 use Rattle.kvmi.specs.Valid.{Valid}
 use Rattle.store.specs.Words.{field, SINGLESTEP, AWAITED, AWAITED-SEQ}
-use Rattle.store.specs.Meaning.{pagesOf, msrsOf, vcpusOf, PagesGood}
+use Rattle.store.specs.Meaning.{msrsOf, vcpusOf}
+use Rattle.page_words.specs.Meaning.{pagesOf, PagesGood}
 use Rattle.session.specs.State.{State, modeOfNumber}
 
 -- the event that a vCPU awaits a reply to; 0 stands for none

@@ -18,7 +18,7 @@ use Rattle.kvmi.specs.Tables.{crBit}
 use Rattle.kvmi.specs.Message.{entriesOf}
 use Rattle.kvmi.specs.Limits.{pageLimit}
 use Rattle.store.specs.Words.{field, setField, setMsrBit, putBit64, cleared, SINGLESTEP, CRS, EVENTS, PAUSES, AWAITED, AWAITED-SEQ}
-use Rattle.store.specs.PageWords.{PageTable, runEntries}
+use Rattle.page_words.specs.PageWords.{PageTable, runEntries}
 use Rattle.session.specs.declared.Tool.{Tool}
 use Rattle.session.specs.declared.Session.{Session}
 

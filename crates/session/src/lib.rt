@@ -241,14 +241,7 @@ fn set_pages(
 {
     let from = if 8 <= d.len() { 8 } else { d.len() };
     let used = tool.pages as usize;
-    let taken = store::pages::put_entries(
-        pages,
-        used,
-        Session::PAGE_LIMIT,
-        view,
-        count,
-        &d[from..],
-    );
+    let taken = page_words::put_entries(pages, used, Session::PAGE_LIMIT, view, count, &d[from..]);
     let after = tool.with_pages(taken.count as u64);
     if taken.skipped {
         return failing(after, mode, -12);

@@ -1,22 +1,12 @@
--- What the words mean: the model's lists.
-use mathlib.Core.Path.{_≡_}
-use Prim.Native.Nat.{ℕ, zero, suc, _+_, _-_, _*_, _/_, _%_, _^_, _≤_}
-use mathlib.Core.List.{List, [], _∷_, map}
-use mathlib.Core.Bool.{Bool, true, false, cond, not, _&&_, So}
-use lib.ListN.{length, getD, take, drop, replicate}
+-- What the vCPU words mean: the model's lists.
+use Prim.Native.Nat.{ℕ, zero, suc, _+_, _-_, _*_, _/_, _%_}
+use mathlib.Core.List.{List, [], _∷_}
+use mathlib.Core.Bool.{cond, not}
+use lib.ListN.{getD}
 use lib.Dec.{ltb, eqb}
-use Rattle.kvmi.specs.Bits.{isOn, among, every}
-use Rattle.kvmi.specs.Table.{rising}
-use Rattle.kvmi.specs.Tables.{Vcpu, Msr, Page}
-use Rattle.store.specs.PageWords.{wordKey}
+use Rattle.kvmi.specs.Bits.{isOn}
+use Rattle.kvmi.specs.Tables.{Vcpu, Msr}
 use Rattle.store.specs.Words.{field, SINGLESTEP, CRS, EVENTS, PAUSES}
-
--- ---- pages
-unfoldable pub pageOfWord : ℕ → Page
-pageOfWord w = record { view = w / 2 ^ 55; page = w / 8 % 2 ^ 52; access = w % 8 }
-
-unfoldable pub pagesOf : List ℕ → ℕ → List Page
-pagesOf ws count = map pageOfWord (take count ws)
 
 -- ---- MSR switches
 -- the MSR of a place
@@ -45,15 +35,3 @@ vcpuOfWords ready w i =
 unfoldable pub vcpusOf : ℕ → List ℕ → ℕ → ℕ → List Vcpu
 vcpusOf ready w i zero = []
 vcpusOf ready w i (suc n) = vcpuOfWords ready w i ∷ vcpusOf ready w (suc i) n
-
--- ---- words that mean pages
--- the access is below rwx, and the view below 8
-unfoldable pub goodWord : ℕ → Bool
-goodWord w = among (w % 8) (0 ∷ 1 ∷ 3 ∷ 4 ∷ 5 ∷ []) && ltb w (2 ^ 58)
-
--- the first `count` words are pages, ascending, and the others 0
-pub record PagesGood (ws : List ℕ) (count : ℕ) : Type 0 where
-  pub inside : count ≤ length ws
-  pub up : So (rising wordKey 0 (take count ws))
-  pub good : So (every goodWord (take count ws))
-  pub rest : drop count ws ≡ replicate (length ws - count) 0

@@ -24,11 +24,11 @@ loop-holds c =
 cast-k : tie.Need-cast-k Inv-loop μ-loop
 cast-k c = omega (arith, trailing-le 64 (c .before .loop .x))
 
-add-ms-record : tie.Need-add-ms-record Inv-loop μ-loop
-add-ms-record c = omega (arith, trailing-le 64 (c .before .before .loop .x))
+add-put-ms : tie.Need-add-put-ms Inv-loop μ-loop
+add-put-ms c = omega (arith, trailing-le 64 (c .before .before .loop .x))
 
-ms-record-requires : tie.Need-ms-record-requires Inv-loop μ-loop
-ms-record-requires c κs =
+put-ms-requires : tie.Need-put-ms-requires Inv-loop μ-loop
+put-ms-requires c κs =
     let low = lowest (c .before .before .loop .x) (c .before .before .loop .p) (c .before .before .before .before .args .g + 64 - c .before .before .loop .p) 64 (c .before .loop-test .taken) (c .before .before .loop .inv .2) (omega arith) in
     let room = ms-room low in
     let g = c .before .before .loop .inv .3 in
@@ -63,7 +63,7 @@ loop-again c =
     let k = trailingZeros 64 (c .before .before .before .before .before .loop .x) in
     let left : c .before .before .before .before .before .before .before .args .g + 64 - c .before .before .before .before .before .loop .p - (k + 1) ≡ c .before .before .before .before .before .before .before .args .g + 64 - (c .before .before .before .before .before .loop .p + (k + 1)) = omega (arith, low .inside) in
     let next = ap msBytes (low .first) ∙ ms-first _ _ in
-    let step = going-step _ _ {q = c .before .before .before .before .before .loop .to + 8} (c .before .before .before .before .before .loop .inv .3) next (c .before .before .ms-record .ensures) (rw (length-write MS)) in
+    let step = going-step _ _ {q = c .before .before .before .before .before .loop .to + 8} (c .before .before .before .before .before .loop .inv .3) next (c .before .before .put-ms .ensures) (rw (length-write MS)) in
     (omega arith, omega (arith, low .inside), rw left at (low .less), rw left at step)
 
 same-length : tie.Need-same-length Inv-loop μ-loop
@@ -80,8 +80,8 @@ put-bits-spec =
     μ-loop
     loop-holds
     cast-k
-    add-ms-record
-    ms-record-requires
+    add-put-ms
+    put-ms-requires
     add-to
     add-p
     add-p-2

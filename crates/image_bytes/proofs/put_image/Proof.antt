@@ -1,5 +1,8 @@
 -- The parts side by side are the image. Assumes nothing.
-use Rattle.image_bytes.proofs.Written.{image-written}
+use native.Mathlib.Omega.{arith}
+use Rattle.kvmi.specs.Record.{EN}
+use Rattle.laws.proofs.Record.{length-write}
+use Rattle.image_bytes.proofs.Written.{image-written, part-written}
 use borrow.Author.Needs.{needs}
 use Rattle.image_bytes.proofs.put_image.Statement.{statement}
 use Rattle.image_bytes.proofs.put_image.Tie as tie
@@ -22,8 +25,11 @@ mul-last c = search needs
 add-last : tie.Need-add-last
 add-last c = search needs
 
-vm-record-requires : tie.Need-vm-record-requires
-vm-record-requires c κs = search needs
+add-end : tie.Need-add-end
+add-end c = search needs
+
+vm-requires : tie.Need-vm-requires
+vm-requires c κs = search needs
 
 put-vcpus-requires : tie.Need-put-vcpus-requires
 put-vcpus-requires c κs = search needs
@@ -34,17 +40,26 @@ put-switches-requires c κs = search needs
 put-pages-requires : tie.Need-put-pages-requires
 put-pages-requires c κs = search needs
 
-add-en-record : tie.Need-add-en-record
-add-en-record c = search needs
+sub-en : tie.Need-sub-en
+sub-en c = search needs
 
-add-en-record-2 : tie.Need-add-en-record-2
-add-en-record-2 c = search needs
+part-en-start : tie.Need-part-en-start
+part-en-start c = search needs
 
-add-en-record-3 : tie.Need-add-en-record-3
-add-en-record-3 c = search needs
+part-en-end : tie.Need-part-en-end
+part-en-end c = search needs
 
-en-record-requires : tie.Need-en-record-requires
-en-record-requires c κs = search needs
+add-en : tie.Need-add-en
+add-en c = search needs
+
+add-en-2 : tie.Need-add-en-2
+add-en-2 c = search needs
+
+add-en-3 : tie.Need-add-en-3
+add-en-3 c = search needs
+
+en-requires : tie.Need-en-requires
+en-requires c κs = search needs
 
 same-length : tie.Need-same-length
 same-length c = search needs
@@ -53,11 +68,11 @@ returns : tie.Need-returns
 returns c =
     let a = c .before .before .before .before .before .before .before .before .before .before .before .before .before .before .before .before .before .before .before .before .before .before .before .args in
     image-written (a .events) (a .ready) (a .n) (a .on) (a .used) (a .vcpus .now) (a .pages .now) (c .before .before .before .before .before .before .before .before .before .before .before .before .before .before .before .before .before .before .before .before .before .before .before .pre .1) (c .before .before .before .before .before .before .before .before .before .before .before .before .before .before .before .before .before .before .before .before .before .before .before .pre .2) _ _ _ _ _ _ (c .before .before .before .before .before .before .before .before .before .before .before .before .before .before .before .before .before .before .before .before .before .before .before .pre .3)
-    (c .before .before .before .before .before .before .before .before .before .before .before .before .before .before .before .before .before .before .vm-record .ensures)
+    (c .before .before .before .before .before .before .before .before .before .before .before .before .before .before .before .before .before .before .vm .ensures)
     (c .before .before .before .before .before .before .before .before .before .before .before .before .before .before .put-vcpus .ensures)
     (c .before .before .before .before .before .before .before .before .before .before .put-switches .ensures)
     (c .before .before .before .before .before .before .put-pages .ensures)
-    (c .before .before .en-record .ensures)
+    (part-written _ _ 6 _ _ (c .before .before .en .ensures) (length-write EN _) (omega arith))
 
 pub put-image-spec : {M : Type 1} → statement M
 put-image-spec =
@@ -69,13 +84,17 @@ put-image-spec =
     add-rest
     mul-last
     add-last
-    vm-record-requires
+    add-end
+    vm-requires
     put-vcpus-requires
     put-switches-requires
     put-pages-requires
-    add-en-record
-    add-en-record-2
-    add-en-record-3
-    en-record-requires
+    sub-en
+    part-en-start
+    part-en-end
+    add-en
+    add-en-2
+    add-en-3
+    en-requires
     same-length
     returns)

@@ -5,7 +5,7 @@ use native.Mathlib.Omega.{arith}
 use Rattle.kvmi.specs.Record.{PA}
 use Rattle.laws.proofs.Record.{length-write}
 use Rattle.image_bytes.specs.Parts.{paBytes}
-use Rattle.image_bytes.proofs.Written.{Going, going-start, going-same, going-step, going-end, pagesFrom, pages-start, pa-next, pa-none, length-pa, length-from}
+use Rattle.image_bytes.proofs.Written.{Going, going-start, going-same, going-step, going-end, pagesFrom, pages-start, pa-next, pa-none, length-pa, length-from, part-written}
 use Rattle.image_bytes.proofs.put_pages.Statement.{statement}
 use Rattle.image_bytes.proofs.put_pages.Tie as tie
 
@@ -20,20 +20,32 @@ loop-holds c =
     let a = c .before .before .args in
     (omega arith, going-same (going-start _ _ _ (rw (length-pa, length-from (a .pages .now) (a .used) 0 (omega arith)) (omega arith))) refl (omega arith))
 
-mul-pa-record : tie.Need-mul-pa-record Inv-loop μ-loop
-mul-pa-record c = omega arith
+mul-from : tie.Need-mul-from Inv-loop μ-loop
+mul-from c = omega arith
 
-add-pa-record : tie.Need-add-pa-record Inv-loop μ-loop
-add-pa-record c = omega arith
+add-from : tie.Need-add-from Inv-loop μ-loop
+add-from c = omega arith
 
-mul-pa-record-2 : tie.Need-mul-pa-record-2 Inv-loop μ-loop
-mul-pa-record-2 c = omega arith
+add-end : tie.Need-add-end Inv-loop μ-loop
+add-end c = omega arith
 
-shared-slice-read-pa-record : tie.Need-shared-slice-read-pa-record Inv-loop μ-loop
-shared-slice-read-pa-record c = omega arith
+sub-pa : tie.Need-sub-pa Inv-loop μ-loop
+sub-pa c = omega arith
 
-pa-record-requires : tie.Need-pa-record-requires Inv-loop μ-loop
-pa-record-requires c κs = omega arith
+part-pa-start : tie.Need-part-pa-start Inv-loop μ-loop
+part-pa-start c = omega arith
+
+part-pa-end : tie.Need-part-pa-end Inv-loop μ-loop
+part-pa-end c = omega arith
+
+mul-pa : tie.Need-mul-pa Inv-loop μ-loop
+mul-pa c = omega arith
+
+shared-slice-read-pa : tie.Need-shared-slice-read-pa Inv-loop μ-loop
+shared-slice-read-pa c = omega arith
+
+pa-requires : tie.Need-pa-requires Inv-loop μ-loop
+pa-requires c κs = omega arith
 
 add-i : tie.Need-add-i Inv-loop μ-loop
 add-i c = omega arith
@@ -45,7 +57,7 @@ loop-again : tie.Need-loop-again Inv-loop μ-loop
 loop-again c =
     let l = c .before .before .before .before .before .before .loop in
     let next = pa-next _ _ (l .i) (c .before .before .before .before .before .loop-test .taken) (c .before .before .before .before .before .before .before .before .before .pre .0) in
-    (omega arith, going-step _ _ (l .inv .1) next (c .before .before .pa-record .ensures) (rw (length-write PA) (omega arith)))
+    (omega arith, going-step _ _ (l .inv .1) next (part-written _ _ 14 _ _ (c .before .before .pa .ensures) (length-write PA _) (omega arith)) (rw (length-write PA) (omega arith)))
 
 same-length : tie.Need-same-length Inv-loop μ-loop
 same-length c = c .before .loop .inv .1 .kept
@@ -63,11 +75,15 @@ put-pages-spec =
     Inv-loop
     μ-loop
     loop-holds
-    mul-pa-record
-    add-pa-record
-    mul-pa-record-2
-    shared-slice-read-pa-record
-    pa-record-requires
+    mul-from
+    add-from
+    add-end
+    sub-pa
+    part-pa-start
+    part-pa-end
+    mul-pa
+    shared-slice-read-pa
+    pa-requires
     add-i
     loop-less
     loop-again

@@ -6,7 +6,7 @@ use Rattle.kvmi.specs.Record.{VC}
 use Rattle.laws.proofs.Record.{length-write}
 use Rattle.store.specs.Meaning.{vcpusOf}
 use Rattle.image_bytes.specs.Parts.{vcBytes}
-use Rattle.image_bytes.proofs.Written.{Going, going-start, going-same, going-step, going-end, vc-next, vc-none, length-vc, length-vcpus}
+use Rattle.image_bytes.proofs.Written.{Going, going-start, going-same, going-step, going-end, vc-next, vc-none, length-vc, length-vcpus, part-written}
 use Rattle.image_bytes.proofs.put_vcpus.Statement.{statement}
 use Rattle.image_bytes.proofs.put_vcpus.Tie as tie
 
@@ -22,17 +22,29 @@ loop-holds c =
     let e : a .n - 0 ≡ a .n = omega arith in
     (omega arith, going-same (going-start _ _ _ (rw (length-vc, length-vcpus) (omega arith))) (rw e) (omega arith))
 
-cast-vc-record : tie.Need-cast-vc-record Inv-loop μ-loop
-cast-vc-record c = omega arith
+cast-from : tie.Need-cast-from Inv-loop μ-loop
+cast-from c = omega arith
 
-mul-vc-record : tie.Need-mul-vc-record Inv-loop μ-loop
-mul-vc-record c = omega arith
+mul-from : tie.Need-mul-from Inv-loop μ-loop
+mul-from c = omega arith
 
-add-vc-record : tie.Need-add-vc-record Inv-loop μ-loop
-add-vc-record c = omega arith
+add-from : tie.Need-add-from Inv-loop μ-loop
+add-from c = omega arith
 
-vc-record-requires : tie.Need-vc-record-requires Inv-loop μ-loop
-vc-record-requires c κs = omega arith
+add-end : tie.Need-add-end Inv-loop μ-loop
+add-end c = omega arith
+
+sub-vc : tie.Need-sub-vc Inv-loop μ-loop
+sub-vc c = omega arith
+
+part-vc-start : tie.Need-part-vc-start Inv-loop μ-loop
+part-vc-start c = omega arith
+
+part-vc-end : tie.Need-part-vc-end Inv-loop μ-loop
+part-vc-end c = omega arith
+
+vc-requires : tie.Need-vc-requires Inv-loop μ-loop
+vc-requires c κs = omega arith
 
 add-i : tie.Need-add-i Inv-loop μ-loop
 add-i c = omega arith
@@ -44,7 +56,7 @@ loop-again : tie.Need-loop-again Inv-loop μ-loop
 loop-again c =
     let l = c .before .before .before .before .before .loop in
     let next = vc-next _ _ (l .i) _ (c .before .before .before .before .loop-test .taken) in
-    (omega arith, going-step _ _ (l .inv .1) next (c .before .before .vc-record .ensures) (rw (length-write VC) (omega arith)))
+    (omega arith, going-step _ _ (l .inv .1) next (part-written _ _ 10 _ _ (c .before .before .vc .ensures) (length-write VC _) (omega arith)) (rw (length-write VC) (omega arith)))
 
 same-length : tie.Need-same-length Inv-loop μ-loop
 same-length c = c .before .loop .inv .1 .kept
@@ -62,10 +74,14 @@ put-vcpus-spec =
     Inv-loop
     μ-loop
     loop-holds
-    cast-vc-record
-    mul-vc-record
-    add-vc-record
-    vc-record-requires
+    cast-from
+    mul-from
+    add-from
+    add-end
+    sub-vc
+    part-vc-start
+    part-vc-end
+    vc-requires
     add-i
     loop-less
     loop-again

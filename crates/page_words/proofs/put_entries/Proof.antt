@@ -1,0 +1,123 @@
+-- The loop's invariant: the entries that are left, on the words as they are, give the same as all of them at the start. The measure is how
+-- many are left. Assumes nothing.
+use mathlib.Core.Path.{_≡_, sym, _∙_}
+use Prim.Native.Nat.{_≤_, _-_, _*_}
+use native.Mathlib.Omega.{arith}
+use lib.ListN.{length, drop}
+use borrow.Author.Needs.{needs}
+use Rattle.kvmi.specs.Message.{entriesOf}
+use Rattle.page_words.specs.PageWords.{keyOf, pageTable, putEntries, runEntries}
+use Rattle.page_words.proofs.PageLaws.{part-clamped, page-bound, put-bound, run-entry, run-end}
+use Rattle.page_words.proofs.put_entries.Statement.{statement}
+use Rattle.page_words.proofs.put_entries.Tie as tie
+
+abbrev Inv-loop : tie.InvT-loop
+Inv-loop words₀ count limit view n d first t₀ i₀ words t i =
+    (i ≤ n)
+    × (length words ≡ length words₀)
+    × (t .count ≤ length words₀)
+    × (runEntries limit view (entriesOf n d) words₀ count
+    ≡ putEntries limit view (entriesOf (n - i) (drop (i * 16) d)) (pageTable words (t .count) (t .skipped)))
+
+abbrev μ-loop : tie.MeasureT-loop
+μ-loop words₀ count limit view n d first t₀ i₀ words t i = n - i
+
+cast-first : tie.Need-cast-first Inv-loop μ-loop
+cast-first c = search needs
+
+mul-first : tie.Need-mul-first Inv-loop μ-loop
+mul-first c = search needs
+
+smaller-requires : tie.Need-smaller-requires Inv-loop μ-loop
+smaller-requires c κs = search needs
+
+loop-holds : tie.Need-loop-holds Inv-loop μ-loop
+unfolding runEntries
+loop-holds c =
+    let a = c .before .before .before .args in
+    let e : a .n - 0 ≡ a .n = omega arith in
+    (omega arith, omega arith, omega arith, rw (c .smaller .ensures, e))
+
+cast-smaller : tie.Need-cast-smaller Inv-loop μ-loop
+cast-smaller c = search needs
+
+mul-smaller : tie.Need-mul-smaller Inv-loop μ-loop
+mul-smaller c = search needs
+
+smaller-requires-2 : tie.Need-smaller-requires-2 Inv-loop μ-loop
+smaller-requires-2 c κs = search needs
+
+add-smaller : tie.Need-add-smaller Inv-loop μ-loop
+add-smaller c = search needs
+
+smaller-requires-3 : tie.Need-smaller-requires-3 Inv-loop μ-loop
+smaller-requires-3 c κs = search needs
+
+sub-read-entry : tie.Need-sub-read-entry Inv-loop μ-loop
+sub-read-entry c = search needs
+
+part-read-entry-start : tie.Need-part-read-entry-start Inv-loop μ-loop
+part-read-entry-start c = search needs
+
+part-read-entry-end : tie.Need-part-read-entry-end Inv-loop μ-loop
+part-read-entry-end c = search needs
+
+read-entry-requires : tie.Need-read-entry-requires Inv-loop μ-loop
+read-entry-requires c κs = search needs
+
+add-put-entry : tie.Need-add-put-entry Inv-loop μ-loop
+add-put-entry c = omega (arith, page-bound _ (c .before .before .read-entry .ensures .0))
+
+put-entry-requires : tie.Need-put-entry-requires Inv-loop μ-loop
+put-entry-requires c κs = omega (arith, page-bound _ (c .before .before .read-entry .ensures .0))
+
+add-i : tie.Need-add-i Inv-loop μ-loop
+add-i c = search needs
+
+loop-less : tie.Need-loop-less Inv-loop μ-loop
+loop-less c = search needs
+
+loop-again : tie.Need-loop-again Inv-loop μ-loop
+unfolding keyOf
+loop-again c =
+    let l = c .before .before .before .before .before .before .before .before .before .before .loop in
+    let p = part-clamped _ _ _ _ (c .before .before .before .before .before .before .before .before .smaller2 .ensures) (c .before .before .before .before .before .before .before .smaller3 .ensures) in
+    let e = c .before .before .before .before .before .read-entry .ensures in
+    let next = run-entry (c .before .before .before .before .before .before .before .before .before .before .before .before .before .before .args .n) (l .i) _ _ _ _ _ _ _ _ (omega arith) p (e .0) (e .1) (c .before .before .put-entry .ensures) in
+    let bound = put-bound _ _ _ (pageTable (l .words) (l .t .count) (l .t .skipped)) _ (omega arith) (c .before .before .put-entry .ensures) in
+    (omega arith, omega arith, omega arith, l .inv .3 ∙ next)
+
+same-length : tie.Need-same-length Inv-loop μ-loop
+same-length c = search needs
+
+returns : tie.Need-returns Inv-loop μ-loop
+returns c =
+    let l = c .before .loop in
+    sym (l .inv .3 ∙ run-end (c .before .before .before .before .before .args .n) (l .i) _ _ _ _ (omega arith))
+
+pub put-entries-spec : {M : Type 1} → statement M
+put-entries-spec =
+    tie.close
+    (tie.spec
+    Inv-loop
+    μ-loop
+    cast-first
+    mul-first
+    smaller-requires
+    loop-holds
+    cast-smaller
+    mul-smaller
+    smaller-requires-2
+    add-smaller
+    smaller-requires-3
+    sub-read-entry
+    part-read-entry-start
+    part-read-entry-end
+    read-entry-requires
+    add-put-entry
+    put-entry-requires
+    add-i
+    loop-less
+    loop-again
+    same-length
+    returns)

@@ -1,0 +1,213 @@
+// The page words that a host lends: one for each page below rwx, ascending and dense, with 0 after those in use.
+// Every public function takes words of any length and any numbers.
+ghost use mathlib.Core.Path.{_≡_};
+ghost use Prim.Native.Nat.{_≤_, _<_, _^_, min};
+ghost use lib.Dec.{ltb};
+ghost use lib.ListN.{length};
+ghost use Rattle.kvmi.specs.Bits.{bit};
+ghost use Rattle.kvmi.specs.Message.{entryOf, entriesOf};
+ghost use Rattle.page_words.specs.PageWords.{wordKey, placeOf, insertWord, removeWord, standsAt, pageTable, changeWord, addWord, putEntry, runEntries};
+
+// The access of a page that no word stands for: read, write and execute.
+const RWX: u8 = 7;
+
+// How many pages a view has, 2^52.
+const PAGES: u64 = 4503599627370496;
+
+// How many keys a word can have, 2^61.
+const KEYS: u64 = 2305843009213693952;
+
+// The top bit of a word.
+const TOP: u64 = 9223372036854775808;
+
+// How many words are in use after entries were taken, and whether one was skipped for want of room.
+pub struct Taken {
+    pub count: usize,
+    pub skipped: bool,
+}
+
+// An entry of message 13: a page number and the access that it is to have.
+pub struct PageEntry {
+    pub page: u64,
+    pub access: u8,
+}
+
+// The smaller of two numbers.
+fn smaller(a: usize, b: usize) -> usize
+    ensures { λ r. ⌜ r ≡ min a b ⌝ }
+{
+    if a < b { a } else { b }
+}
+
+// 1 where a word's key is below another and 0 where not: the top bit of a difference, so that nothing branches on it.
+fn is_below(word: u64, key: u64) -> usize
+    ensures { λ r. ⌜ r ≡ bit (ltb (wordKey word) key) ⌝ }
+{
+    if key < KEYS {
+        1 - ((word / 8 + (TOP - key)) >> 63) as usize
+    } else {
+        1
+    }
+}
+
+// Where a key stands among the first `count` words, or belongs. Which half is left is computed and not branched on: a guess at it
+// would be wrong half of the time.
+pub fn place(words: &[u64], count: usize, key: u64) -> usize
+    ensures { λ r. ⌜ r ≡ placeOf (now (words .entry)) (min count (length (now (words .entry)))) key ⌝ }
+{
+    let mut base = 0;
+    let mut len = smaller(count, words.len());
+    while len > 0 {
+        let half = len / 2;
+        let below = is_below(words[base + half], key);
+        base += below * (half + 1);
+        len = half - below * (1 - len % 2);
+    }
+    base
+}
+
+// A word more at a place: those behind it move up, the last one first.
+fn insert(words: &mut [u64], count: usize, at: usize, x: u64)
+    requires { ⌜ (at ≤ count) × (count < length (now words)) ⌝ }
+    ensures { λ _. ⌜ now (words .exit) ≡ insertWord (now (words .entry)) count at x ⌝ }
+{
+    let mut i = count;
+    while i > at {
+        words[i] = words[i - 1];
+        i -= 1;
+    }
+    words[at] = x;
+}
+
+// A word less at a place: those behind it move down, and the last place is 0.
+fn remove(words: &mut [u64], count: usize, at: usize)
+    requires { ⌜ (at < count) × (count ≤ length (now words)) ⌝ }
+    ensures { λ _. ⌜ now (words .exit) ≡ removeWord (now (words .entry)) count at ⌝ }
+{
+    let last = count - 1;
+    let mut i = at;
+    while i < last {
+        words[i] = words[i + 1];
+        i += 1;
+    }
+    words[last] = 0;
+}
+
+// An entry for a page whose word stands at a place: at rwx the word goes.
+fn change_word(
+    words: &mut [u64],
+    count: usize,
+    at: usize,
+    key: u64,
+    access: u8,
+    skipped: bool,
+) -> Taken
+    requires { ⌜ (at < count) × (count ≤ length (now words)) × (key < 2 ^ 55) ⌝ }
+    ensures { λ r. ⌜ pageTable (now (words .exit)) (r .count) (r .skipped) ≡ changeWord (pageTable (now (words .entry)) count skipped) at key access ⌝ }
+{
+    if access == RWX {
+        remove(words, count, at);
+        Taken {
+            count: count - 1,
+            skipped,
+        }
+    } else {
+        words[at] = key * 8 + (access as u64);
+        Taken { count, skipped }
+    }
+}
+
+// An entry for a page without a word, which belongs at a place: skipped where there is no room for it.
+fn add_word(
+    words: &mut [u64],
+    count: usize,
+    limit: usize,
+    at: usize,
+    key: u64,
+    access: u8,
+    skipped: bool,
+) -> Taken
+    requires { ⌜ (at ≤ count) × (count ≤ length (now words)) × (key < 2 ^ 55) ⌝ }
+    ensures { λ r. ⌜ pageTable (now (words .exit)) (r .count) (r .skipped) ≡ addWord limit (pageTable (now (words .entry)) count skipped) at key access ⌝ }
+{
+    if access == RWX {
+        return Taken { count, skipped };
+    }
+    if count < smaller(limit, words.len()) {
+        insert(words, count, at, key * 8 + (access as u64));
+        Taken {
+            count: count + 1,
+            skipped,
+        }
+    } else {
+        Taken {
+            count,
+            skipped: true,
+        }
+    }
+}
+
+// Whether the word at a place is in use and has a key.
+fn stands_at(words: &[u64], count: usize, key: u64, at: usize) -> bool
+    requires { ⌜ count ≤ length (now words) ⌝ }
+    ensures { λ r. ⌜ r ≡ standsAt (now (words .entry)) count key at ⌝ }
+{
+    at < count && words[at] / 8 == key
+}
+
+// One entry.
+fn put_entry(
+    words: &mut [u64],
+    count: usize,
+    limit: usize,
+    key: u64,
+    access: u8,
+    skipped: bool,
+) -> Taken
+    requires { ⌜ (count ≤ length (now words)) × (key < 2 ^ 55) ⌝ }
+    ensures { λ r. ⌜ pageTable (now (words .exit)) (r .count) (r .skipped) ≡ putEntry limit key access (pageTable (now (words .entry)) count skipped) ⌝ }
+{
+    let at = place(words, count, key);
+    if stands_at(words, count, key, at) {
+        change_word(words, count, at, key, access, skipped)
+    } else {
+        add_word(words, count, limit, at, key, access, skipped)
+    }
+}
+
+// The entry in 16 bytes; a field that is not all there is 0.
+pub fn read_entry(e: &[u8]) -> PageEntry
+    ensures { λ r. ⌜ (r .page ≡ entryOf (now (e .entry)) .page) × (r .access ≡ entryOf (now (e .entry)) .access) ⌝ }
+{
+    PageEntry {
+        page: wire::load64(e, 0) / 4096,
+        access: wire::byte(e, 8),
+    }
+}
+
+// The n entries of `d`, in order. One that is skipped does not stop those behind it.
+pub fn put_entries(
+    words: &mut [u64],
+    count: usize,
+    limit: usize,
+    view: u16,
+    n: u16,
+    d: &[u8],
+) -> Taken
+    ensures { λ r. ⌜ pageTable (now (words .exit)) (r .count) (r .skipped) ≡ runEntries limit view (entriesOf n (now (d .entry))) (now (words .entry)) count ⌝ }
+{
+    let first = ((view % 8) as u64) * PAGES;
+    let mut t = Taken {
+        count: smaller(count, words.len()),
+        skipped: false,
+    };
+    let mut i = 0;
+    while i < n {
+        let a = smaller((i as usize) * 16, d.len());
+        let b = smaller(a + 16, d.len());
+        let e = read_entry(&d[a..b]);
+        t = put_entry(words, t.count, limit, first + e.page, e.access, t.skipped);
+        i += 1;
+    }
+    t
+}
