@@ -56,6 +56,7 @@ fn read_message(msg: &mut [u8]) -> usize
     read_part(msg, head, whole)
 }
 
+// The last line.
 fn print_end(end: End) {
     let mut text = [0u8; 128];
     let n = stream::text::put_end(&mut text, end);

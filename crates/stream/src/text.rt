@@ -86,6 +86,7 @@ fn put_signed(text: &mut [u8], at: usize, e: i32) -> usize
     }
 }
 
+// A space, and the error, where anything was written.
 fn put_code(text: &mut [u8], at: usize, code: Code) -> usize
     requires { ⌜ at + 22 ≤ length (now text) ⌝ }
     ensures { λ r. ⌜ Put (now (text .entry)) at (ascii " " ++ codeText code) (now (text .exit)) r ⌝ }
@@ -125,6 +126,7 @@ pub fn put_line(text: &mut [u8; 128], index: u64, line: Line) -> usize
     write_line(text, index, line)
 }
 
+// No last line has more than 11 bytes.
 fn write_end(text: &mut [u8], end: End) -> usize
     requires { ⌜ 11 ≤ length (now text) ⌝ }
     ensures { λ r. ⌜ Put (now (text .entry)) 0 (endText end) (now (text .exit)) r ⌝ }

@@ -28,6 +28,7 @@ fn message_end(all: &[u8], at: usize) -> usize
     at + least(whole, left)
 }
 
+// The last line.
 fn print_end(end: End) {
     let mut text = [0u8; 128];
     let n = stream::text::put_end(&mut text, end);
