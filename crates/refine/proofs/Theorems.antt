@@ -36,7 +36,7 @@ use Rattle.kvmi.specs.Reply.{answerSeq, answerOf}
 use Rattle.kvmi.specs.Valid.{Valid}
 use Rattle.kvmi.specs.Call as model
 use Rattle.store.specs.Words.{field, setField, setMsrBit, cleared, SINGLESTEP, CRS, EVENTS, PAUSES, AWAITED, AWAITED-SEQ}
-use Rattle.store.specs.PageWords.{runEntries}
+use Rattle.page_words.specs.PageWords.{runEntries}
 use Rattle.session.specs.State.{State, state, freshSession, clearedState, withField, withSeqOf, modeOfNumber, factsIn, change}
 use Rattle.session.specs.Calls.{Told, toldSame, freshOf, answering, judgedOf, headedOf, messageOf, readyOf, enterOf}
 use Rattle.session.specs.Meaning.{tablesOf, modelOf, WordsGood, WellFormed}

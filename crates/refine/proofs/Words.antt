@@ -17,7 +17,8 @@ use Rattle.kvmi.specs.Tables.{Vcpu, resting, vcpuAt, isMsr}
 use Rattle.kvmi.specs.Model.{Awaited, awaitedBy}
 use Rattle.kvmi.specs.Verdict.{awaitedEvent, awaitedSeq, factsOf}
 use Rattle.store.specs.Words.{field, setField, msrWord, msrSlot, setMsrBit, SINGLESTEP, CRS, EVENTS, PAUSES, AWAITED, AWAITED-SEQ}
-use Rattle.store.specs.Meaning.{vcpuOfWords, vcpusOf, PagesGood}
+use Rattle.store.specs.Meaning.{vcpuOfWords, vcpusOf}
+use Rattle.page_words.specs.Meaning.{PagesGood}
 use Rattle.session.specs.declared.Tool.{Tool}
 use Rattle.session.specs.State.{State, state, withTool, withVcpuWords, withField, factsIn}
 use Rattle.session.specs.Meaning.{awaitedIn, awaitedOf, tablesOf, modelOf, WordsGood, WellFormed}
