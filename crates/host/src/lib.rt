@@ -8,7 +8,7 @@ use session::Session;
 ghost use mathlib.Core.Path.{_≡_};
 ghost use Prim.Native.Nat.{min};
 ghost use mathlib.Core.List.{[]};
-ghost use Rattle.kvmi.specs.Answer.{paper};
+ghost use Rattle.kvmi.specs.Answer.{paper, plain};
 ghost use Rattle.session.specs.Calls.{told};
 ghost use Rattle.host.specs.Host.{resultWords, given, freshGiven, readyGiven, messageGiven, enterGiven, sizeGiven, writeGiven, readGiven};
 
@@ -19,6 +19,14 @@ pub struct Done {
 }
 
 // ---- an answer as numbers
+
+// An answer without values: five zeros. Its number is given back.
+fn put_plain(result: &mut [u64; 5], number: u32) -> u32
+    ensures { λ r. ⌜ (r ≡ number) × (now (result .exit) ≡ resultWords (plain number)) ⌝ }
+{
+    *result = [0, 0, 0, 0, 0];
+    number
+}
 
 // An answer's values, into the words lent for them; its number is given back.
 fn put_result(result: &mut [u64; 5], a: Answer) -> u32
@@ -39,34 +47,13 @@ fn put_result(result: &mut [u64; 5], a: Answer) -> u32
             }
             0
         }
-        Answer::Closing => {
-            *result = [0, 0, 0, 0, 0];
-            1
-        }
-        Answer::Closed => {
-            *result = [0, 0, 0, 0, 0];
-            2
-        }
-        Answer::ShortOut => {
-            *result = [0, 0, 0, 0, 0];
-            3
-        }
-        Answer::BadVcpu => {
-            *result = [0, 0, 0, 0, 0];
-            4
-        }
-        Answer::BadState => {
-            *result = [0, 0, 0, 0, 0];
-            5
-        }
-        Answer::Waiting => {
-            *result = [0, 0, 0, 0, 0];
-            6
-        }
-        Answer::BadSettings => {
-            *result = [0, 0, 0, 0, 0];
-            7
-        }
+        Answer::Closing => put_plain(result, 1),
+        Answer::Closed => put_plain(result, 2),
+        Answer::ShortOut => put_plain(result, 3),
+        Answer::BadVcpu => put_plain(result, 4),
+        Answer::BadState => put_plain(result, 5),
+        Answer::Waiting => put_plain(result, 6),
+        Answer::BadSettings => put_plain(result, 7),
         Answer::BadForm { offset } => {
             *result = [0, offset as u64, 0, 0, 0];
             8
@@ -75,14 +62,8 @@ fn put_result(result: &mut [u64; 5], a: Answer) -> u32
             *result = [0, offset as u64, 0, 0, 0];
             9
         }
-        Answer::Busy => {
-            *result = [0, 0, 0, 0, 0];
-            10
-        }
-        Answer::NotApplicable => {
-            *result = [0, 0, 0, 0, 0];
-            14
-        }
+        Answer::Busy => put_plain(result, 10),
+        Answer::NotApplicable => put_plain(result, 14),
     }
 }
 
