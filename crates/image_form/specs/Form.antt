@@ -10,13 +10,14 @@ use Rattle.kvmi.specs.declared.Settings.{Settings}
 use Rattle.kvmi.specs.Bits.{isOn}
 use Rattle.kvmi.specs.Limits.{pageLimit}
 use Rattle.kvmi.specs.Row.{Row}
-use Rattle.kvmi.specs.Record.{Kind, VM, VC, MS, PA, EN, kindIn, kinds, widths, size, kindAt}
+use Rattle.kvmi.specs.Record.{Kind, VM, VC, MS, PA, EN, kindIn, kinds, widths, size, vcVcpu, vcFlags, vcZero, msVcpu, msMsr, paZero, kindAt}
 use Rattle.kvmi.specs.Tables.{isMsr}
 use Rattle.kvmi.specs.Image.{vcpuOfRow, pageOfRow, vcForm, paForm}
 use Rattle.image_form.specs.declared.Mark.{Mark}
 use Rattle.image_form.specs.declared.Mark.the-variants.{Vm, Vc, Ms, Pa, En, Cut}
 
 -- ---- the kind of a record
+-- a kind by the code's name
 abbrev pub named : Kind → Mark
 named VM = Vm
 named VC = Vc
@@ -24,6 +25,7 @@ named MS = Ms
 named PA = Pa
 named EN = En
 
+-- bytes that begin no whole record are cut
 abbrev pub markOf : Option Kind → Mark
 markOf none = Cut
 markOf (some k) = named k
@@ -33,9 +35,11 @@ abbrev pub heldIn : ℕ → Option Kind → Mark
 heldIn n none = Cut
 heldIn n (some k) = cond (leb (size k) n) (named k) Cut
 
+-- of a mark and the number of bytes
 unfoldable pub markIn : ℕ → ℕ → Mark
 markIn m n = heldIn n (kindIn kinds m)
 
+-- of the bytes from a place on
 unfoldable pub markAt : List ℕ → ℕ → Mark
 markAt l at = markOf (kindAt (drop at l))
 
@@ -49,13 +53,14 @@ rowAt PA l at = (load 2 l (at + 2), (getD l (at + 4) 0, (getD l (at + 5) 0, (loa
 rowAt EN l at = (load 4 l (at + 2), tt)
 
 -- ---- its form
+-- a VC record's, in an image of as many vCPUs as the settings say
 unfoldable pub vcFits : Settings → Row (widths VC) → Bool
-vcFits s f = ltb (f .0) (s .vcpus) && leb (f .1 .0) 3 && eqb (f .1 .1 .1 .1 .1 .0) 0 && vcForm (vcpuOfRow f)
+vcFits s f = ltb (vcVcpu f) (s .vcpus) && leb (vcFlags f) 3 && eqb (vcZero f) 0 && vcForm (vcpuOfRow f)
 
--- behind the VC records of so many vCPUs, with their ready marks
+-- an MS record's, behind the VC records of so many vCPUs, with their ready marks
 unfoldable pub msFits : ℕ → ℕ → Row (widths MS) → Bool
-msFits count ready f = ltb (f .0) count && isMsr (f .1 .0) && isOn ready (f .0)
+msFits count ready f = ltb (msVcpu f) count && isMsr (msMsr f) && isOn ready (msVcpu f)
 
--- behind so many pages
+-- a PA record's, behind so many pages
 unfoldable pub paFits : ℕ → Row (widths PA) → Bool
-paFits pages f = eqb (f .1 .1 .0) 0 && paForm (pageOfRow f) && ltb pages pageLimit
+paFits pages f = eqb (paZero f) 0 && paForm (pageOfRow f) && ltb pages pageLimit

@@ -16,6 +16,7 @@ use Rattle.session.specs.State.{State, state, closedSession}
 use Rattle.session.specs.Calls.{Told}
 
 -- ---- the words that tables are loaded as
+-- a vCPU's plain fields
 unfoldable pub vcpuLoaded : List ℕ → ℕ → Vcpu → List ℕ
 vcpuLoaded w i v = setField (setField (setField (setField w i SINGLESTEP (bit (v .singlestep))) i CRS (v .crs)) i EVENTS (v .events)) i PAUSES (v .pauses)
 
@@ -24,14 +25,17 @@ unfoldable pub vcpusLoaded : List ℕ → ℕ → List Vcpu → List ℕ
 vcpusLoaded w i [] = w
 vcpusLoaded w i (v ∷ vs) = vcpusLoaded (vcpuLoaded w i v) (suc i) vs
 
+-- the MSR switches that are on
 unfoldable pub msrsLoaded : List ℕ → List Msr → List ℕ
 msrsLoaded w [] = w
 msrsLoaded w (m ∷ ms) = msrsLoaded (setMsrBit w (m .vcpu) (m .msr) true) ms
 
+-- the ready marks, of the vCPUs from i on
 unfoldable pub readyLoaded : ℕ → ℕ → List Vcpu → ℕ
 readyLoaded r i [] = r
 readyLoaded r i (v ∷ vs) = readyLoaded (putBit r i (v .ready)) (suc i) vs
 
+-- a page's word
 unfoldable pub pageWord : Page → ℕ
 pageWord p = p .view * 2 ^ 55 + p .page * 8 + p .access
 
@@ -40,6 +44,7 @@ unfoldable pub pagesLoaded : List ℕ → ℕ → List Page → List ℕ
 pagesLoaded ws i [] = ws
 pagesLoaded ws i (p ∷ ps) = pagesLoaded (set ws i (pageWord p)) (suc i) ps
 
+-- "Loaded sessions have replies on, seq 0."
 abbrev pub loadedSession : Settings → Tables → Session
 loadedSession s t =
     record {
@@ -48,14 +53,17 @@ loadedSession s t =
       ready = readyLoaded 0 0 (t .vcpus);
     }
 
+-- on words that are cleared first
 unfoldable pub loadedState : Settings → Tables → List ℕ → List ℕ → State
 loadedState s t vcpus pages =
     state (loadedSession s t) (msrsLoaded (vcpusLoaded (cleared vcpus) 0 (t .vcpus)) (t .msrs)) (pagesLoaded (cleared pages) 0 (t .pages))
 
 -- ---- the call
+-- refused: no word changes, and the session is a closed one
 abbrev pub toldRefused : Paper → Settings → List ℕ → List ℕ → Told
 toldRefused p s vcpus pages = record { answer = p; state = state (closedSession s) vcpus pages; out = []; guest = [] }
 
+-- by what the image loads as
 unfoldable pub toldLoaded : Settings → List ℕ → List ℕ → Loaded → Told
 toldLoaded s vcpus pages (loaded t) = record { answer = handled 0 Quiet; state = loadedState s t vcpus pages; out = []; guest = [] }
 toldLoaded s vcpus pages (badForm off) = toldRefused (plainAt 8 off) s vcpus pages

@@ -6,7 +6,7 @@ use lib.ListN.{length}
 use lib.Dec.{eqb, leb}
 use Rattle.kvmi.specs.declared.Settings.{Settings}
 use Rattle.kvmi.specs.Row.{Row}
-use Rattle.kvmi.specs.Record.{VM, VC, MS, PA, EN, widths, place}
+use Rattle.kvmi.specs.Record.{VM, VC, MS, PA, EN, widths, vmVersion, vmCount, vmEvents, vcVcpu, msVcpu, msMsr, paView, paPage, enCount, place}
 use Rattle.kvmi.specs.Image.{vcpuOfRow, pageOfRow, vmForm, vmMay, vcMay, paMay}
 use Rattle.store.specs.Words.{putBit64}
 use Rattle.image_form.specs.declared.Mark.{Mark}
@@ -17,7 +17,7 @@ use Rattle.image_step.specs.declared.Outcome.the-variants.{Accepted, Bad
 use Rattle.image_step.specs.declared.Step.{Step}
 use Rattle.image_step.specs.declared.Step.the-variants.{Next, Stop}
 
--- ---- a record judged
+-- ---- a record judged: "tested for form, then for answer 9 at its start"
 abbrev pub judgeStep : Bool → Bool → ℕ → Progress → Step
 judgeStep true true off next = Next next
 judgeStep true false off next = Stop (Forbidden off)
@@ -27,16 +27,18 @@ judgeStep false may off next = Stop (BadForm off)
 unfoldable pub isAfter : Progress → ℕ → ℕ → ℕ → Bool
 isAfter p kind major minor = leb (suc (place (p .kind) (p .major) (p .minor))) (place kind major minor)
 
+-- behind VM
 abbrev pub firstProgress : ℕ → Progress
 firstProgress events =
     record { at = 8; kind = 0; major = 0; minor = 0; events = events; count = 0; ready = 0; pages = 0 }
 
+-- behind a VC, an MS and a PA
 abbrev pub pastVc : Progress → Row (widths VC) → Progress
 pastVc p f =
     record {
       at = p .at + 10;
       kind = 1;
-      major = f .0;
+      major = vcVcpu f;
       minor = 0;
       events = p .events;
       count = p .count + 1;
@@ -49,8 +51,8 @@ pastMs p f =
     record {
       at = p .at + 8;
       kind = 2;
-      major = f .0;
-      minor = f .1 .0;
+      major = msVcpu f;
+      minor = msMsr f;
       events = p .events;
       count = p .count;
       ready = p .ready;
@@ -62,8 +64,8 @@ pastPa p f =
     record {
       at = p .at + 14;
       kind = 3;
-      major = f .0;
-      minor = f .1 .1 .1 .0;
+      major = paView f;
+      minor = paPage f;
       events = p .events;
       count = p .count;
       ready = p .ready;
@@ -72,26 +74,28 @@ pastPa p f =
 
 -- each kind of record, its numbers given
 unfoldable pub vmStep : Settings → Row (widths VM) → Step
-vmStep s f = judgeStep (eqb (f .0) 1 && vmForm (f .1 .0) (f .1 .1 .0)) (vmMay s (f .1 .0) (f .1 .1 .0)) 0 (firstProgress (f .1 .1 .0))
+vmStep s f = judgeStep (eqb (vmVersion f) 1 && vmForm (vmCount f) (vmEvents f)) (vmMay s (vmCount f) (vmEvents f)) 0 (firstProgress (vmEvents f))
 
 unfoldable pub vcStep : Settings → Progress → Row (widths VC) → Step
-vcStep s p f = judgeStep (isAfter p 1 (f .0) 0 && eqb (f .0) (p .count) && vcFits s f) (vcMay s (vcpuOfRow f)) (p .at) (pastVc p f)
+vcStep s p f = judgeStep (isAfter p 1 (vcVcpu f) 0 && eqb (vcVcpu f) (p .count) && vcFits s f) (vcMay s (vcpuOfRow f)) (p .at) (pastVc p f)
 
 unfoldable pub msStep : Settings → Progress → Row (widths MS) → Step
-msStep s p f = judgeStep (isAfter p 2 (f .0) (f .1 .0) && eqb (p .count) (s .vcpus) && msFits (p .count) (p .ready) f) true (p .at) (pastMs p f)
+msStep s p f = judgeStep (isAfter p 2 (msVcpu f) (msMsr f) && eqb (p .count) (s .vcpus) && msFits (p .count) (p .ready) f) true (p .at) (pastMs p f)
 
 unfoldable pub paStep : Settings → Progress → Row (widths PA) → Step
-paStep s p f = judgeStep (isAfter p 3 (f .0) (f .1 .1 .1 .0) && eqb (p .count) (s .vcpus) && paFits (p .pages) f) (paMay s (pageOfRow f)) (p .at) (pastPa p f)
+paStep s p f = judgeStep (isAfter p 3 (paView f) (paPage f) && eqb (p .count) (s .vcpus) && paFits (p .pages) f) (paMay s (pageOfRow f)) (p .at) (pastPa p f)
 
--- EN behind so many records, and then nothing
+-- EN: its form, and whether nothing follows ("the byte after EN, if any follow")
 abbrev pub endStep : Bool → Bool → Progress → Step
 endStep true true p = Stop (Accepted (p .events) (p .pages) (p .ready))
 endStep true false p = Stop (BadForm (p .at + 6))
 endStep false last p = Stop (BadForm (p .at))
 
+-- "EN, then nothing"; n is the length of the image
 unfoldable pub enStep : Settings → ℕ → Progress → ℕ → Row (widths EN) → Step
-enStep s n p records f = endStep (isAfter p 4 0 0 && eqb (p .count) (s .vcpus) && eqb (f .0) records) (eqb n (p .at + 6)) p
+enStep s n p records f = endStep (isAfter p 4 0 0 && eqb (p .count) (s .vcpus) && eqb (enCount f) records) (eqb n (p .at + 6)) p
 
+-- the next record, by its kind, behind so many records
 unfoldable pub stepBy : Settings → List ℕ → Progress → ℕ → Mark → Step
 stepBy s l p records Vm = Stop (BadForm (p .at))
 stepBy s l p records Vc = vcStep s p (rowAt VC l (p .at))
@@ -100,9 +104,11 @@ stepBy s l p records Pa = paStep s p (rowAt PA l (p .at))
 stepBy s l p records En = enStep s (length l) p records (rowAt EN l (p .at))
 stepBy s l p records Cut = Stop (BadForm (p .at))
 
+-- the next record
 unfoldable pub stepOf : Settings → List ℕ → Progress → ℕ → Step
 stepOf s l p records = stepBy s l p records (markAt l (p .at))
 
+-- the first record, by its kind: "one VM" comes first
 unfoldable pub firstBy : Settings → List ℕ → Mark → Step
 firstBy s l Vm = vmStep s (rowAt VM l 0)
 firstBy s l Vc = Stop (BadForm 0)

@@ -18,6 +18,7 @@ use Rattle.session.specs.Meaning.{awaitedOf}
 unfoldable pub statedVcpus : State → ℕ
 statedVcpus st = min (st .session .settings .vcpus) 16
 
+-- the tables that an image states
 unfoldable pub statedTables : State → Tables
 statedTables st =
     record {
@@ -27,6 +28,7 @@ statedTables st =
       pages = pagesOf (st .pages) (min (st .session .tool .pages) (length (st .pages)));
     }
 
+-- "image writer 2, 10, 3"
 unfoldable pub imageOf : State → List ℕ → Told
 imageOf st out =
     cond (not (eqb (st .session .tool .closed) 0)) (toldSame 2 st out [])
