@@ -13,7 +13,7 @@ use lib.Dec.{leb, ltb, eqb}
 use borrow.Author.Tests.{leb-true, le-leb, lt-ltb, eqb-true}
 use Rattle.kvmi.specs.declared.Settings.{Settings}
 use Rattle.kvmi.specs.Bits.{bit, among, every, isOn, putBit}
-use Rattle.kvmi.specs.Table.{rising, put}
+use Rattle.kvmi.specs.Ascending.{rising, put}
 use Rattle.kvmi.specs.Tables.{Vcpu, Msr, Page, Tables, msrKey, pageKey, resting, isMsr}
 use Rattle.kvmi.specs.Image.{msForm, paForm, paMay}
 use Rattle.kvmi.specs.Change.{setMsr}
@@ -25,7 +25,7 @@ use Rattle.page_words.specs.Meaning.{pageOfWord, pagesOf, goodWord, PagesGood}
 use Rattle.image_reader.specs.Read.{vcpuLoaded, vcpusLoaded, msrsLoaded, readyLoaded, pageWord, pagesLoaded}
 use Rattle.laws.proofs.Bool.{and-l, and-r, and-i, every-head, every-tail, test, length-snoc}
 use Rattle.laws.proofs.Bits.{on-put, on-put-other, put-below, on-none}
-use Rattle.laws.proofs.Table.{Side, below, level, over, side, above, above-snoc, rising-snoc, rising-low, rising-rest, rising-cons, put-cases}
+use Rattle.laws.proofs.Ascending.{Side, below, level, over, side, above, above-snoc, rising-snoc, rising-low, rising-rest, rising-cons, put-cases}
 use Rattle.laws.proofs.Valid.{ms-numbers, pa-numbers}
 use Rattle.refine.proofs.Msrs.{field-set, field-set-other, field-length, bit-length, bit-field, set-msr, slot-below, msrs-field}
 

@@ -16,7 +16,7 @@ use Rattle.kvmi.specs.declared.Change.the-variants.{Nothing, SetVmEvent,
 use Rattle.kvmi.specs.Limits.{pageLimit}
 use Rattle.kvmi.specs.Bits.{putBit}
 use Rattle.kvmi.specs.Codes.{OK, ENOMEM}
-use Rattle.kvmi.specs.Table.{has, put, forget}
+use Rattle.kvmi.specs.Ascending.{has, put, forget}
 use Rattle.kvmi.specs.Tables.{Msr, Page, msrKey, pageKey, crBit, withSinglestep, withCrs, withEvents, withPauses, withVmEvents, withMsrs, withPages}
 use Rattle.kvmi.specs.Model.{Model, withTables, withMode, setAwaited, onVcpu}
 use Rattle.kvmi.specs.Message.{Entry, entriesOf}

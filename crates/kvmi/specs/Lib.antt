@@ -1,5 +1,5 @@
 pub mod Bits
-pub mod Table
+pub mod Ascending
 pub mod Row
 pub mod Limits
 pub mod Settings

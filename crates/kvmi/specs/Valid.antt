@@ -5,7 +5,7 @@ use lib.ListN.{length}
 use Rattle.kvmi.specs.declared.Settings.{Settings}
 use Rattle.kvmi.specs.Limits.{pageLimit}
 use Rattle.kvmi.specs.Bits.{every}
-use Rattle.kvmi.specs.Table.{rising}
+use Rattle.kvmi.specs.Ascending.{rising}
 use Rattle.kvmi.specs.Tables.{Vcpu, Page, Tables, msrKey, pageKey}
 use Rattle.kvmi.specs.Image.{vmForm, vcForm, msForm, paForm, vmMay, vcMay, paMay}
 

@@ -1,6 +1,6 @@
 pub mod Bool
 pub mod Bits
-pub mod Table
+pub mod Ascending
 pub mod Lookup
 pub mod Row
 pub mod Record

@@ -11,13 +11,13 @@ use lib.Pow.{areBytes}
 use borrow.Author.Tests.{leb-true, eqb-true, ltb-true}
 use Rattle.kvmi.specs.declared.Settings.{Settings}
 use Rattle.kvmi.specs.Bits.{bit, every}
-use Rattle.kvmi.specs.Table.{rising}
+use Rattle.kvmi.specs.Ascending.{rising}
 use Rattle.kvmi.specs.Row.{Row}
 use Rattle.kvmi.specs.Record.{Kind, VM, VC, MS, PA, EN, widths, size, Rec, whole, cut, place, orderOf, writeAll, parse}
 use Rattle.kvmi.specs.Tables.{Vcpu, Msr, Page, Tables, msrKey, pageKey}
 use Rattle.kvmi.specs.Image.{vmRecord, vcRecord, msRecord, paRecord, enRecord, onto, vcRecords, recordCount, recordsBefore, records, image, vcpuOfRow, msrOfRow, pageOfRow, withRecord, vmForm, vcForm, msForm, paForm, vmMay, vcMay, paMay, mayOf, Loaded, loaded, badForm, forbidden, judge, ending, fitsIn, loadRest, stated, loadRecords, loadImage}
 use Rattle.laws.proofs.Bool.{and-l, and-r, and-i, every-snoc, length-snoc}
-use Rattle.laws.proofs.Table.{above, above-snoc, rising-snoc}
+use Rattle.laws.proofs.Ascending.{above, above-snoc, rising-snoc}
 use Rattle.kvmi.specs.Valid.{Valid, vcGood, paGood}
 use Rattle.laws.proofs.Valid.{vm-few, ms-numbers, pa-numbers}
 use Rattle.laws.proofs.Record.{write-parse}

@@ -8,10 +8,10 @@ use mathlib.Core.Bool.{Bool, true, false, cond, not, _&&_, _||_, So}
 use lib.Dec.{eqb, ltb}
 use borrow.Author.Tests.{eqb-true, eq-eqb, ltb-true}
 use Rattle.kvmi.specs.Bits.{every}
-use Rattle.kvmi.specs.Table.{rising, has, put, forget}
+use Rattle.kvmi.specs.Ascending.{rising, has, put, forget}
 use Rattle.kvmi.specs.Tables.{Msr, Page, msrKey, pageKey, msrIn, accessIn}
 use Rattle.laws.proofs.Bool.{and-l, and-r, and-i, test, clash, every-head, every-tail}
-use Rattle.laws.proofs.Table.{Side, below, level, over, side, put-cases, forget-cases, has-cases, rising-low, rising-rest, rising-cons, forget-none}
+use Rattle.laws.proofs.Ascending.{Side, below, level, over, side, put-cases, forget-cases, has-cases, rising-low, rising-rest, rising-cons, forget-none}
 
 -- an entry's two numbers and its value; the value where there is no entry, and how it is told from the others
 pub record Fields (A B : Type 0) : Type 0 where

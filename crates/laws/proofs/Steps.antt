@@ -21,7 +21,7 @@ use Rattle.kvmi.specs.declared.Verdict.{Verdict}
 use Rattle.kvmi.specs.declared.Verdict.the-variants.{Closes, Fails, Does}
 use Rattle.kvmi.specs.Bits.{every, among, putBit, bitsHave}
 use Rattle.kvmi.specs.Settings.{inRange, allowsEvent, canSinglestep, uncatchable, heldByHost}
-use Rattle.kvmi.specs.Table.{rising, has, put, forget}
+use Rattle.kvmi.specs.Ascending.{rising, has, put, forget}
 use Rattle.kvmi.specs.Tables.{Vcpu, Msr, Page, Tables, msrKey, pageKey, resting, vcpuAt, setVcpu, withVmEvents, withMsrs, withPages, withReady, withPauses, withEvents, withCrs, withSinglestep, isMsr}
 use Rattle.kvmi.specs.Model.{Model, fresh, begun, onVcpu, awaitedBy, isSome}
 use Rattle.kvmi.specs.Message.{namesVcpu, vcpuOf, enables, eventOf, registerOf, countOf, countFits, viewOf, Entry, entryOf, entriesOf, isVmEvent, isVcpuEvent, takesEvent}
@@ -33,7 +33,7 @@ use Rattle.kvmi.specs.Image.{vmForm, msForm, paForm, vmMay, mayEnable, paMay, i
 use Rattle.kvmi.specs.Call.{Began, anew, fromImage, Call, message, ready, enter, writeImage, Step, answering, judged, headed, messageStep, readyStep, pausing, enterStep, awaitsAny, imageStep, step, move, after}
 use Rattle.laws.proofs.Bool.{and-l, and-r, and-i, or-l, or-r, either, test, clash, every-head, every-tail, every-and}
 use Rattle.laws.proofs.Bits.{bits-put}
-use Rattle.laws.proofs.Table.{rising-put, rising-forget, length-put, length-put-found, length-put-new, length-forget, every-put, every-forget}
+use Rattle.laws.proofs.Ascending.{rising-put, rising-forget, length-put, length-put-found, length-put-new, length-forget, every-put, every-forget}
 use Rattle.kvmi.specs.Valid.{Valid, vcGood, paGood}
 use Rattle.laws.proofs.Load.{load-valid}
 use Rattle.laws.proofs.Verdicts.{pick, or-false-l, or-false-r, and-false, Passed, verdict-cases, Sound, sound-of}

@@ -11,7 +11,7 @@ use lib.Pow.{areBytes}
 use borrow.Author.Tests.{eqb-true, lt-ltb, eq-eqb}
 use Rattle.kvmi.specs.declared.Settings.{Settings}
 use Rattle.kvmi.specs.Settings.{inRange}
-use Rattle.kvmi.specs.Table.{put, forget}
+use Rattle.kvmi.specs.Ascending.{put, forget}
 use Rattle.kvmi.specs.Tables.{Msr, Page, Tables, msrKey, pageKey, msrIn, accessIn, SameTables}
 use Rattle.kvmi.specs.Model.{Model}
 use Rattle.kvmi.specs.Message.{Entry}

@@ -9,14 +9,14 @@ use lib.Dec.{leb, eqb, ltb}
 use borrow.Author.Tests.{leb-true, ltb-true, eqb-true}
 use Rattle.kvmi.specs.declared.Settings.{Settings}
 use Rattle.kvmi.specs.Bits.{every, bitsHave, among}
-use Rattle.kvmi.specs.Table.{rising}
+use Rattle.kvmi.specs.Ascending.{rising}
 use Rattle.kvmi.specs.Tables.{Vcpu, Msr, Page, Tables, msrKey, pageKey, isMsr}
 use Rattle.kvmi.specs.Message.{isVmEvent, isVcpuEvent}
 use Rattle.kvmi.specs.Image.{vmForm, vcForm, msForm, paForm, vmMay, vcMay, paMay, recordCount}
 use Rattle.kvmi.specs.Valid.{Valid}
 use Rattle.laws.proofs.Bool.{and-l, and-r, either, every-head, every-tail}
 use Rattle.laws.proofs.Bits.{bits-small}
-use Rattle.laws.proofs.Table.{Side, below, level, over, side, rising-low, rising-rest}
+use Rattle.laws.proofs.Ascending.{Side, below, level, over, side, rising-low, rising-rest}
 
 -- ---- the numbers of a record that has its form
 pub vm-few : (n e : ℕ) → So (vmForm n e) → n ≤ 16

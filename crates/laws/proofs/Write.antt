@@ -10,13 +10,13 @@ use lib.Dec.{leb, eqb, ltb}
 use borrow.Author.Tests.{leb-true, lt-ltb, le-leb, eq-eqb}
 use Rattle.kvmi.specs.declared.Settings.{Settings}
 use Rattle.kvmi.specs.Bits.{bit, every}
-use Rattle.kvmi.specs.Table.{rising}
+use Rattle.kvmi.specs.Ascending.{rising}
 use Rattle.kvmi.specs.Row.{Row, fits}
 use Rattle.kvmi.specs.Record.{Kind, VM, VC, MS, PA, EN, widths, size, Rec, whole, cut, place, orderOf, writeAll, parse}
 use Rattle.kvmi.specs.Tables.{Vcpu, Msr, Page, Tables, msrKey, pageKey}
 use Rattle.kvmi.specs.Image.{vcRow, msRow, paRow, vmRecord, vcRecord, msRecord, paRecord, enRecord, onto, vcRecords, recordCount, records, image, vcpuOfRow, withRecord, vmForm, vcForm, msForm, paForm, vmMay, vcMay, paMay, formOf, isNext, mayOf, Loaded, loaded, judge, fitsIn, loadRest, stated, loadRecords, loadImage}
 use Rattle.laws.proofs.Bool.{and-l, and-r, and-i, every-head, every-tail, length-snoc}
-use Rattle.laws.proofs.Table.{rising-low, rising-rest}
+use Rattle.laws.proofs.Ascending.{rising-low, rising-rest}
 use Rattle.kvmi.specs.Valid.{Valid, vcGood, paGood}
 use Rattle.laws.proofs.Valid.{vm-few, vm-bits, ms-numbers, pa-numbers, vc-numbers, count-small}
 use Rattle.laws.proofs.Record.{sound, parse-write}

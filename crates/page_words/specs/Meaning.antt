@@ -6,7 +6,7 @@ use mathlib.Core.Bool.{Bool, _&&_, So}
 use lib.ListN.{length, take, drop, replicate}
 use lib.Dec.{ltb}
 use Rattle.kvmi.specs.Bits.{among, every}
-use Rattle.kvmi.specs.Table.{rising}
+use Rattle.kvmi.specs.Ascending.{rising}
 use Rattle.kvmi.specs.Tables.{Page}
 use Rattle.page_words.specs.PageWords.{wordKey}
 

@@ -11,14 +11,14 @@ use lib.Seq.{getD-set-same, getD-set-other, take-set-le, drop-set-lt, drop-set-a
 use lib.Dec.{leb, ltb, eqb}
 use borrow.Author.Tests.{ltb-true, ltb-false, leb-true, leb-false, eqb-true, eqb-false, lt-ltb, le-ltb, le-leb, lt-leb, eq-eqb, ne-eqb}
 use Rattle.kvmi.specs.Bits.{every, isOn, putBit}
-use Rattle.kvmi.specs.Table.{rising, put, forget}
+use Rattle.kvmi.specs.Ascending.{rising, put, forget}
 use Rattle.kvmi.specs.Tables.{Msr, msrKey, isMsr, msrIn}
 use Rattle.kvmi.specs.Change.{setMsr}
 use Rattle.store.specs.Words.{field, setField, msrSlot, msrWord, msrBitOn, setMsrBit}
 use Rattle.store.specs.Meaning.{msrAt, switchesOn, msrsOf}
 use Rattle.laws.proofs.Bool.{and-l, and-r, and-i, or-l, or-r, either, test, clash, same-test, every-cons, every-imp}
 use Rattle.laws.proofs.Bits.{on-none, on-put, on-put-other}
-use Rattle.laws.proofs.Table.{Side, below, level, over, side, rising-cons, rising-weak, rising-put, rising-forget, every-put, every-forget}
+use Rattle.laws.proofs.Ascending.{Side, below, level, over, side, rising-cons, rising-weak, rising-put, rising-forget, every-put, every-forget}
 use Rattle.laws.proofs.Lookup.{numbered, msr-put, msr-put-other, msr-forget, msr-forget-other, msr-ext}
 
 -- ---- message 12's 16,384 MSRs and their places, 0 to 16,383

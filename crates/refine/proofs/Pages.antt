@@ -12,7 +12,7 @@ use lib.Seq.{take-nil, take-take, take-at, drop-at, drop-drop, take-set-lt, drop
 use lib.Dec.{leb, ltb, eqb, leb·suc-suc}
 use borrow.Author.Tests.{ltb-true, ltb-false, leb-false, eqb-true, eqb-false, lt-ltb, le-ltb, le-leb, lt-leb, eq-eqb, ne-eqb}
 use Rattle.kvmi.specs.Bits.{every, among}
-use Rattle.kvmi.specs.Table.{rising, has, put, forget}
+use Rattle.kvmi.specs.Ascending.{rising, has, put, forget}
 use Rattle.kvmi.specs.Tables.{Page, pageKey}
 use Rattle.kvmi.specs.Message.{Entry}
 use Rattle.kvmi.specs.Verdict.{isAccess}
@@ -20,7 +20,7 @@ use Rattle.kvmi.specs.Change.{Run, pageOf, isSkipped, setPage, takeEntry, takeE
 use Rattle.page_words.specs.PageWords.{wordKey, keyOf, bisect, placeOf, standsAt, insertWord, removeWord, PageTable, pageTable, changeWord, addWord, putEntry, putEntries, runEntries}
 use Rattle.page_words.specs.Meaning.{pageOfWord, pagesOf, goodWord, PagesGood}
 use Rattle.laws.proofs.Bool.{and-l, and-r, and-i, either, test, clash, every-head, every-tail, every-cons}
-use Rattle.laws.proofs.Table.{has-past, Side, below, level, over, side, put-cases, forget-cases, has-cases, rising-low, rising-rest, rising-put, rising-forget, every-put, every-forget, forget-none}
+use Rattle.laws.proofs.Ascending.{has-past, Side, below, level, over, side, put-cases, forget-cases, has-cases, rising-low, rising-rest, rising-put, rising-forget, every-put, every-forget, forget-none}
 
 -- ---- bisection
 module _ {A : Type 0} (key : A → ℕ) (d : A) where

@@ -1,4 +1,4 @@
--- A table: a list in strictly rising order of a key.
+-- A list in strictly rising order of a key.
 use Prim.Native.Nat.{ℕ, suc, compare, Ordering·lt, Ordering·eq, Ordering·gt}
 use mathlib.Core.List.{List, [], _∷_}
 use mathlib.Core.Bool.{Bool, true, false, _&&_}

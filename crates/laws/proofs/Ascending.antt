@@ -1,4 +1,4 @@
--- A table after an entry is put or forgotten. Assumes nothing.
+-- An ascending list after an entry is put or forgotten. Assumes nothing.
 use mathlib.Core.Path.{_≡_, refl, sym, ap, _∙_}
 use mathlib.Core.Logic.{_≢_}
 use Prim.Native.Nat.{ℕ, suc, _≤_, _<_, compare, Ordering, Ordering·lt, Ordering·eq, Ordering·gt}
@@ -10,7 +10,7 @@ use lib.ListN.{length}
 use lib.Dec.{leb, isLe, isEq}
 use borrow.Author.Tests.{leb-true, leb-false, eqb-true, eqb-false, le-leb}
 use Rattle.kvmi.specs.Bits.{every}
-use Rattle.kvmi.specs.Table.{rising, has, put, forget}
+use Rattle.kvmi.specs.Ascending.{rising, has, put, forget}
 use Rattle.laws.proofs.Bool.{and-l, and-r, and-i, test, clash, every-head, every-tail, every-cons}
 
 -- the three ways in which two numbers may stand, with what `compare` says
