@@ -17,17 +17,17 @@ use Rattle.host.specs.declared.Done.{Done}
 -- "signal: none, kick(vCPU, wait), crash(vCPU)"
 abbrev pub signalNumber : Signal → ℕ
 signalNumber Quiet = 0
-signalNumber (Kick vcpu wait) = 1
+signalNumber (Kick wait vcpu) = 1
 signalNumber (Crash vcpu) = 2
 
 abbrev pub signalVcpu : Signal → ℕ
 signalVcpu Quiet = 0
-signalVcpu (Kick vcpu wait) = vcpu
+signalVcpu (Kick wait vcpu) = vcpu
 signalVcpu (Crash vcpu) = vcpu
 
 abbrev pub signalWaits : Signal → ℕ
 signalWaits Quiet = 0
-signalWaits (Kick vcpu wait) = bit wait
+signalWaits (Kick wait vcpu) = bit wait
 signalWaits (Crash vcpu) = 0
 
 -- an answer's values, as struct semblurick_result has them

@@ -39,7 +39,7 @@ paper-injective a b e = sym (answer-of-paper a) ∙ ap answerOf e ∙ answer-of-
 -- each case's number and values, as the table has them
 pub as-in-the-table :
     map paper (
-    Handled 5 (Kick 1 true)
+    Handled 5 (Kick true 1)
     ∷ Closing
     ∷ Closed
     ∷ ShortOut
@@ -53,7 +53,7 @@ pub as-in-the-table :
     ∷ NotApplicable
     ∷ []
     )
-    ≡ (record { number = 0; count = 5; signal = Kick 1 true; offset = 0 })
+    ≡ (record { number = 0; count = 5; signal = Kick true 1; offset = 0 })
     ∷ (record { number = 1; count = 0; signal = Quiet; offset = 0 })
     ∷ (record { number = 2; count = 0; signal = Quiet; offset = 0 })
     ∷ (record { number = 3; count = 0; signal = Quiet; offset = 0 })

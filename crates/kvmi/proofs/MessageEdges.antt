@@ -46,7 +46,7 @@ acted =
     ∷ acting 3 (naming 5) Quiet page readyImage
     ∷ acting 5 (eventData 12 1) Quiet page (vmHas 0x1000 ++ vc 0 1 0 0 0 ++ idle 1 ++ en 3)
     ∷ acting 7 (physical 4093 3 ++ (7 ∷ 8 ∷ 9 ∷ [])) Quiet (replicate 4093 0 ++ (7 ∷ 8 ∷ 9 ∷ [])) readyImage
-    ∷ acting 9 (flagData 0 0) (Kick 0 false) page (vm ++ vc 0 1 0 0 1 ++ idle 1 ++ en 3)
+    ∷ acting 9 (flagData 0 0) (Kick false 0) page (vm ++ vc 0 1 0 0 1 ++ idle 1 ++ en 3)
     ∷ acting 10 (vcpuHeader 0 ++ eventData 9 1) Quiet page (vm ++ vc 0 1 0 0x200 0 ++ idle 1 ++ en 3)
     ∷ acting 11 (registerData 0 4 1) Quiet page (vm ++ vc 0 1 4 0 0 ++ idle 1 ++ en 3)
     ∷ acting 12 (registerData 0 0xC0000080 1) Quiet page (vm ++ vc 0 1 0 0 0 ++ idle 1 ++ ms 0 0xC0000080 ++ en 4)
@@ -172,7 +172,7 @@ switchEdges =
     (told (handled 24 Quiet) (8 ∷ 0 ∷ 16 ∷ 0 ∷ 8 ∷ 0 ∷ 0 ∷ 0 ∷ replicate 16 0) (vmOf 4 ++ idle 0 ++ idle 1 ++ idle 2 ++ vc 3 3 1 8 0 ++ en 5) (beside On 0 (replicate 4 none)))
     -- all of them of vCPU 1, and none of vCPU 0
     ∷ row two (ready 1 ∷ controlEvent 1 4 1 ∷ controlCr 1 3 1 ∷ controlMsr 1 0x10 1 ∷ singlestep 1 1 ∷ pause 1 ∷ [])
-    (told (handled 16 (Kick 1 true)) (reply 9 c0) (vm ++ idle 0 ++ vc 1 3 2 0x10 1 ++ ms 1 0x10 ++ en 4) quiet)
+    (told (handled 16 (Kick true 1)) (reply 9 c0) (vm ++ idle 0 ++ vc 1 3 2 0x10 1 ++ ms 1 0x10 ++ en 4) quiet)
     -- MSRs by vCPU, then MSR
     ∷ row two (ready 0 ∷ ready 1 ∷ controlMsr 1 0x10 1 ∷ controlMsr 0 0xC0000000 1 ∷ controlMsr 1 0x11 1 ∷ controlMsr 1 0x11 1 ∷ [])
     (answered 12 c0 (vm ++ vc 0 1 0 0 0 ++ vc 1 1 0 0 0 ++ ms 0 0xC0000000 ++ ms 1 0x10 ++ ms 1 0x11 ++ en 6))
@@ -290,7 +290,7 @@ testEdges =
     ∷ under (without 2) (closes 9 (flagData 1 1))
     ∷ under (without 2) (taken 2 (naming 5) readyImage)
     ∷ under (without 2) (taken 14 (flagData 0 0) readyImage)
-    ∷ under (eventful 4) (row two (ready 0 ∷ pause 0 ∷ []) (told (handled 16 (Kick 0 true)) (reply 9 c0) (vm ++ vc 0 1 0 0 1 ++ idle 1 ++ en 3) quiet))
+    ∷ under (eventful 4) (row two (ready 0 ∷ pause 0 ∷ []) (told (handled 16 (Kick true 0)) (reply 9 c0) (vm ++ vc 0 1 0 0 1 ++ idle 1 ++ en 3) quiet))
     -- test 5: enable 0 with the flag while event 13 is not allowed, whatever now says; not with enable 1, without the flag, or with -22
     ∷ under (without 13) (closes 15 (modeData 0 0 1))
     ∷ under (without 13) (closes 15 (modeData 0 1 1))

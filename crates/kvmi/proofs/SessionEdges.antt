@@ -167,7 +167,7 @@ ownEdges =
     ∷ onFull (setAccess 1 1 (entry 0x6000 7)) (answered 13 c0 (fullImage 0x1000 fullSession (ms 0 0x10 ++ ms 1 0x20 ++ pa 0 5 1 ++ en 6)))
     ∷ onFull (singlestep 0 0) (answered 14 c0 (fullImage 0x1000 (vc 0 1 5 0x4218 3) records))
     -- a pause more and one less; the reply mode; a ready mark
-    ∷ onFull (pause 0) (told (handled 16 (Kick 0 true)) (reply 9 c0) (fullImage 0x1000 (vc 0 3 5 0x4218 4) records) quiet)
+    ∷ onFull (pause 0) (told (handled 16 (Kick true 0)) (reply 9 c0) (fullImage 0x1000 (vc 0 3 5 0x4218 4) records) quiet)
     ∷ onFull (enter 0 state (lent 552)) (gave (handled 552 Quiet) (pauseBytes 0 0) (lent 552) (fullImage 0x1000 (vc 0 3 5 0x4218 2) records) (beside On 1 (awaits 0 ∷ none ∷ [])))
     ∷ onFull (responses 0 0 1) (told (handled 16 Quiet) (reply 15 c0) (fullImage 0x1000 fullSession records) (beside ErrorsOnly 0 nobody))
     ∷ onFull (ready 0) (gave (handled 0 Quiet) [] [] (fullImage 0x1000 fullSession records) quiet)

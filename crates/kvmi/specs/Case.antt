@@ -191,7 +191,7 @@ cases =
     -- P8
     ∷ replied 12 (controlMsr 0 0x2000 1) c22 readyImage
     -- P9
-    ∷ (record { settings = two; start = anew; calls = ready 0 ∷ replicate 8 (pause 0); expected = gives (handled 16 (Kick 0 true)) (reply 9 c0) (vm ++ vc 0 1 0 0 8 ++ vc 1 0 0 0 0 ++ en 3) })
+    ∷ (record { settings = two; start = anew; calls = ready 0 ∷ replicate 8 (pause 0); expected = gives (handled 16 (Kick true 0)) (reply 9 c0) (vm ++ vc 0 1 0 0 8 ++ vc 1 0 0 0 0 ++ en 3) })
     -- P10
     ∷ (record { settings = two; start = anew; calls = ready 0 ∷ replicate 9 (pause 0); expected = gives (handled 16 Quiet) (reply 9 c16) (vm ++ vc 0 1 0 0 8 ++ vc 1 0 0 0 0 ++ en 3) })
     -- P11

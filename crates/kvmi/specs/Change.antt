@@ -75,18 +75,18 @@ appliedRun m guest r = record { model = withTables m (withPages (m .tables) (r .
 -- message's data
 unfoldable pub apply : Model → List ℕ → List ℕ → Change → Applied
 apply m guest d Nothing = applied m guest
-apply m guest d (SetVmEvent event on) = applied (withTables m (withVmEvents (m .tables) (putBit (m .tables .events) event on))) guest
+apply m guest d (SetVmEvent on event) = applied (withTables m (withVmEvents (m .tables) (putBit (m .tables .events) event on))) guest
 apply m guest d (WritePhysical gpa) = applied m (store guest gpa (drop 16 d))
-apply m guest d (QueuePause vcpu wait) = applied (onVcpu m vcpu (λ v. withPauses v (v .pauses + 1))) guest
-apply m guest d (SetVcpuEvent vcpu event on) = applied (onVcpu m vcpu (λ v. withEvents v (putBit (v .events) event on))) guest
-apply m guest d (SetCr vcpu cr on) = applied (onVcpu m vcpu (λ v. withCrs v (putBit (v .crs) (crBit cr) on))) guest
-apply m guest d (SetMsr vcpu msr on) =
+apply m guest d (QueuePause wait vcpu) = applied (onVcpu m vcpu (λ v. withPauses v (v .pauses + 1))) guest
+apply m guest d (SetVcpuEvent on vcpu event) = applied (onVcpu m vcpu (λ v. withEvents v (putBit (v .events) event on))) guest
+apply m guest d (SetCr on vcpu cr) = applied (onVcpu m vcpu (λ v. withCrs v (putBit (v .crs) (crBit cr) on))) guest
+apply m guest d (SetMsr on vcpu msr) =
     applied (withTables m (withMsrs (m .tables) (setMsr (record { vcpu = vcpu; msr = msr }) on (m .tables .msrs)))) guest
 apply m guest d (SetPages view count) =
     appliedRun m guest (takeEntries pageLimit view (entriesOf count (drop 8 d)) (record { pages = m .tables .pages; skipped = false }))
-apply m guest d (SetSinglestep vcpu on) = applied (onVcpu m vcpu (λ v. withSinglestep v on)) guest
-apply m guest d (SetReplies mode now) = applied (withMode m mode) guest
-apply m guest d (EndWait vcpu crash) = applied (setAwaited m vcpu none) guest
+apply m guest d (SetSinglestep on vcpu) = applied (onVcpu m vcpu (λ v. withSinglestep v on)) guest
+apply m guest d (SetReplies now mode) = applied (withMode m mode) guest
+apply m guest d (EndWait crash vcpu) = applied (setAwaited m vcpu none) guest
 
 -- ---- what else a change decides
 -- "A crash is signalled; the session stays open."
@@ -97,27 +97,27 @@ crashing vcpu false = Quiet
 -- "signal: none, kick(vCPU, wait), crash(vCPU)": a kick for message 9
 abbrev pub signalOf : Change → Signal
 signalOf Nothing = Quiet
-signalOf (SetVmEvent event on) = Quiet
+signalOf (SetVmEvent on event) = Quiet
 signalOf (WritePhysical gpa) = Quiet
-signalOf (QueuePause vcpu wait) = Kick vcpu wait
-signalOf (SetVcpuEvent vcpu event on) = Quiet
-signalOf (SetCr vcpu cr on) = Quiet
-signalOf (SetMsr vcpu msr on) = Quiet
+signalOf (QueuePause wait vcpu) = Kick wait vcpu
+signalOf (SetVcpuEvent on vcpu event) = Quiet
+signalOf (SetCr on vcpu cr) = Quiet
+signalOf (SetMsr on vcpu msr) = Quiet
 signalOf (SetPages view count) = Quiet
-signalOf (SetSinglestep vcpu on) = Quiet
-signalOf (SetReplies mode now) = Quiet
-signalOf (EndWait vcpu crash) = crashing vcpu crash
+signalOf (SetSinglestep on vcpu) = Quiet
+signalOf (SetReplies now mode) = Quiet
+signalOf (EndWait crash vcpu) = crashing vcpu crash
 
 -- the mode by which a message is answered: "message 15 with now 1 applies to its own reply, with now 0 from the next message"
 abbrev pub modeFor : ReplyMode → Change → ReplyMode
 modeFor old Nothing = old
-modeFor old (SetVmEvent event on) = old
+modeFor old (SetVmEvent on event) = old
 modeFor old (WritePhysical gpa) = old
-modeFor old (QueuePause vcpu wait) = old
-modeFor old (SetVcpuEvent vcpu event on) = old
-modeFor old (SetCr vcpu cr on) = old
-modeFor old (SetMsr vcpu msr on) = old
+modeFor old (QueuePause wait vcpu) = old
+modeFor old (SetVcpuEvent on vcpu event) = old
+modeFor old (SetCr on vcpu cr) = old
+modeFor old (SetMsr on vcpu msr) = old
 modeFor old (SetPages view count) = old
-modeFor old (SetSinglestep vcpu on) = old
-modeFor old (SetReplies mode now) = cond now mode old
-modeFor old (EndWait vcpu crash) = old
+modeFor old (SetSinglestep on vcpu) = old
+modeFor old (SetReplies now mode) = cond now mode old
+modeFor old (EndWait crash vcpu) = old

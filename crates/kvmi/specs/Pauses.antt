@@ -15,7 +15,7 @@ use Rattle.kvmi.specs.Call.{Call, message, ready, enter, writeImage, ste
 -- a pause of a vCPU is accepted where its kick is signalled
 abbrev pub kicks : ℕ → Signal → ℕ
 kicks vcpu Quiet = 0
-kicks vcpu (Kick v wait) = bit (eqb v vcpu)
+kicks vcpu (Kick wait v) = bit (eqb v vcpu)
 kicks vcpu (Crash v) = 0
 
 -- by a call's answer

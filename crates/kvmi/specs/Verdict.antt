@@ -107,15 +107,15 @@ modeOf false false = Off
 -- 5, 10, 11, 12 and 14 set a switch to enable, 9 adds a pause, 7 writes its bytes, 13 its entries, 15 the reply mode; the others change nothing
 unfoldable pub changeOf : ℕ → List ℕ → Change
 changeOf id d =
-    cond (eqb id 5) (SetVmEvent (eventOf id d) (enables id d))
+    cond (eqb id 5) (SetVmEvent (enables id d) (eventOf id d))
     (cond (eqb id 7) (WritePhysical (gpaOf d))
-    (cond (eqb id 9) (QueuePause (vcpuOf d) (enables id d))
-    (cond (eqb id 10) (SetVcpuEvent (vcpuOf d) (eventOf id d) (enables id d))
-    (cond (eqb id 11) (SetCr (vcpuOf d) (registerOf d) (enables id d))
-    (cond (eqb id 12) (SetMsr (vcpuOf d) (registerOf d) (enables id d))
+    (cond (eqb id 9) (QueuePause (enables id d) (vcpuOf d))
+    (cond (eqb id 10) (SetVcpuEvent (enables id d) (vcpuOf d) (eventOf id d))
+    (cond (eqb id 11) (SetCr (enables id d) (vcpuOf d) (registerOf d))
+    (cond (eqb id 12) (SetMsr (enables id d) (vcpuOf d) (registerOf d))
     (cond (eqb id 13) (SetPages (viewOf d) (countOf d))
-    (cond (eqb id 14) (SetSinglestep (vcpuOf d) (enables id d))
-    (cond (eqb id 15) (SetReplies (modeOf (enables id d) (hasFlag d)) (isNow d))
+    (cond (eqb id 14) (SetSinglestep (enables id d) (vcpuOf d))
+    (cond (eqb id 15) (SetReplies (isNow d) (modeOf (enables id d) (hasFlag d)))
     Nothing))))))))
 
 -- test 5, its second sentence: "enable 0 and flag bit 0 set while event 13 is not allowed"
@@ -142,7 +142,7 @@ isAwaited f seq event = not (eqb (f .awaited) 0) && eqb (f .seq) seq && eqb (f .
 unfoldable pub eventReplyVerdict : Facts → ℕ → List ℕ → Verdict
 eventReplyVerdict f seq d =
     cond (eqb (firstPadding 16 d) 0 && isAwaited f seq (repliedEvent d) && among (actionOf d) (0 ∷ 2 ∷ []))
-    (Does (EndWait (vcpuOf d) (eqb (actionOf d) 2)))
+    (Does (EndWait (eqb (actionOf d) 2) (vcpuOf d)))
     Closes
 
 -- ---- tests 2 to 6

@@ -28,10 +28,11 @@ pub enum ReplyMode {
     ErrorsOnly,
 }
 
-// What the host is to do beside sending the bytes.
+// What the host is to do beside sending the bytes. In it, and in `Change`, the fields of every variant stand in one order: a flag, then
+// 16, 32 and 64 bits. So a place in memory has one width whatever the variant, and the compiler keeps all of it in registers.
 pub enum Signal {
     Quiet,
-    Kick { vcpu: u16, wait: bool },
+    Kick { wait: bool, vcpu: u16 },
     Crash { vcpu: u16 },
 }
 
@@ -108,20 +109,19 @@ pub struct Facts {
     pub seq: u64,
 }
 
-// What a message that passes all tests changes.
+// What a message that passes all tests changes. The fields are in the order that stands at `Signal`.
 pub enum Change {
     Nothing,
-    SetVmEvent { event: u16, on: bool },
+    SetVmEvent { on: bool, event: u16 },
     WritePhysical { gpa: u64 },
-    QueuePause { vcpu: u16, wait: bool },
-    // The event has the width of a register's number below, so that all three lie alike in memory.
-    SetVcpuEvent { vcpu: u16, event: u32, on: bool },
-    SetCr { vcpu: u16, cr: u32, on: bool },
-    SetMsr { vcpu: u16, msr: u32, on: bool },
+    QueuePause { wait: bool, vcpu: u16 },
+    SetVcpuEvent { on: bool, vcpu: u16, event: u32 },
+    SetCr { on: bool, vcpu: u16, cr: u32 },
+    SetMsr { on: bool, vcpu: u16, msr: u32 },
     SetPages { view: u16, count: u16 },
-    SetSinglestep { vcpu: u16, on: bool },
-    SetReplies { mode: ReplyMode, now: bool },
-    EndWait { vcpu: u16, crash: bool },
+    SetSinglestep { on: bool, vcpu: u16 },
+    SetReplies { now: bool, mode: ReplyMode },
+    EndWait { crash: bool, vcpu: u16 },
 }
 
 // What the tests say of a message: it closes the session, it fails with an error code, or it makes one change.

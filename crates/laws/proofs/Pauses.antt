@@ -74,7 +74,7 @@ module _ (s : Settings) (vcpu : ℕ) where
   abbrev Even : Model → List ℕ → List ℕ → Change → Type 0
   Even m guest d c = queued vcpu m + kicks vcpu (signalOf c) ≡ queued vcpu (apply m guest d c .model)
 
-  pause-even : (m : Model) (guest d : List ℕ) → Valid s (m .tables) → Passed s (factsOf m (length guest) (vcpuOf d)) 9 d → Even m guest d (QueuePause (vcpuOf d) (enables 9 d))
+  pause-even : (m : Model) (guest d : List ℕ) → Valid s (m .tables) → Passed s (factsOf m (length guest) (vcpuOf d)) 9 d → Even m guest d (QueuePause (enables 9 d) (vcpuOf d))
   unfolding apply queued namesVcpu
   pause-even m guest d a p =
       let i = vcpuOf d in
@@ -101,7 +101,7 @@ module _ (s : Settings) (vcpu : ℕ) where
       (λ _. pick (Even m guest d) (eqb id 14) _ _ (λ _. keep _ refl)
       (λ _. pick (Even m guest d) (eqb id 15) _ _ (λ _. add-zero _) (λ _. add-zero _)))))))))
 
-  end-even : (m : Model) (guest d : List ℕ) (v : ℕ) (crash : Bool) → Even m guest d (EndWait v crash)
+  end-even : (m : Model) (guest d : List ℕ) (v : ℕ) (crash : Bool) → Even m guest d (EndWait crash v)
   unfolding apply queued
   end-even m guest d v true = add-zero _
   end-even m guest d v false = add-zero _

@@ -113,7 +113,7 @@ module _ (s : Settings) (ok : So (inRange s)) (m : Model) (a : Valid s (m .table
   unfolding isUnready
   is-ready id n h = not-false _ (and-false (namesVcpu id) _ h n)
 
-  vm-event-fine : (event : ℕ) (on : Bool) → So (isVmEvent event) → So (allowsEvent s event) → Fine (SetVmEvent event on)
+  vm-event-fine : (event : ℕ) (on : Bool) → So (isVmEvent event) → So (allowsEvent s event) → Fine (SetVmEvent on event)
   unfolding apply vmForm vmMay
   vm-event-fine event on h g =
       let small = vm-event-small event h in
@@ -130,7 +130,7 @@ module _ (s : Settings) (ok : So (inRange s)) (m : Model) (a : Valid s (m .table
         paFew = a .paFew;
       }
 
-  msrs-fine : (msr : ℕ) (on : Bool) → So (isMsr msr) → vcpuOf d < s .vcpus → vcpuAt (m .tables) (vcpuOf d) .ready ≡ true → Fine (SetMsr (vcpuOf d) msr on)
+  msrs-fine : (msr : ℕ) (on : Bool) → So (isMsr msr) → vcpuOf d < s .vcpus → vcpuAt (m .tables) (vcpuOf d) .ready ≡ true → Fine (SetMsr on (vcpuOf d) msr)
   unfolding apply setMsr msForm vmMay
   msrs-fine msr on h v r =
       let own : Msr = record { vcpu = vcpuOf d; msr = msr } in
@@ -181,18 +181,18 @@ module _ (s : Settings) (ok : So (inRange s)) (m : Model) (a : Valid s (m .table
   event-taken : (id : ℕ) → among id (3 ∷ 5 ∷ 10 ∷ []) ≡ true → isInvalid s id d ≡ false → So (takesEvent id (eventOf id d))
   event-taken id n h = not-false _ (and-false (among id (3 ∷ 5 ∷ 10 ∷ [])) _ (sound-of s id d h .event) n)
 
-  fine-5 : Passed s facts 5 d → Fine (SetVmEvent (eventOf 5 d) (enables 5 d))
+  fine-5 : Passed s facts 5 d → Fine (SetVmEvent (enables 5 d) (eventOf 5 d))
   unfolding takesEvent
   fine-5 p = vm-event-fine (eventOf 5 d) (enables 5 d) (event-taken 5 refl (p .valid)) (event-allowed 5 refl (p .allowed))
 
-  fine-9 : Passed s facts 9 d → Fine (QueuePause (vcpuOf d) (enables 9 d))
+  fine-9 : Passed s facts 9 d → Fine (QueuePause (enables 9 d) (vcpuOf d))
   unfolding apply namesVcpu isBusy
   fine-9 p =
       let r = is-ready 9 refl (p .ready) in
       let few = leb-false 8 (vcpuAt (m .tables) (vcpuOf d) .pauses) (p .free) in
       vcpu-fine _ (paused-good s (vcpuAt (m .tables) (vcpuOf d)) r few (not-false _ (p .pauses)) own-good) r
 
-  fine-10 : Passed s facts 10 d → Fine (SetVcpuEvent (vcpuOf d) (eventOf 10 d) (enables 10 d))
+  fine-10 : Passed s facts 10 d → Fine (SetVcpuEvent (enables 10 d) (vcpuOf d) (eventOf 10 d))
   unfolding apply namesVcpu takesEvent isUnsupported isBusy mayEnable
   fine-10 p =
       let event = eventOf 10 d in
@@ -202,13 +202,13 @@ module _ (s : Settings) (ok : So (inRange s)) (m : Model) (a : Valid s (m .table
       (ap not (and-false (enables 10 d) (uncatchable s event) (p .supported) on)) in
       vcpu-fine _ (event-good s (vcpuAt (m .tables) (vcpuOf d)) event (enables 10 d) r (event-taken 10 refl (p .valid)) may own-good) r
 
-  fine-11 : Passed s facts 11 d → Fine (SetCr (vcpuOf d) (registerOf d) (enables 11 d))
+  fine-11 : Passed s facts 11 d → Fine (SetCr (enables 11 d) (vcpuOf d) (registerOf d))
   unfolding apply namesVcpu
   fine-11 p =
       let r = is-ready 11 refl (p .ready) in
       vcpu-fine _ (cr-good s (vcpuAt (m .tables) (vcpuOf d)) (registerOf d) (enables 11 d) r own-good) r
 
-  fine-12 : Passed s facts 12 d → Fine (SetMsr (vcpuOf d) (registerOf d) (enables 12 d))
+  fine-12 : Passed s facts 12 d → Fine (SetMsr (enables 12 d) (vcpuOf d) (registerOf d))
   unfolding namesVcpu
   fine-12 p =
       let c = sound-of s 12 d (p .valid) in
@@ -219,7 +219,7 @@ module _ (s : Settings) (ok : So (inRange s)) (m : Model) (a : Valid s (m .table
       let c = sound-of s 13 d (p .valid) in
       pages-fine (viewOf d) (countOf d) (leb-false (s .views) (viewOf d) (c .view)) (and-r (countFits d) _ (not-false _ (c .entries)))
 
-  fine-14 : Passed s facts 14 d → Fine (SetSinglestep (vcpuOf d) (enables 14 d))
+  fine-14 : Passed s facts 14 d → Fine (SetSinglestep (enables 14 d) (vcpuOf d))
   unfolding apply namesVcpu isUnsupported
   fine-14 p =
       let r = is-ready 14 refl (p .ready) in

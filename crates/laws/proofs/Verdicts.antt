@@ -54,7 +54,7 @@ pub record Passed (s : Settings) (f : Facts) (id : ℕ) (d : List ℕ) : Type 0 
 
 -- a message closes, fails, or does its change
 pub verdict-cases : (P : Verdict → Type 0) (s : Settings) (f : Facts) (id seq : ℕ) (d : List ℕ) → P Closes → ((code : ℤ) → isError code ≡ true → P (Fails code))
-    → (Passed s f id d → P (Does (changeOf id d))) → (id ≡ 16 → P (Does (EndWait (vcpuOf d) (eqb (getD d 8 0) 2)))) → P (verdict s f id seq d)
+    → (Passed s f id d → P (Does (changeOf id d))) → (id ≡ 16 → P (Does (EndWait (eqb (getD d 8 0) 2) (vcpuOf d)))) → P (verdict s f id seq d)
 unfolding verdict commandVerdict eventReplyVerdict
 verdict-cases P s f id seq d closes fails does ends =
     let refused : (code : ℤ) → isError code ≡ true → P (refuse (f .mode) code) = λ code e. pick P (repliesOn (f .mode)) (Fails code) Closes (λ _. fails code e) (λ _. closes) in

@@ -69,7 +69,7 @@ module _ (st : State) (ok : So (inRange (st .session .settings))) (lives : st .s
 -- ---- message 11
 -- what its tests say, of n vCPUs and one vCPU's ready mark
 abbrev judgedBy : ℕ → ℕ → ℕ → Bool → Bool → Verdict
-judgedBy n vcpu cr on ready = cond (leb n vcpu || not (isCr cr)) (Fails EINVAL) (cond ready (Does (SetCr vcpu cr on)) (Fails EAGAIN))
+judgedBy n vcpu cr on ready = cond (leb n vcpu || not (isCr cr)) (Fails EINVAL) (cond ready (Does (SetCr on vcpu cr)) (Fails EAGAIN))
 
 and-no : (b : Bool) → (b && false) ≡ false
 and-no true = refl
@@ -112,8 +112,8 @@ module _ (vcpu cr : ℕ) (on : Bool) (v : vcpu < 2 ^ 16) (c : cr < 2 ^ 32) where
   cr-verdict s f seq a = rw (a, and-no, whole, clean, flags, vcpu-there, cr-there, on-there) (settled (leb (s .vcpus) vcpu) (not (isCr cr)) (f .ready))
     where
       settled : (a b r : Bool)
-          → cond (a || false || false || false || b || false || false || false || false) (Fails EINVAL) (cond (not r) (Fails EAGAIN) (Does (SetCr vcpu cr on)))
-          ≡ cond (a || b) (Fails EINVAL) (cond r (Does (SetCr vcpu cr on)) (Fails EAGAIN))
+          → cond (a || false || false || false || b || false || false || false || false) (Fails EINVAL) (cond (not r) (Fails EAGAIN) (Does (SetCr on vcpu cr)))
+          ≡ cond (a || b) (Fails EINVAL) (cond r (Does (SetCr on vcpu cr)) (Fails EAGAIN))
       settled true b r = refl
       settled false true r = refl
       settled false false true = refl

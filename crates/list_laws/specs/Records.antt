@@ -52,7 +52,7 @@ crMessage seq vcpu cr on = messageBytes 11 seq (registerData vcpu cr (bit on))
 -- what its tests say where the list's form gives an answer: 0 is the change; 4, and 14 for a CR that has no switch, are -22; 14 for a record that is
 -- not ready is -11
 unfoldable pub crVerdict : ℕ → ℕ → Bool → Paper → Verdict
-crVerdict vcpu cr on p = cond (eqb (p .number) 0) (Does (SetCr vcpu cr on)) (Fails (cond (eqb (p .number) 4 || not (isCr cr)) EINVAL EAGAIN))
+crVerdict vcpu cr on p = cond (eqb (p .number) 0) (Does (SetCr on vcpu cr)) (Fails (cond (eqb (p .number) 4 || not (isCr cr)) EINVAL EAGAIN))
 
 -- the message is judged as the list's form answers, and the records after it are those that the list's form leaves
 pub record CrAgrees (st : State) (seq vcpu cr : ℕ) (on : Bool) (out guest : List ℕ) : Type 0 where

@@ -100,7 +100,7 @@ module _ (st : State) (g : WordsGood st) (few : st .session .settings .vcpus ≤
         closed = modelOf st .closed;
       }
 
-  pub pause-meant : (v : ℕ) (wait : Bool) → v < count → field words v PAUSES < 8 → Meant (change st guest d (QueuePause v wait)) (apply (modelOf st) guest d (QueuePause v wait))
+  pub pause-meant : (v : ℕ) (wait : Bool) → v < count → field words v PAUSES < 8 → Meant (change st guest d (QueuePause wait v)) (apply (modelOf st) guest d (QueuePause wait v))
   unfolding change apply
   pause-meant v wait h p =
       let one : (field words v PAUSES + 1) % 2 ^ 64 ≡ field words v PAUSES + 1 = omega arith in
@@ -113,7 +113,7 @@ module _ (st : State) (g : WordsGood st) (few : st .session .settings .vcpus ≤
         words = field-kept st g few v h PAUSES (field words v PAUSES + 1) (omega arith) (λ e. absurd (omega arith));
       })
 
-  pub event-meant : (v event : ℕ) (on : Bool) → v < count → So (isVcpuEvent event) → Meant (change st guest d (SetVcpuEvent v event on)) (apply (modelOf st) guest d (SetVcpuEvent v event on))
+  pub event-meant : (v event : ℕ) (on : Bool) → v < count → So (isVcpuEvent event) → Meant (change st guest d (SetVcpuEvent on v event)) (apply (modelOf st) guest d (SetVcpuEvent on v event))
   unfolding change apply vcpuOfWords
   event-meant v event on h e =
       let small = vcpu-event-small event e in
@@ -127,7 +127,7 @@ module _ (st : State) (g : WordsGood st) (few : st .session .settings .vcpus ≤
         words = field-kept st g few v h EVENTS x (omega arith) (λ q. absurd (omega arith));
       })
 
-  pub cr-meant : (v cr : ℕ) (on : Bool) → v < count → Meant (change st guest d (SetCr v cr on)) (apply (modelOf st) guest d (SetCr v cr on))
+  pub cr-meant : (v cr : ℕ) (on : Bool) → v < count → Meant (change st guest d (SetCr on v cr)) (apply (modelOf st) guest d (SetCr on v cr))
   unfolding change apply vcpuOfWords
   cr-meant v cr on h =
       let x = putBit (field words v CRS) (crBit cr) on in
@@ -143,7 +143,7 @@ module _ (st : State) (g : WordsGood st) (few : st .session .settings .vcpus ≤
   bit-one true = omega arith
   bit-one false = omega arith
 
-  pub single-meant : (v : ℕ) (on : Bool) → v < count → Meant (change st guest d (SetSinglestep v on)) (apply (modelOf st) guest d (SetSinglestep v on))
+  pub single-meant : (v : ℕ) (on : Bool) → v < count → Meant (change st guest d (SetSinglestep on v)) (apply (modelOf st) guest d (SetSinglestep on v))
   unfolding change apply
   single-meant v on h =
       let l = block-inside st g few v h in
@@ -154,7 +154,7 @@ module _ (st : State) (g : WordsGood st) (few : st .session .settings .vcpus ≤
         words = field-kept st g few v h SINGLESTEP (bit on) (omega arith) (λ q. bit-one on);
       }
 
-  pub msr-meant : (v msr : ℕ) (on : Bool) → v < count → So (isMsr msr) → Meant (change st guest d (SetMsr v msr on)) (apply (modelOf st) guest d (SetMsr v msr on))
+  pub msr-meant : (v msr : ℕ) (on : Bool) → v < count → So (isMsr msr) → Meant (change st guest d (SetMsr on v msr)) (apply (modelOf st) guest d (SetMsr on v msr))
   unfolding change apply
   msr-meant v msr on h m =
       let l = block-inside st g few v h in
@@ -176,7 +176,7 @@ module _ (st : State) (g : WordsGood st) (few : st .session .settings .vcpus ≤
         words = msr-kept st g few v h msr on m;
       }
 
-  pub vm-event-meant : (event : ℕ) (on : Bool) → So (isVmEvent event) → Meant (change st guest d (SetVmEvent event on)) (apply (modelOf st) guest d (SetVmEvent event on))
+  pub vm-event-meant : (event : ℕ) (on : Bool) → So (isVmEvent event) → Meant (change st guest d (SetVmEvent on event)) (apply (modelOf st) guest d (SetVmEvent on event))
   unfolding change apply
   vm-event-meant event on e =
       let small = vm-event-small event e in
@@ -188,7 +188,7 @@ module _ (st : State) (g : WordsGood st) (few : st .session .settings .vcpus ≤
         words = tool-kept st g _ (st .pages) (g .pageWords) (g .closed) (g .mode) (g .pages);
       })
 
-  pub replies-meant : (mode : ReplyMode) (now : Bool) → Meant (change st guest d (SetReplies mode now)) (apply (modelOf st) guest d (SetReplies mode now))
+  pub replies-meant : (mode : ReplyMode) (now : Bool) → Meant (change st guest d (SetReplies now mode)) (apply (modelOf st) guest d (SetReplies now mode))
   unfolding change apply
   replies-meant mode now =
       record {
@@ -268,7 +268,7 @@ module _ (st : State) (g : WordsGood st) (few : st .session .settings .vcpus ≤
   zero-again v k h =
       ap (λ (x : ℕ). set words (v * 272 + k) x) (sym (field-past st g v k h)) ∙ set-getD words (v * 272 + k) 0
 
-  pub end-meant : (v : ℕ) (crash : Bool) → Meant (change st guest d (EndWait v crash)) (apply (modelOf st) guest d (EndWait v crash))
+  pub end-meant : (v : ℕ) (crash : Bool) → Meant (change st guest d (EndWait crash v)) (apply (modelOf st) guest d (EndWait crash v))
   unfolding change apply
   end-meant v crash =
       test (ltb v count)

@@ -88,26 +88,26 @@ module _ (st : State) (g : WordsGood st) (ok : So (inRange (st .session .setting
   taken : (id : ℕ) → among id (3 ∷ 5 ∷ 10 ∷ []) ≡ true → P id → So (takesEvent id (eventOf id d))
   taken id n p = not-false _ (and-false (among id (3 ∷ 5 ∷ 10 ∷ [])) _ (sound-of s id d (p .valid) .event) n)
 
-  meant-5 : P 5 → M (SetVmEvent (eventOf 5 d) (enables 5 d))
+  meant-5 : P 5 → M (SetVmEvent (enables 5 d) (eventOf 5 d))
   unfolding takesEvent
   meant-5 p = vm-event-meant st g few guest d (eventOf 5 d) (enables 5 d) (taken 5 refl p)
 
-  meant-9 : P 9 → M (QueuePause (vcpuOf d) (enables 9 d))
+  meant-9 : P 9 → M (QueuePause (enables 9 d) (vcpuOf d))
   unfolding namesVcpu isBusy vcpuOfWords
   meant-9 p =
       let own = ap (λ (x : Vcpu). x .pauses) (vcpu-means st g (vcpuOf d)) in
       let room = leb-false 8 (vcpuAt (tablesOf st) (vcpuOf d) .pauses) (p .free) in
       pause-meant st g few guest d (vcpuOf d) (enables 9 d) (inside 9 refl p) (omega arith)
 
-  meant-10 : P 10 → M (SetVcpuEvent (vcpuOf d) (eventOf 10 d) (enables 10 d))
+  meant-10 : P 10 → M (SetVcpuEvent (enables 10 d) (vcpuOf d) (eventOf 10 d))
   unfolding namesVcpu takesEvent
   meant-10 p = event-meant st g few guest d (vcpuOf d) (eventOf 10 d) (enables 10 d) (inside 10 refl p) (taken 10 refl p)
 
-  meant-11 : P 11 → M (SetCr (vcpuOf d) (registerOf d) (enables 11 d))
+  meant-11 : P 11 → M (SetCr (enables 11 d) (vcpuOf d) (registerOf d))
   unfolding namesVcpu
   meant-11 p = cr-meant st g few guest d (vcpuOf d) (registerOf d) (enables 11 d) (inside 11 refl p)
 
-  meant-12 : P 12 → M (SetMsr (vcpuOf d) (registerOf d) (enables 12 d))
+  meant-12 : P 12 → M (SetMsr (enables 12 d) (vcpuOf d) (registerOf d))
   unfolding namesVcpu
   meant-12 p = msr-meant st g few guest d (vcpuOf d) (registerOf d) (enables 12 d) (inside 12 refl p) (not-false _ (sound-of s 12 d (p .valid) .msr))
 
@@ -118,7 +118,7 @@ module _ (st : State) (g : WordsGood st) (ok : So (inRange (st .session .setting
       let most = views in
       pages-meant st g few guest d (viewOf d) (countOf d) (omega arith) (and-r (countFits d) _ (not-false _ (c .entries)))
 
-  meant-14 : P 14 → M (SetSinglestep (vcpuOf d) (enables 14 d))
+  meant-14 : P 14 → M (SetSinglestep (enables 14 d) (vcpuOf d))
   unfolding namesVcpu
   meant-14 p = single-meant st g few guest d (vcpuOf d) (enables 14 d) (inside 14 refl p)
 
@@ -283,7 +283,7 @@ module _ (st : State) (f : WellFormed st) (out guest : List ℕ) where
       verdict-cases (λ v. S (judgedOf st id seq d out guest v) (model.judged cfg (modelOf st) id seq d out guest v)) cfg (factsOf (modelOf st) (length guest) (vcpuOf d)) id seq d
       (closes-simulates id seq d) (λ code e. fails-simulates id seq d long code e)
       (λ p. does-simulates id seq d long (changeOf id d) (data-fits id d p) (change-meant st (f .words) (f .settings) guest d id p))
-      (λ e. does-simulates id seq d long (EndWait (vcpuOf d) (eqb (getD d 8 0) 2)) (inr (λ q. omega arith))
+      (λ e. does-simulates id seq d long (EndWait (eqb (getD d 8 0) 2) (vcpuOf d)) (inr (λ q. omega arith))
       (end-meant st (f .words) (few-vcpus cfg (f .settings)) guest d (vcpuOf d) (eqb (getD d 8 0) 2)))
 
   headed-simulates : (d : List ℕ) → 4112 ≤ length out → (h : Header) → S (headedOf st d out guest h) (model.headed cfg (modelOf st) d out guest h)

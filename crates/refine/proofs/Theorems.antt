@@ -123,7 +123,7 @@ module _ (st : State) (guest d : List ℕ) (i : ℕ) (other : i ≢ vcpuOf d) wh
       (λ _. pick Apart (eqb id 14) _ _ (λ _. one-field SINGLESTEP _ (omega arith))
       (λ _. pick Apart (eqb id 15) _ _ (λ _. refl) (λ _. refl)))))))))
 
-  end-apart : (crash : Bool) → Apart (EndWait (vcpuOf d) crash)
+  end-apart : (crash : Bool) → Apart (EndWait crash (vcpuOf d))
   unfolding change
   end-apart crash = field-block (setField (st .vcpus) (vcpuOf d) AWAITED 0) (vcpuOf d) AWAITED-SEQ 0 i (omega arith) other ∙ one-field AWAITED 0 (omega arith)
 
@@ -133,22 +133,22 @@ module _ (st : State) (guest d : List ℕ) (i : ℕ) (other : i ≢ vcpuOf d) wh
   ready-kept-by : (c : Change) → change st guest d c .state .session .ready ≡ st .session .ready
   unfolding change
   ready-kept-by Nothing = refl
-  ready-kept-by (SetVmEvent event on) = refl
+  ready-kept-by (SetVmEvent on event) = refl
   ready-kept-by (WritePhysical gpa) = refl
-  ready-kept-by (QueuePause vcpu wait) = refl
-  ready-kept-by (SetVcpuEvent vcpu event on) = refl
-  ready-kept-by (SetCr vcpu cr on) = refl
-  ready-kept-by (SetMsr vcpu msr on) = refl
+  ready-kept-by (QueuePause wait vcpu) = refl
+  ready-kept-by (SetVcpuEvent on vcpu event) = refl
+  ready-kept-by (SetCr on vcpu cr) = refl
+  ready-kept-by (SetMsr on vcpu msr) = refl
   ready-kept-by (SetPages view count) = refl
-  ready-kept-by (SetSinglestep vcpu on) = refl
-  ready-kept-by (SetReplies mode now) = refl
-  ready-kept-by (EndWait vcpu crash) = refl
+  ready-kept-by (SetSinglestep on vcpu) = refl
+  ready-kept-by (SetReplies now mode) = refl
+  ready-kept-by (EndWait crash vcpu) = refl
 
   judged-apart : (id seq : ℕ) (out : List ℕ) (f : Facts) → Spares (judgedOf st id seq d out guest (verdict (st .session .settings) f id seq d))
   unfolding judgedOf answering
   judged-apart id seq out f =
       verdict-cases (λ v. Spares (judgedOf st id seq d out guest v)) (st .session .settings) f id seq d (λ h. absurd (h refl)) (λ code _ _. (refl, refl))
-      (λ p _. (change-apart id f p, ready-kept-by (changeOf id d))) (λ _ _. (end-apart (eqb (getD d 8 0) 2), ready-kept-by (EndWait (vcpuOf d) (eqb (getD d 8 0) 2))))
+      (λ p _. (change-apart id f p, ready-kept-by (changeOf id d))) (λ _ _. (end-apart (eqb (getD d 8 0) 2), ready-kept-by (EndWait (eqb (getD d 8 0) 2) (vcpuOf d))))
 
 pub message-apart : (st : State) (msg out guest : List ℕ) (i : ℕ) → i ≢ vcpuOf (drop 8 msg) → (messageOf st msg out guest .answer .number ≡ 1 → ⊥)
     → (block (messageOf st msg out guest .state .vcpus) i ≡ block (st .vcpus) i) × (messageOf st msg out guest .state .session .ready ≡ st .session .ready)

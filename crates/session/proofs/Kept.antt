@@ -21,16 +21,16 @@ use Rattle.session.specs.Calls.{Told, answering, judgedOf, headedOf, mes
 pub change-keeps : (st : State) (guest d : List ℕ) (c : Change) → change st guest d c .state .session .settings ≡ st .session .settings
 unfolding change
 change-keeps st guest d Nothing = refl
-change-keeps st guest d (SetVmEvent event on) = refl
+change-keeps st guest d (SetVmEvent on event) = refl
 change-keeps st guest d (WritePhysical gpa) = refl
-change-keeps st guest d (QueuePause vcpu wait) = refl
-change-keeps st guest d (SetVcpuEvent vcpu event on) = refl
-change-keeps st guest d (SetCr vcpu cr on) = refl
-change-keeps st guest d (SetMsr vcpu msr on) = refl
+change-keeps st guest d (QueuePause wait vcpu) = refl
+change-keeps st guest d (SetVcpuEvent on vcpu event) = refl
+change-keeps st guest d (SetCr on vcpu cr) = refl
+change-keeps st guest d (SetMsr on vcpu msr) = refl
 change-keeps st guest d (SetPages view count) = refl
-change-keeps st guest d (SetSinglestep vcpu on) = refl
-change-keeps st guest d (SetReplies mode now) = refl
-change-keeps st guest d (EndWait vcpu crash) = refl
+change-keeps st guest d (SetSinglestep on vcpu) = refl
+change-keeps st guest d (SetReplies now mode) = refl
+change-keeps st guest d (EndWait crash vcpu) = refl
 
 pub record Keeps (st : State) (t : Told) : Type 0 where
   pub settings : t .state .session .settings ≡ st .session .settings

@@ -8,28 +8,27 @@ use lib.IntN.{ℤ}
 use lib.ListN.{length, take, drop, length-drop, drop-of-length-le}
 use lib.Seq.{take-all}
 use borrow.Author.Tests.{eq-eqb, le-leb}
-use Rattle.wire.specs.Bytes.{load}
 use Rattle.wire.proofs.Laws.{le-or-lt}
 use Rattle.kvmi.specs.declared.Change.{Change}
-use Rattle.kvmi.specs.declared.Facts.{Facts}
 use Rattle.kvmi.specs.declared.ReplyMode.{ReplyMode}
 use Rattle.kvmi.specs.declared.Signal.{Signal}
 use Rattle.kvmi.specs.declared.Signal.the-variants.{Quiet}
 use Rattle.kvmi.specs.declared.Verdict.{Verdict}
 use Rattle.kvmi.specs.declared.Verdict.the-variants.{Closes, Fails, Does}
-use Rattle.kvmi.specs.Message.{vcpuOf, layoutOf}
+use Rattle.kvmi.specs.Message.{layoutOf}
 use Rattle.kvmi.specs.Verdict.{verdict}
 use Rattle.kvmi.specs.declared.Answer.the-variants.{Handled}
 use Rattle.kvmi.specs.Model.{nextSeq}
 use Rattle.kvmi.specs.Reply.{pauseEvent, answerOf, replyData}
 use Rattle.store.specs.Words.{field, setField, PAUSES, AWAITED, AWAITED-SEQ}
+use Rattle.verdict.specs.Handlers.{factsFor}
 use Rattle.reply.specs.Written.{Written}
 use Rattle.session.specs.declared.Done.{Done}
 use Rattle.session.specs.declared.Effect.{Effect}
 use Rattle.session.specs.declared.Session.{Session}
-use Rattle.session.specs.State.{State, state, modeOfNumber, factsIn, Changed, change, withTool, withToolSeq}
+use Rattle.session.specs.State.{State, state, modeOfNumber, Changed, change, withTool, withToolSeq}
 use Rattle.session.specs.Calls.{Told, told, toldClosing, answering, judgedOf, pausingOf}
-use Rattle.session.specs.Code.{Applied, applied, after, effect, PagesChanged, answeredBy, handledOf, enteredOf}
+use Rattle.session.specs.Code.{Applied, applied, askedOf, after, effect, PagesChanged, answeredBy, handledOf, enteredOf}
 
 -- ---- parts of a list
 
@@ -62,14 +61,14 @@ answered-as s e v p d out written guest id seq count r wrote eq = rw eq (simp (w
 
 -- ---- a message by its verdict
 
-module _ (st : State) (id seq : ℕ) (d out guest : List ℕ) (n : ℕ) (f : Facts) (v : Verdict) (e : n ≡ load 2 d 0)
-    (g : f ≡ factsIn st (length guest) n) (h : v ≡ verdict (st .session .settings) f id seq d)
+module _ (st : State) (id seq : ℕ) (d out guest : List ℕ) (m : ReplyMode) (v : Verdict) (j : m ≡ modeOfNumber (st .session .tool .mode))
+    (h : v ≡ verdict (st .session .settings) (factsFor (askedOf (st .session) m (length guest)) (st .vcpus) d) id seq d)
   where
     judged-as : judgedOf st id seq d out guest v ≡ handledOf st id seq d out guest
-    unfolding handledOf vcpuOf
+    unfolding handledOf
     judged-as = ap
         (λ (x : Verdict). judgedOf st id seq d out guest x)
-        (h ∙ ap (λ (x : Facts). verdict (st .session .settings) x id seq d) (g ∙ ap (λ (k : ℕ). factsIn st (length guest) k) e))
+        (h ∙ ap (λ (x : ReplyMode). verdict (st .session .settings) (factsFor (askedOf (st .session) x (length guest)) (st .vcpus) d) id seq d) j)
 
     pub closes-as : v ≡ Closes → toldClosing st out guest ≡ handledOf st id seq d out guest
     unfolding judgedOf
@@ -79,20 +78,19 @@ module _ (st : State) (id seq : ℕ) (d out guest : List ℕ) (n : ℕ) (f : Fac
     abbrev pub answered-by : Applied → Told
     answered-by x = answering (x .mode) id seq (x .changed .code) d (x .signal) out (x .changed .guest) (x .changed .state)
 
-    pub fails-as : (code : ℤ) (m : ReplyMode) (x : Applied) → v ≡ Fails code → m ≡ modeOfNumber (st .session .tool .mode)
+    pub fails-as : (code : ℤ) (x : Applied) → v ≡ Fails code
         → x ≡ record { changed = record { state = st; guest = guest; code = code }; mode = m; signal = Quiet }
         → answered-by x ≡ handledOf st id seq d out guest
     unfolding judgedOf
-    fails-as code m x i j k =
+    fails-as code x i k =
         ap answered-by k
         ∙ ap (λ (y : ReplyMode). answering y id seq code d Quiet out guest st) j
         ∙ ap (λ (y : Verdict). judgedOf st id seq d out guest y) (sym i)
         ∙ judged-as
 
-    pub does-as : (c : Change) (m : ReplyMode) (x : Applied) → v ≡ Does c → m ≡ modeOfNumber (st .session .tool .mode)
-        → x ≡ applied st m guest d c → answered-by x ≡ handledOf st id seq d out guest
+    pub does-as : (c : Change) (x : Applied) → v ≡ Does c → x ≡ applied st m guest d c → answered-by x ≡ handledOf st id seq d out guest
     unfolding judgedOf
-    does-as c m x i j k =
+    does-as c x i k =
         ap answered-by k
         ∙ ap (λ (y : ReplyMode). answered-by (applied st y guest d c)) j
         ∙ ap (λ (y : Verdict). judgedOf st id seq d out guest y) (sym i)

@@ -17,6 +17,7 @@ use Rattle.kvmi.specs.Limits.{pageLimit}
 use Rattle.kvmi.specs.Change.{signalOf, modeFor}
 use Rattle.kvmi.specs.Reply.{answerSeq}
 use Rattle.store.specs.Words.{field, PAUSES, AWAITED}
+use Rattle.verdict.specs.declared.Asked.{Asked}
 use Rattle.page_words.specs.PageWords.{PageTable, runEntries}
 use Rattle.session.specs.declared.Done.{Done}
 use Rattle.session.specs.declared.Effect.{Effect}
@@ -68,6 +69,10 @@ unfoldable pub pagesSet : Tool → ReplyMode → List ℕ → ℕ → ℕ → Li
 pagesSet t mode pages view count d = pagesTaken t mode (runEntries pageLimit view (entriesOf count (drop 8 d)) pages (t .pages))
 
 -- ---- parts of the calls
+-- what the tests ask of a session
+abbrev pub askedOf : Session → ReplyMode → ℕ → Asked
+askedOf s mode guest = record { settings = s .settings; mode = mode; guest = guest; ready = s .ready }
+
 abbrev pub answeredBy : Session → Effect → ℕ → Done
 answeredBy s e count =
     record { answer = Handled count (e .signal); session = withTool s (withToolSeq (e .tool) (answerSeq (e .mode) (e .tool .seq) (e .code))) }

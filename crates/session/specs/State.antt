@@ -116,16 +116,16 @@ changedPages st guest t =
 
 unfoldable pub change : State → List ℕ → List ℕ → Change → Changed
 change st guest d Nothing = changed st guest
-change st guest d (SetVmEvent event on) =
+change st guest d (SetVmEvent on event) =
     changed (state (withTool (st .session) (withToolEvents (st .session .tool) (putBit64 (st .session .tool .events) event on))) (st .vcpus) (st .pages)) guest
 change st guest d (WritePhysical gpa) = changed st (store guest gpa (drop 16 d))
-change st guest d (QueuePause vcpu wait) = changed (withField st vcpu PAUSES ((field (st .vcpus) vcpu PAUSES + 1) % 2 ^ 64)) guest
-change st guest d (SetVcpuEvent vcpu event on) = changed (withField st vcpu EVENTS (putBit64 (field (st .vcpus) vcpu EVENTS) event on)) guest
-change st guest d (SetCr vcpu cr on) = changed (withField st vcpu CRS (putBit (field (st .vcpus) vcpu CRS) (crBit cr) on)) guest
-change st guest d (SetMsr vcpu msr on) = changed (withVcpuWords st (setMsrBit (st .vcpus) vcpu msr on)) guest
+change st guest d (QueuePause wait vcpu) = changed (withField st vcpu PAUSES ((field (st .vcpus) vcpu PAUSES + 1) % 2 ^ 64)) guest
+change st guest d (SetVcpuEvent on vcpu event) = changed (withField st vcpu EVENTS (putBit64 (field (st .vcpus) vcpu EVENTS) event on)) guest
+change st guest d (SetCr on vcpu cr) = changed (withField st vcpu CRS (putBit (field (st .vcpus) vcpu CRS) (crBit cr) on)) guest
+change st guest d (SetMsr on vcpu msr) = changed (withVcpuWords st (setMsrBit (st .vcpus) vcpu msr on)) guest
 change st guest d (SetPages view count) =
     changedPages st guest (runEntries pageLimit view (entriesOf count (drop 8 d)) (st .pages) (st .session .tool .pages))
-change st guest d (SetSinglestep vcpu on) = changed (withField st vcpu SINGLESTEP (bit on)) guest
-change st guest d (SetReplies mode now) =
+change st guest d (SetSinglestep on vcpu) = changed (withField st vcpu SINGLESTEP (bit on)) guest
+change st guest d (SetReplies now mode) =
     changed (state (withTool (st .session) (withToolMode (st .session .tool) (numberOfMode mode))) (st .vcpus) (st .pages)) guest
-change st guest d (EndWait vcpu crash) = changed (withField (withField st vcpu AWAITED 0) vcpu AWAITED-SEQ 0) guest
+change st guest d (EndWait crash vcpu) = changed (withField (withField st vcpu AWAITED 0) vcpu AWAITED-SEQ 0) guest

@@ -2,11 +2,11 @@
 // keeps; its tables are words that the host lends with each call.
 use kvmi::Answer;
 use kvmi::Change;
-use kvmi::Facts;
 use kvmi::ReplyMode;
 use kvmi::Settings;
 use kvmi::Signal;
 use kvmi::Verdict;
+use verdict::Asked;
 use wire::Header;
 ghost use mathlib.Core.Path.{_≡_};
 ghost use mathlib.Core.List.{List, []};
@@ -19,7 +19,7 @@ ghost use Rattle.reply.specs.Written.{Written};
 ghost use Rattle.kvmi.specs.Settings.{inRange};
 ghost use Rattle.kvmi.specs.Verdict.{verdict};
 ghost use Rattle.store.specs.Words.{field, setField, PAUSES, AWAITED, AWAITED-SEQ};
-ghost use Rattle.session.specs.State.{state, freshSession, closedSession, withTool, withToolEvents, withToolMode, withToolSeq, withToolPages, withReadyBits, modeOfNumber, numberOfMode, factsIn};
+ghost use Rattle.session.specs.State.{state, freshSession, closedSession, withTool, withToolEvents, withToolMode, withToolSeq, withToolPages, withReadyBits, modeOfNumber, numberOfMode};
 ghost use Rattle.session.specs.Calls.{told, toldClosing, freshOf, judgedOf, messageOf, readyOf, pausingOf, enterOf};
 ghost use Rattle.session.specs.Code.{applied, effect, cleanEffect, codeEffect, pagesEffect, pagesSet, answeredBy, handledOf, enteredOf, countsFit};
 
@@ -170,21 +170,6 @@ fn mode_number(mode: ReplyMode) -> u32
         ReplyMode::On => 0,
         ReplyMode::Off => 1,
         ReplyMode::ErrorsOnly => 2,
-    }
-}
-
-// What the tests of a message ask, for the vCPU that it names.
-fn facts_of(s: Session, vcpus: &[u64], guest: usize, vcpu: u16) -> Facts
-    ensures { λ r. ⌜ r ≡ factsIn (state s (now (vcpus .entry)) []) guest vcpu ⌝ }
-{
-    let pending = store::words::read_pending(vcpus, vcpu);
-    Facts {
-        mode: mode_of(s.tool.mode),
-        guest,
-        ready: store::bits::bit_on(s.ready, vcpu as u32),
-        pauses: pending.pauses,
-        awaited: pending.awaited,
-        seq: pending.seq,
     }
 }
 
@@ -352,11 +337,15 @@ fn handle(
 ) -> Done
     ensures { λ r. ⌜ told r (now (vcpus .exit)) (now (pages .exit)) (now (out .exit)) (now (guest .exit)) ≡ handledOf (state s (now (vcpus .entry)) (now (pages .entry))) id seq (now (d .entry)) (now (out .entry)) (now (guest .entry)) ⌝ }
 {
-    let vcpu = wire::load16(d, 0);
-    let facts = facts_of(s, vcpus, guest.len(), vcpu);
     let settings = s.settings;
     let mode = mode_of(s.tool.mode);
-    let v = verdict::judge(settings, facts, id, seq, d);
+    let asked = Asked {
+        settings,
+        mode,
+        guest: guest.len(),
+        ready: s.ready,
+    };
+    let v = verdict::judge(asked, vcpus, id, seq, d);
     let e = match v {
         Verdict::Closes => return close(s, vcpus, pages),
         Verdict::Fails(code) => failing(s.tool, mode, code),

@@ -2,7 +2,7 @@
 use mathlib.Core.Path.{_≡_, refl, ap, sym, _∙_}
 use mathlib.Core.Logic.{⊎-elim}
 use mathlib.Core.List.{List}
-use mathlib.Core.Bool.{Bool, true, So, cond, not, _&&_}
+use mathlib.Core.Bool.{Bool, true, false, So, cond, not, _&&_}
 use Prim.Native.Nat.{ℕ, zero, suc, _≤_, _<_}
 use native.Mathlib.Omega.{arith}
 use lib.Dec.{leb, eqb}
@@ -13,17 +13,18 @@ use Rattle.wire.proofs.Laws.{le-or-lt}
 use Rattle.kvmi.specs.declared.Settings.{Settings}
 use Rattle.kvmi.specs.declared.Facts.{Facts}
 use Rattle.kvmi.specs.declared.Handler.{Handler}
+use Rattle.kvmi.specs.declared.Handler.the-variants.{Unknown}
 use Rattle.kvmi.specs.declared.Layout.{Layout}
 use Rattle.kvmi.specs.declared.SizeRule.the-variants.{Exactly}
 use Rattle.kvmi.specs.declared.Change.the-variants.{Nothing}
 use Rattle.kvmi.specs.declared.Verdict.{Verdict}
-use Rattle.kvmi.specs.declared.Verdict.the-variants.{Closes, Does}
-use Rattle.kvmi.specs.Codes.{EPERM, ENOSYS}
+use Rattle.kvmi.specs.declared.Verdict.the-variants.{Does}
 use Rattle.kvmi.specs.Settings.{allowsCommand}
 use Rattle.kvmi.specs.Message.{sizeFits, carriesData, layoutOf, messages, unknown, namesVcpu, switchesAt, firstPadding, padding, firstOfRuns}
-use Rattle.kvmi.specs.Verdict.{repliesOn, refuse, verdict, commandVerdict, isInvalid, isUnready, isDenied, isUnsupported, isBusy, isAbsent, losesErrors, changeOf}
+use Rattle.kvmi.specs.Verdict.{repliesOn, verdict, commandVerdict, isInvalid, isUnready, isDenied, isUnsupported, isBusy, isAbsent, losesErrors, changeOf}
 use Rattle.laws.proofs.Bool.{test, and-l, and-r}
-use Rattle.verdict.specs.Handlers.{idOf, isKnown, handled}
+use Rattle.verdict.specs.Handlers.{idOf, isKnown, handled, factsFor, passesRow, refusal}
+use Rattle.verdict.specs.declared.Asked.{Asked}
 
 -- what a test says of each number below a bound
 abbrev allBelow : (ℕ → Bool) → ℕ → Bool
@@ -50,14 +51,14 @@ unfolding layoutOf
 past id h = List·getD-eq-default messages unknown {n = id} h
 
 -- a row's handler is its message's, and past the table there is none
-pub row-id : (id : ℕ) → idOf (layoutOf id .handler) ≡ cond (leb 1 id && leb id 16) id 0
+row-id : (id : ℕ) → idOf (layoutOf id .handler) ≡ cond (leb 1 id && leb id 16) id 0
 row-id id =
     ⊎-elim
     (λ h. rw (ap (λ l. idOf (l .handler)) (past id h), lt-leb id 16 h, le-leb 1 id (omega arith)))
     (λ h. eqb-true _ _ (below rightRow 17 id right-rows h))
     (le-or-lt 17 id)
 
-pub row-known : (id : ℕ) → isKnown (layoutOf id .handler) ≡ (leb 1 id && leb id 16)
+row-known : (id : ℕ) → isKnown (layoutOf id .handler) ≡ (leb 1 id && leb id 16)
 row-known id =
     rw (row-id id)
     (test (leb 1 id && leb id 16)
@@ -65,27 +66,28 @@ row-known id =
     (λ e. rw e))
 
 -- a message's row is the row of its handler
-pub own-row : (id : ℕ) (row : Layout) → row ≡ layoutOf id → isKnown (row .handler) ≡ true → layoutOf (idOf (row .handler)) ≡ row
+own-row : (id : ℕ) (row : Layout) → row ≡ layoutOf id → isKnown (row .handler) ≡ true → layoutOf (idOf (row .handler)) ≡ row
 own-row id row e known =
     let inside : (leb 1 id && leb id 16) ≡ true = sym (row-known id) ∙ ap (λ r. isKnown (r .handler)) (sym e) ∙ known in
     let own : idOf (row .handler) ≡ id = ap (λ r. idOf (r .handler)) e ∙ row-id id ∙ rw inside in
     ap layoutOf own ∙ sym e
 
 -- `verdict` by the table's row: so the row tells all that the number does
-unfoldable pub byRow : Settings → Facts → Layout → ℕ → ℕ → List ℕ → Verdict
-byRow s f row id seq d =
-    cond (not (isKnown (row .handler))) (refuse (f .mode) ENOSYS)
-    (cond (not (allowsCommand s id)) (refuse (f .mode) EPERM)
-    (cond (not (repliesOn (f .mode)) && carriesData (row .reply)) Closes
-    (cond (not (sizeFits (row .size) d)) Closes
-    (handled s f (idOf (row .handler)) seq d))))
+unfoldable byRow : Asked → List ℕ → Layout → ℕ → ℕ → List ℕ → Verdict
+byRow a v row id seq d =
+    cond (isKnown (row .handler) && passesRow a row id d) (handled (a .settings) (factsFor a v d) (idOf (row .handler)) seq d) (refusal a (row .handler) id)
 
-pub by-row : (s : Settings) (f : Facts) (id seq : ℕ) (d : List ℕ) → byRow s f (layoutOf id) id seq d ≡ verdict s f id seq d
-unfolding byRow verdict handled
-by-row s f id seq d =
+by-row : (a : Asked) (v : List ℕ) (id seq : ℕ) (d : List ℕ) → byRow a v (layoutOf id) id seq d ≡ verdict (a .settings) (factsFor a v d) id seq d
+unfolding byRow verdict handled passesRow refusal
+by-row a v id seq d =
     rw (row-known id)
     (test (leb 1 id && leb id 16)
-    (λ e. let h : idOf (layoutOf id .handler) ≡ id = row-id id ∙ rw e in rw (e, h))
+    (λ e.
+    let h : idOf (layoutOf id .handler) ≡ id = row-id id ∙ rw e in
+    rw (e, h)
+    (test (allowsCommand (a .settings) id)
+    (λ p. rw p (test (not (repliesOn (a .mode)) && carriesData (layoutOf id .reply)) (λ q. rw q) (λ q. rw q (test (sizeFits (layoutOf id .size) d) (λ z. rw z) (λ z. rw z)))))
+    (λ p. rw p)))
     (λ e. rw e))
 
 -- messages 1 and 4 ask nothing and change nothing
@@ -93,11 +95,37 @@ pub asks-nothing : (s : Settings) (f : Facts) (d : List ℕ) → (commandVerdict
 unfolding commandVerdict isInvalid isUnready isDenied isUnsupported isBusy isAbsent losesErrors changeOf namesVcpu switchesAt firstPadding padding firstOfRuns
 asks-nothing s f d = (refl, refl)
 
--- data of the fixed size that a message's row says is its own part of that length
-pub fixed-part : {g : Handler} {d : List ℕ} (h : Handler) (n : ℕ) → layoutOf (idOf h) .size ≡ Exactly n → g ≡ h
-    → sizeFits (layoutOf (idOf g) .size) d ≡ true → (n ≡ length (take n d)) × (take n d ≡ d)
-unfolding sizeFits
-fixed-part {g} {d} h n row e fits =
-    let size : length d ≡ n = eqb-true (length d) n (ap (λ r. sizeFits r d) (sym row) ∙ ap (λ x. sizeFits (layoutOf (idOf x) .size) d) (sym e) ∙ fits) in
-    let whole : take n d ≡ d = take-all n d (omega arith) in
-    (sym (ap length whole ∙ size), whole)
+-- ---- the arms of a `match` on the handler of a message's row
+module _ (a : Asked) (id : ℕ) (row : Layout) (d : List ℕ) {b : Bool} (e : row ≡ layoutOf id) (p : b ≡ passesRow a row id d) where
+  -- data of the fixed size that a message's row says is its own part of that length
+  pub part : (h : Handler) (n : ℕ) → layoutOf (idOf h) .size ≡ Exactly n → isKnown h ≡ true → row .handler ≡ h → b ≡ true
+      → (n ≡ length (take n d)) × (take n d ≡ d)
+  unfolding sizeFits passesRow
+  part h n fixed known g z =
+      let own : layoutOf (idOf h) ≡ row = ap (λ x. layoutOf (idOf x)) (sym g) ∙ own-row id row e (ap isKnown g ∙ known) in
+      let fits : sizeFits (row .size) d ≡ true = and-r (not (not (repliesOn (a .mode)) && carriesData (row .reply))) _ (and-r (allowsCommand (a .settings) id) _ (sym p ∙ z)) in
+      let size : length d ≡ n = eqb-true (length d) n (ap (λ r. sizeFits r d) (sym fixed ∙ ap (λ r. r .size) own) ∙ fits) in
+      let whole : take n d ≡ d = take-all n d (omega arith) in
+      (sym (ap length whole ∙ size), whole)
+
+  module _ (v : List ℕ) (seq : ℕ) where
+    -- a known message that passes gets what its own tests say
+    pub taken : {f : Facts} → f ≡ factsFor a v d → (h : Handler) → isKnown h ≡ true → row .handler ≡ h → b ≡ true
+        → handled (a .settings) f (idOf h) seq d ≡ verdict (a .settings) (factsFor a v d) id seq d
+    unfolding byRow
+    taken k h known g z = ap (λ x. handled (a .settings) x (idOf h) seq d) k ∙ rw (← by-row a v id seq d, ← e, ← p, z, g, known)
+
+    pub taken-part : {f : Facts} → f ≡ factsFor a v d → (h : Handler) (n : ℕ) → layoutOf (idOf h) .size ≡ Exactly n → isKnown h ≡ true → row .handler ≡ h → b ≡ true
+        → handled (a .settings) f (idOf h) seq (take n d) ≡ verdict (a .settings) (factsFor a v d) id seq d
+    taken-part {f} k h n fixed known g z = ap (λ x. handled (a .settings) f (idOf h) seq x) (part h n fixed known g z .1) ∙ taken k h known g z
+
+    -- one that does not pass is refused
+    pub left : b ≡ false → refusal a (row .handler) id ≡ verdict (a .settings) (factsFor a v d) id seq d
+    unfolding byRow
+    left z = rw (← by-row a v id seq d, ← e, ← p, z) (test (isKnown (row .handler)) (λ q. rw q) (λ q. rw q))
+
+-- and so is one that is not known
+pub unknown-left : (a : Asked) (id : ℕ) (row : Layout) (d v : List ℕ) (seq : ℕ) → row ≡ layoutOf id → row .handler ≡ Unknown
+    → refusal a (row .handler) id ≡ verdict (a .settings) (factsFor a v d) id seq d
+unfolding byRow
+unknown-left a id row d v seq e g = rw (← by-row a v id seq d, ← e, g)

@@ -7,10 +7,16 @@ use Rattle.kvmi.specs.declared.Settings.{Settings}
 use Rattle.kvmi.specs.declared.Facts.{Facts}
 use Rattle.kvmi.specs.declared.Handler.{Handler}
 use Rattle.kvmi.specs.declared.Handler.the-variants.{GetVersion, VmCheckCommand, VmCheckEvent, VmGetInfo, VmControlEvents, VmReadPhysical, VmWritePhysical, VcpuGetInfo, VcpuPause, VcpuControlEvents, VcpuControlCr, VcpuControlMsr, VmSetPageAccess, VcpuControlSinglestep, VmControlCmdResponse, EventReply, Unknown}
+use Rattle.kvmi.specs.declared.Layout.{Layout}
 use Rattle.kvmi.specs.declared.Verdict.{Verdict}
 use Rattle.kvmi.specs.declared.Verdict.the-variants.{Closes}
-use Rattle.kvmi.specs.Settings.{allowsEvent}
-use Rattle.kvmi.specs.Verdict.{commandVerdict, eventReplyVerdict}
+use Rattle.kvmi.specs.Bits.{isOn}
+use Rattle.kvmi.specs.Codes.{EPERM, ENOSYS}
+use Rattle.kvmi.specs.Settings.{allowsCommand, allowsEvent}
+use Rattle.kvmi.specs.Message.{sizeFits, carriesData, vcpuOf}
+use Rattle.kvmi.specs.Verdict.{repliesOn, refuse, commandVerdict, eventReplyVerdict}
+use Rattle.store.specs.Words.{field, PAUSES, AWAITED, AWAITED-SEQ}
+use Rattle.verdict.specs.declared.Asked.{Asked}
 
 -- of a handler of no message, 0
 abbrev pub idOf : Handler → ℕ
@@ -41,3 +47,23 @@ handled s f id seq d =
     cond (eqb id 16) (eventReplyVerdict f seq d)
     (cond (eqb id 9 && not (allowsEvent s 2)) Closes
     (commandVerdict s f id d))
+
+-- what the tests ask, for the vCPU that a message names
+abbrev pub factsFor : Asked → List ℕ → List ℕ → Facts
+factsFor a vcpus d =
+    record {
+      mode = a .mode;
+      guest = a .guest;
+      ready = isOn (a .ready) (vcpuOf d);
+      pauses = field vcpus (vcpuOf d) PAUSES;
+      awaited = field vcpus (vcpuOf d) AWAITED;
+      seq = field vcpus (vcpuOf d) AWAITED-SEQ;
+    }
+
+-- tests 2 to 4 of a known message, by the table's row
+unfoldable pub passesRow : Asked → Layout → ℕ → List ℕ → Bool
+passesRow a row id d = allowsCommand (a .settings) id && (not (not (repliesOn (a .mode)) && carriesData (row .reply)) && sizeFits (row .size) d)
+
+-- what a message gets that does not pass them, or is not known
+unfoldable pub refusal : Asked → Handler → ℕ → Verdict
+refusal a h id = cond (not (isKnown h)) (refuse (a .mode) ENOSYS) (cond (not (allowsCommand (a .settings) id)) (refuse (a .mode) EPERM) Closes)

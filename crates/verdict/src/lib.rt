@@ -9,15 +9,23 @@ pub mod tests;
 use kvmi::Change;
 use kvmi::Facts;
 use kvmi::Handler;
+use kvmi::Layout;
 use kvmi::ReplyMode;
 use kvmi::Settings;
 use kvmi::Verdict;
 ghost use mathlib.Core.Path.{_≡_};
-ghost use mathlib.Core.Bool.{true, cond, not};
+ghost use mathlib.Core.Bool.{cond, not};
 ghost use Rattle.kvmi.specs.Settings.{allowsEvent};
-ghost use Rattle.kvmi.specs.Message.{sizeFits, layoutOf};
 ghost use Rattle.kvmi.specs.Verdict.{refuse, isAwaited, eventReplyVerdict, commandVerdict, verdict};
-ghost use Rattle.verdict.specs.Handlers.{idOf, isKnown, handled};
+ghost use Rattle.verdict.specs.Handlers.{factsFor, passesRow, refusal};
+
+// What the tests ask of a session: its settings and reply mode, how many bytes of guest memory are lent, and the ready marks, bit i for vCPU i.
+pub struct Asked {
+    pub settings: Settings,
+    pub mode: ReplyMode,
+    pub guest: usize,
+    pub ready: u64,
+}
 
 // An error before the data is looked at: with replies off there is nobody to tell, and the session closes.
 fn refuse(mode: ReplyMode, code: i32) -> Verdict
@@ -64,54 +72,144 @@ fn pause(settings: Settings, facts: Facts, d: &[u8]) -> Verdict
     Verdict::Closes
 }
 
-// What comes after the tests that the table's row asks for, by the handler. Data of a fixed size goes on as a part of that length,
-// so that no load tests the length again.
-fn handle(settings: Settings, facts: Facts, handler: Handler, seq: u32, d: &[u8]) -> Verdict
-    requires { ⌜ isKnown handler ≡ true ⌝ }
-    requires { ⌜ sizeFits (layoutOf (idOf handler) .size) (now d) ≡ true ⌝ }
-    ensures { λ r. ⌜ r ≡ handled settings facts (idOf handler) seq (now (d .entry)) ⌝ }
+// Whether a message of a known id passes tests 2 to 4.
+fn passes(a: Asked, id: u16, row: Layout, d: &[u8]) -> bool
+    ensures { λ r. ⌜ r ≡ passesRow a row id (now (d .entry)) ⌝ }
 {
-    match handler {
-        Handler::GetVersion => Verdict::Does(Change::Nothing),
-        Handler::VmCheckCommand => commands::check_command(settings, facts, &d[..8]),
-        Handler::VmCheckEvent => commands::check_event(settings, facts, &d[..8]),
-        Handler::VmGetInfo => Verdict::Does(Change::Nothing),
-        Handler::VmControlEvents => commands::control_vm_events(settings, facts, &d[..8]),
-        Handler::VmReadPhysical => commands::read_physical(settings, facts, &d[..16]),
-        Handler::VmWritePhysical => commands::write_physical(settings, facts, d),
-        Handler::VcpuGetInfo => commands::get_vcpu_info(settings, facts, &d[..8]),
-        Handler::VcpuPause => pause(settings, facts, &d[..16]),
-        Handler::VcpuControlEvents => commands::control_vcpu_events(settings, facts, &d[..16]),
-        Handler::VcpuControlCr => commands::control_cr(settings, facts, &d[..16]),
-        Handler::VcpuControlMsr => commands::control_msr(settings, facts, &d[..16]),
-        Handler::VmSetPageAccess => commands::set_page_access(settings, facts, d),
-        Handler::VcpuControlSinglestep => commands::control_singlestep(settings, facts, &d[..16]),
-        Handler::VmControlCmdResponse => commands::control_replies(settings, facts, &d[..8]),
-        Handler::EventReply => event_reply(facts, seq, &d[..16]),
-        Handler::Unknown => Verdict::Closes,
+    if !tests::allows_command(a.settings.commands, id) {
+        return false;
     }
+    let mode = a.mode;
+    let reply = row.reply;
+    if !tests::replies_on(mode) & tests::carries_data(reply) {
+        return false;
+    }
+    let size = row.size;
+    tests::size_fits(size, d)
 }
 
-// Tests 2 to 6, in their order.
-pub fn judge(settings: Settings, facts: Facts, id: u16, seq: u32, d: &[u8]) -> Verdict
-    ensures { λ r. ⌜ r ≡ verdict settings facts id seq (now (d .entry)) ⌝ }
+// What a message gets that does not pass them, or has an unknown id.
+fn refused(a: Asked, id: u16, handler: Handler) -> Verdict
+    ensures { λ r. ⌜ r ≡ refusal a handler id ⌝ }
 {
-    let row = kvmi::message::layout(id);
-    let handler = row.handler;
-    let mode = facts.mode;
+    let mode = a.mode;
     if !tests::is_known(handler) {
         return refuse(mode, causes::ENOSYS);
     }
-    if !tests::allows_command(settings.commands, id) {
+    if !tests::allows_command(a.settings.commands, id) {
         return refuse(mode, causes::EPERM);
     }
-    let reply = row.reply;
-    if !tests::replies_on(mode) & tests::carries_data(reply) {
-        return Verdict::Closes;
+    Verdict::Closes
+}
+
+// What tests 5 and 6 ask, for the vCPU that a message names.
+fn facts_of(a: Asked, vcpus: &[u64], d: &[u8]) -> Facts
+    ensures { λ r. ⌜ r ≡ factsFor a (now (vcpus .entry)) (now (d .entry)) ⌝ }
+{
+    let vcpu = wire::load16(d, 0);
+    let pending = store::words::read_pending(vcpus, vcpu);
+    let mode = a.mode;
+    Facts {
+        mode,
+        guest: a.guest,
+        ready: store::bits::bit_on(a.ready, vcpu as u32),
+        pauses: pending.pauses,
+        awaited: pending.awaited,
+        seq: pending.seq,
     }
-    let size = row.size;
-    if !tests::size_fits(size, d) {
-        return Verdict::Closes;
+}
+
+// Tests 2 to 6, in their order. The `match` comes first and the tests of the row stand in its arms, so that the compiler makes one jump of
+// the table and the `match`, and each arm knows its row and reads those facts alone that it asks for. Data of a fixed size goes on as a
+// part of that length, so that no load tests the length again.
+pub fn judge(a: Asked, vcpus: &[u64], id: u16, seq: u32, d: &[u8]) -> Verdict
+    ensures { λ r. ⌜ r ≡ verdict (a .settings) (factsFor a (now (vcpus .entry)) (now (d .entry))) id seq (now (d .entry)) ⌝ }
+{
+    let settings = a.settings;
+    let row = kvmi::message::layout(id);
+    let handler = row.handler;
+    match handler {
+        Handler::GetVersion => {
+            if passes(a, id, row, d) {
+                return Verdict::Does(Change::Nothing);
+            }
+        }
+        Handler::VmCheckCommand => {
+            if passes(a, id, row, d) {
+                return commands::check_command(settings, facts_of(a, vcpus, d), &d[..8]);
+            }
+        }
+        Handler::VmCheckEvent => {
+            if passes(a, id, row, d) {
+                return commands::check_event(settings, facts_of(a, vcpus, d), &d[..8]);
+            }
+        }
+        Handler::VmGetInfo => {
+            if passes(a, id, row, d) {
+                return Verdict::Does(Change::Nothing);
+            }
+        }
+        Handler::VmControlEvents => {
+            if passes(a, id, row, d) {
+                return commands::control_vm_events(settings, facts_of(a, vcpus, d), &d[..8]);
+            }
+        }
+        Handler::VmReadPhysical => {
+            if passes(a, id, row, d) {
+                return commands::read_physical(settings, facts_of(a, vcpus, d), &d[..16]);
+            }
+        }
+        Handler::VmWritePhysical => {
+            if passes(a, id, row, d) {
+                return commands::write_physical(settings, facts_of(a, vcpus, d), d);
+            }
+        }
+        Handler::VcpuGetInfo => {
+            if passes(a, id, row, d) {
+                return commands::get_vcpu_info(settings, facts_of(a, vcpus, d), &d[..8]);
+            }
+        }
+        Handler::VcpuPause => {
+            if passes(a, id, row, d) {
+                return pause(settings, facts_of(a, vcpus, d), &d[..16]);
+            }
+        }
+        Handler::VcpuControlEvents => {
+            if passes(a, id, row, d) {
+                return commands::control_vcpu_events(settings, facts_of(a, vcpus, d), &d[..16]);
+            }
+        }
+        Handler::VcpuControlCr => {
+            if passes(a, id, row, d) {
+                return commands::control_cr(settings, facts_of(a, vcpus, d), &d[..16]);
+            }
+        }
+        Handler::VcpuControlMsr => {
+            if passes(a, id, row, d) {
+                return commands::control_msr(settings, facts_of(a, vcpus, d), &d[..16]);
+            }
+        }
+        Handler::VmSetPageAccess => {
+            if passes(a, id, row, d) {
+                return commands::set_page_access(settings, facts_of(a, vcpus, d), d);
+            }
+        }
+        Handler::VcpuControlSinglestep => {
+            if passes(a, id, row, d) {
+                return commands::control_singlestep(settings, facts_of(a, vcpus, d), &d[..16]);
+            }
+        }
+        Handler::VmControlCmdResponse => {
+            if passes(a, id, row, d) {
+                return commands::control_replies(settings, facts_of(a, vcpus, d), &d[..8]);
+            }
+        }
+        Handler::EventReply => {
+            if passes(a, id, row, d) {
+                return event_reply(facts_of(a, vcpus, d), seq, &d[..16]);
+            }
+        }
+        Handler::Unknown => {}
     }
-    handle(settings, facts, handler, seq, d)
+    refused(a, id, handler)
 }

@@ -10,12 +10,6 @@ use borrow.Author.Needs.{needs}
 use Rattle.session.proofs.handle.Statement.{statement}
 use Rattle.session.proofs.handle.Tie as tie
 
-load16-requires : tie.Need-load16-requires
-load16-requires c κs = search needs
-
-facts-of-requires : tie.Need-facts-of-requires
-facts-of-requires c κs = search needs
-
 mode-of-requires : tie.Need-mode-of-requires
 mode-of-requires c κs = search needs
 
@@ -35,7 +29,7 @@ same-length-2 : tie.Need-same-length-2
 same-length-2 c = search needs
 
 returns : tie.Need-returns
-returns c = c .before .before .before .before .close .ensures _ _ ∙ closes-as _ _ _ _ _ _ _ _ _ (c .before .before .before .before .before .before .before .before .before .before .before .before .before .before .load16 .ensures) (c .before .before .before .before .before .before .before .before .before .before .before .before .facts-of .ensures) (c .before .before .before .before .before .before .before .before .before .judge .ensures) (c .before .before .before .before .before .before .before .enum-told .given .1)
+returns c = c .before .before .before .before .close .ensures _ _ ∙ closes-as _ _ _ _ _ _ _ _ (c .before .before .before .before .before .before .before .before .before .before .before .mode-of .ensures) (c .before .before .before .before .before .before .before .before .before .judge .ensures) (c .before .before .before .before .before .before .before .enum-told .given .1)
 
 enum-known-v : tie.Need-enum-known-v
 enum-known-v c = search needs
@@ -71,21 +65,19 @@ returns-2 : tie.Need-returns-2
 returns-2 c =
     let f : SFits w32 (c .before .before .before .before .before .before .before .match .e .code) = search needs in
     let w = rw (toZ-ofZ f) at (c .before .before .before .answer .ensures) in
-    let x = effect (c .before .before .before .before .before .before .before .before .before .before .before .before .before .before .before .before .before .before .before .args .s) (c .before .before .before .before .before .before .before .match .e) (c .before .before .before .before .before .before .before .match .vcpus) (c .before .before .before .before .before .before .before .match .pages) (c .before .before .before .before .before .before .before .match .guest) in
-    answered-as (c .before .before .before .before .before .before .before .before .before .before .before .before .before .before .before .before .before .before .before .args .s) (c .before .before .before .before .before .before .before .match .e) _ _ _ _ _ _ _ _ _ _ w (c .answered .ensures)
+    let x = effect (c .before .before .before .before .before .before .before .before .before .before .before .before .before .before .before .before .before .args .s) (c .before .before .before .before .before .before .before .match .e) (c .before .before .before .before .before .before .before .match .vcpus) (c .before .before .before .before .before .before .before .match .pages) (c .before .before .before .before .before .before .before .match .guest) in
+    answered-as (c .before .before .before .before .before .before .before .before .before .before .before .before .before .before .before .before .before .args .s) (c .before .before .before .before .before .before .before .match .e) _ _ _ _ _ _ _ _ _ _ w (c .answered .ensures)
     ∙ ⊎-elim
     (λ w.
     let g : SFits w32 (w .1 .given .0 .0) = search needs in
-    fails-as _ _ _ _ _ _ _ _ _ (c .before .before .before .before .before .before .before .before .before .before .before .before .before .load16 .ensures) (c .before .before .before .before .before .before .before .before .before .before .before .facts-of .ensures) (c .before .before .before .before .before .before .before .before .judge .ensures) _ _ x (w .1 .given .1) (c .before .before .before .before .before .before .before .before .before .mode-of .ensures) (simp (w .4, w .5, w .6, w .7, w .3 .ensures, toZ-ofZ g)))
-    (λ w. does-as _ _ _ _ _ _ _ _ _ (c .before .before .before .before .before .before .before .before .before .before .before .before .before .load16 .ensures) (c .before .before .before .before .before .before .before .before .before .before .before .facts-of .ensures) (c .before .before .before .before .before .before .before .before .judge .ensures) _ _ x (w .1 .given .1) (c .before .before .before .before .before .before .before .before .before .mode-of .ensures) (rw (w .13, w .14, w .15, w .16) (w .6 .ensures)))
+    fails-as _ _ _ _ _ _ _ _ (c .before .before .before .before .before .before .before .before .before .before .mode-of .ensures) (c .before .before .before .before .before .before .before .before .judge .ensures) _ x (w .1 .given .1) (simp (w .4, w .5, w .6, w .7, w .3 .ensures, toZ-ofZ g)))
+    (λ w. does-as _ _ _ _ _ _ _ _ (c .before .before .before .before .before .before .before .before .before .before .mode-of .ensures) (c .before .before .before .before .before .before .before .before .judge .ensures) _ x (w .1 .given .1) (rw (w .13, w .14, w .15, w .16) (w .6 .ensures)))
     (c .before .before .before .before .before .before .before .match .came)
 
 pub handle-spec : {M : Type 1} → statement M
 handle-spec =
     tie.close
     (tie.spec
-    load16-requires
-    facts-of-requires
     mode-of-requires
     judge-requires
     enum-told

@@ -1,80 +1,431 @@
--- The tests in their order, on the table's row. Assumes nothing.
-use mathlib.Core.Path.{_≡_, ap, sym, _∙_}
-use mathlib.Core.Bool.{true}
+-- In each arm the handler is known, and with it the message's number and the size of its data. Assumes nothing.
+use mathlib.Core.Path.{refl, sym, _∙_}
+use mathlib.Core.Logic.{⊎-elim}
 use borrow.Author.Needs.{needs}
-use borrow.Author.Tests.{not-false}
-use Rattle.kvmi.specs.Settings.{allowsCommand}
-use Rattle.kvmi.specs.Message.{sizeFits, layoutOf}
-use Rattle.verdict.specs.Handlers.{idOf, isKnown}
-use Rattle.verdict.proofs.Rows.{byRow, by-row, own-row}
+use Rattle.kvmi.specs.declared.Handler.the-variants.{GetVersion, VmCheckCommand, VmCheckEvent, VmGetInfo, VmControlEvents, VmReadPhysical, VmWritePhysical, VcpuGetInfo, VcpuPause, VcpuControlEvents, VcpuControlCr, VcpuControlMsr, VmSetPageAccess, VcpuControlSinglestep, VmControlCmdResponse, EventReply}
+use Rattle.kvmi.specs.Message.{layoutOf}
+use Rattle.verdict.specs.Handlers.{handled}
+use Rattle.verdict.proofs.Rows.{asks-nothing, part, taken, taken-part, left, unknown-left}
 use Rattle.verdict.proofs.judge.Statement.{statement}
 use Rattle.verdict.proofs.judge.Tie as tie
 
 layout-requires : tie.Need-layout-requires
 layout-requires c κs = search needs
 
-is-known-requires : tie.Need-is-known-requires
-is-known-requires c κs = search needs
+enum-told : tie.Need-enum-told
+enum-told c = search needs
 
-refuse-requires : tie.Need-refuse-requires
-refuse-requires c κs = search needs
+passes-requires : tie.Need-passes-requires
+passes-requires c κs = search needs
 
 returns : tie.Need-returns
-unfolding byRow
-returns c = rw (← by-row, ← c .before .before .before .layout .ensures, ← c .before .before .is-known .ensures, c .before .if1 .taken) (c .refuse .ensures)
+unfolding handled
+returns c = sym (asks-nothing _ _ _ .0) ∙ taken _ _ _ _ (c .before .before .before .before .layout .ensures) (c .before .passes .ensures) _ _ refl GetVersion refl (c .before .before .enum-told .given .1) (c .if1 .taken)
 
-allows-command-requires : tie.Need-allows-command-requires
-allows-command-requires c κs = search needs
+enum-told-2 : tie.Need-enum-told-2
+enum-told-2 c = search needs
 
-refuse-requires-2 : tie.Need-refuse-requires-2
-refuse-requires-2 c κs = search needs
+passes-requires-2 : tie.Need-passes-requires-2
+passes-requires-2 c κs = search needs
+
+facts-of-requires : tie.Need-facts-of-requires
+facts-of-requires c κs = search needs
+
+slice-aggregate-check-command : tie.Need-slice-aggregate-check-command
+unfolding layoutOf
+slice-aggregate-check-command c = part _ _ _ _ (c .before .before .before .before .before .before .layout .ensures) (c .before .before .before .passes2 .ensures) VmCheckCommand 8 refl refl (c .before .before .before .before .enum-told2 .given .1) (c .before .before .if2 .taken) .0
+
+check-command-requires : tie.Need-check-command-requires
+check-command-requires c κs = search needs
 
 returns-2 : tie.Need-returns-2
-unfolding byRow allowsCommand
-returns-2 c = rw (← by-row, ← c .before .before .before .before .before .layout .ensures, ← c .before .before .before .before .is-known .ensures, c .before .before .before .if1 .left, ← c .before .before .allows-command .ensures, c .before .if2 .taken) (c .refuse2 .ensures)
+unfolding handled layoutOf
+returns-2 c = c .check-command .ensures ∙ taken-part _ _ _ _ (c .before .before .before .before .before .before .before .layout .ensures) (c .before .before .before .before .passes2 .ensures) _ _ (c .before .before .facts-of .ensures) VmCheckCommand 8 refl refl (c .before .before .before .before .before .enum-told2 .given .1) (c .before .before .before .if2 .taken)
 
-replies-on-requires : tie.Need-replies-on-requires
-replies-on-requires c κs = search needs
+enum-told-3 : tie.Need-enum-told-3
+enum-told-3 c = search needs
 
-carries-data-requires : tie.Need-carries-data-requires
-carries-data-requires c κs = search needs
+passes-requires-3 : tie.Need-passes-requires-3
+passes-requires-3 c κs = search needs
+
+facts-of-requires-2 : tie.Need-facts-of-requires-2
+facts-of-requires-2 c κs = search needs
+
+slice-aggregate-check-event : tie.Need-slice-aggregate-check-event
+unfolding layoutOf
+slice-aggregate-check-event c = part _ _ _ _ (c .before .before .before .before .before .before .layout .ensures) (c .before .before .before .passes3 .ensures) VmCheckEvent 8 refl refl (c .before .before .before .before .enum-told3 .given .1) (c .before .before .if3 .taken) .0
+
+check-event-requires : tie.Need-check-event-requires
+check-event-requires c κs = search needs
 
 returns-3 : tie.Need-returns-3
-unfolding byRow allowsCommand
-returns-3 c = rw (← by-row, ← c .before .before .before .before .before .before .before .layout .ensures, ← c .before .before .before .before .before .before .is-known .ensures, c .before .before .before .before .before .if1 .left, ← c .before .before .before .before .allows-command .ensures, c .before .before .before .if2 .left, ← c .before .before .replies-on .ensures, ← c .before .carries-data .ensures, c .if3 .taken)
+unfolding handled layoutOf
+returns-3 c = c .check-event .ensures ∙ taken-part _ _ _ _ (c .before .before .before .before .before .before .before .layout .ensures) (c .before .before .before .before .passes3 .ensures) _ _ (c .before .before .facts-of2 .ensures) VmCheckEvent 8 refl refl (c .before .before .before .before .before .enum-told3 .given .1) (c .before .before .before .if3 .taken)
 
-size-fits-requires : tie.Need-size-fits-requires
-size-fits-requires c κs = search needs
+enum-told-4 : tie.Need-enum-told-4
+enum-told-4 c = search needs
+
+passes-requires-4 : tie.Need-passes-requires-4
+passes-requires-4 c κs = search needs
 
 returns-4 : tie.Need-returns-4
-unfolding byRow allowsCommand
-returns-4 c = rw (← by-row, ← c .before .before .before .before .before .before .before .before .before .layout .ensures, ← c .before .before .before .before .before .before .before .before .is-known .ensures, c .before .before .before .before .before .before .before .if1 .left, ← c .before .before .before .before .before .before .allows-command .ensures, c .before .before .before .before .before .if2 .left, ← c .before .before .before .before .replies-on .ensures, ← c .before .before .before .carries-data .ensures, c .before .before .if3 .left, ← c .before .size-fits .ensures, c .if4 .taken)
+unfolding handled
+returns-4 c = sym (asks-nothing _ _ _ .1) ∙ taken _ _ _ _ (c .before .before .before .before .layout .ensures) (c .before .passes4 .ensures) _ _ refl VmGetInfo refl (c .before .before .enum-told4 .given .1) (c .if4 .taken)
 
-handle-requires : tie.Need-handle-requires
-handle-requires c κs =
-    let known : isKnown (c .before .before .before .before .before .before .before .before .before .layout .result .handler) ≡ true = sym (c .before .before .before .before .before .before .before .before .is-known .ensures) ∙ not-false _ (c .before .before .before .before .before .before .before .if1 .left) in
-    let own : layoutOf (idOf (c .before .before .before .before .before .before .before .before .before .layout .result .handler)) ≡ c .before .before .before .before .before .before .before .before .before .layout .result = own-row _ _ (c .before .before .before .before .before .before .before .before .before .layout .ensures) known in
-    (known, ap (λ r. sizeFits (r .size) (c .before .before .before .before .before .before .before .before .before .before .before .args .d .now)) own ∙ sym (c .before .size-fits .ensures) ∙ not-false _ (c .if4 .left))
+enum-told-5 : tie.Need-enum-told-5
+enum-told-5 c = search needs
+
+passes-requires-5 : tie.Need-passes-requires-5
+passes-requires-5 c κs = search needs
+
+facts-of-requires-3 : tie.Need-facts-of-requires-3
+facts-of-requires-3 c κs = search needs
+
+slice-aggregate-control-vm-events : tie.Need-slice-aggregate-control-vm-events
+unfolding layoutOf
+slice-aggregate-control-vm-events c = part _ _ _ _ (c .before .before .before .before .before .before .layout .ensures) (c .before .before .before .passes5 .ensures) VmControlEvents 8 refl refl (c .before .before .before .before .enum-told5 .given .1) (c .before .before .if5 .taken) .0
+
+control-vm-events-requires : tie.Need-control-vm-events-requires
+control-vm-events-requires c κs = search needs
 
 returns-5 : tie.Need-returns-5
-unfolding byRow allowsCommand
-returns-5 c = rw (← by-row, ← c .before .before .before .before .before .before .before .before .before .before .layout .ensures, ← c .before .before .before .before .before .before .before .before .before .is-known .ensures, c .before .before .before .before .before .before .before .before .if1 .left, ← c .before .before .before .before .before .before .before .allows-command .ensures, c .before .before .before .before .before .before .if2 .left, ← c .before .before .before .before .before .replies-on .ensures, ← c .before .before .before .before .carries-data .ensures, c .before .before .before .if3 .left, ← c .before .before .size-fits .ensures, c .before .if4 .left) (c .handle .ensures)
+unfolding handled layoutOf
+returns-5 c = c .control-vm-events .ensures ∙ taken-part _ _ _ _ (c .before .before .before .before .before .before .before .layout .ensures) (c .before .before .before .before .passes5 .ensures) _ _ (c .before .before .facts-of3 .ensures) VmControlEvents 8 refl refl (c .before .before .before .before .before .enum-told5 .given .1) (c .before .before .before .if5 .taken)
+
+enum-told-6 : tie.Need-enum-told-6
+enum-told-6 c = search needs
+
+passes-requires-6 : tie.Need-passes-requires-6
+passes-requires-6 c κs = search needs
+
+facts-of-requires-4 : tie.Need-facts-of-requires-4
+facts-of-requires-4 c κs = search needs
+
+slice-aggregate-read-physical : tie.Need-slice-aggregate-read-physical
+unfolding layoutOf
+slice-aggregate-read-physical c = part _ _ _ _ (c .before .before .before .before .before .before .layout .ensures) (c .before .before .before .passes6 .ensures) VmReadPhysical 16 refl refl (c .before .before .before .before .enum-told6 .given .1) (c .before .before .if6 .taken) .0
+
+read-physical-requires : tie.Need-read-physical-requires
+read-physical-requires c κs = search needs
+
+returns-6 : tie.Need-returns-6
+unfolding handled layoutOf
+returns-6 c = c .read-physical .ensures ∙ taken-part _ _ _ _ (c .before .before .before .before .before .before .before .layout .ensures) (c .before .before .before .before .passes6 .ensures) _ _ (c .before .before .facts-of4 .ensures) VmReadPhysical 16 refl refl (c .before .before .before .before .before .enum-told6 .given .1) (c .before .before .before .if6 .taken)
+
+enum-told-7 : tie.Need-enum-told-7
+enum-told-7 c = search needs
+
+passes-requires-7 : tie.Need-passes-requires-7
+passes-requires-7 c κs = search needs
+
+facts-of-requires-5 : tie.Need-facts-of-requires-5
+facts-of-requires-5 c κs = search needs
+
+write-physical-requires : tie.Need-write-physical-requires
+write-physical-requires c κs = search needs
+
+returns-7 : tie.Need-returns-7
+unfolding handled
+returns-7 c = c .write-physical .ensures ∙ taken _ _ _ _ (c .before .before .before .before .before .before .layout .ensures) (c .before .before .before .passes7 .ensures) _ _ (c .before .facts-of5 .ensures) VmWritePhysical refl (c .before .before .before .before .enum-told7 .given .1) (c .before .before .if7 .taken)
+
+enum-told-8 : tie.Need-enum-told-8
+enum-told-8 c = search needs
+
+passes-requires-8 : tie.Need-passes-requires-8
+passes-requires-8 c κs = search needs
+
+facts-of-requires-6 : tie.Need-facts-of-requires-6
+facts-of-requires-6 c κs = search needs
+
+slice-aggregate-get-vcpu-info : tie.Need-slice-aggregate-get-vcpu-info
+unfolding layoutOf
+slice-aggregate-get-vcpu-info c = part _ _ _ _ (c .before .before .before .before .before .before .layout .ensures) (c .before .before .before .passes8 .ensures) VcpuGetInfo 8 refl refl (c .before .before .before .before .enum-told8 .given .1) (c .before .before .if8 .taken) .0
+
+get-vcpu-info-requires : tie.Need-get-vcpu-info-requires
+get-vcpu-info-requires c κs = search needs
+
+returns-8 : tie.Need-returns-8
+unfolding handled layoutOf
+returns-8 c = c .get-vcpu-info .ensures ∙ taken-part _ _ _ _ (c .before .before .before .before .before .before .before .layout .ensures) (c .before .before .before .before .passes8 .ensures) _ _ (c .before .before .facts-of6 .ensures) VcpuGetInfo 8 refl refl (c .before .before .before .before .before .enum-told8 .given .1) (c .before .before .before .if8 .taken)
+
+enum-told-9 : tie.Need-enum-told-9
+enum-told-9 c = search needs
+
+passes-requires-9 : tie.Need-passes-requires-9
+passes-requires-9 c κs = search needs
+
+facts-of-requires-7 : tie.Need-facts-of-requires-7
+facts-of-requires-7 c κs = search needs
+
+slice-aggregate-pause : tie.Need-slice-aggregate-pause
+unfolding layoutOf
+slice-aggregate-pause c = part _ _ _ _ (c .before .before .before .before .before .before .layout .ensures) (c .before .before .before .passes9 .ensures) VcpuPause 16 refl refl (c .before .before .before .before .enum-told9 .given .1) (c .before .before .if9 .taken) .0
+
+pause-requires : tie.Need-pause-requires
+pause-requires c κs = search needs
+
+returns-9 : tie.Need-returns-9
+unfolding handled layoutOf
+returns-9 c = c .pause .ensures ∙ taken-part _ _ _ _ (c .before .before .before .before .before .before .before .layout .ensures) (c .before .before .before .before .passes9 .ensures) _ _ (c .before .before .facts-of7 .ensures) VcpuPause 16 refl refl (c .before .before .before .before .before .enum-told9 .given .1) (c .before .before .before .if9 .taken)
+
+enum-told-10 : tie.Need-enum-told-10
+enum-told-10 c = search needs
+
+passes-requires-10 : tie.Need-passes-requires-10
+passes-requires-10 c κs = search needs
+
+facts-of-requires-8 : tie.Need-facts-of-requires-8
+facts-of-requires-8 c κs = search needs
+
+slice-aggregate-control-vcpu-events : tie.Need-slice-aggregate-control-vcpu-events
+unfolding layoutOf
+slice-aggregate-control-vcpu-events c = part _ _ _ _ (c .before .before .before .before .before .before .layout .ensures) (c .before .before .before .passes10 .ensures) VcpuControlEvents 16 refl refl (c .before .before .before .before .enum-told10 .given .1) (c .before .before .if10 .taken) .0
+
+control-vcpu-events-requires : tie.Need-control-vcpu-events-requires
+control-vcpu-events-requires c κs = search needs
+
+returns-10 : tie.Need-returns-10
+unfolding handled layoutOf
+returns-10 c = c .control-vcpu-events .ensures ∙ taken-part _ _ _ _ (c .before .before .before .before .before .before .before .layout .ensures) (c .before .before .before .before .passes10 .ensures) _ _ (c .before .before .facts-of8 .ensures) VcpuControlEvents 16 refl refl (c .before .before .before .before .before .enum-told10 .given .1) (c .before .before .before .if10 .taken)
+
+enum-told-11 : tie.Need-enum-told-11
+enum-told-11 c = search needs
+
+passes-requires-11 : tie.Need-passes-requires-11
+passes-requires-11 c κs = search needs
+
+facts-of-requires-9 : tie.Need-facts-of-requires-9
+facts-of-requires-9 c κs = search needs
+
+slice-aggregate-control-cr : tie.Need-slice-aggregate-control-cr
+unfolding layoutOf
+slice-aggregate-control-cr c = part _ _ _ _ (c .before .before .before .before .before .before .layout .ensures) (c .before .before .before .passes11 .ensures) VcpuControlCr 16 refl refl (c .before .before .before .before .enum-told11 .given .1) (c .before .before .if11 .taken) .0
+
+control-cr-requires : tie.Need-control-cr-requires
+control-cr-requires c κs = search needs
+
+returns-11 : tie.Need-returns-11
+unfolding handled layoutOf
+returns-11 c = c .control-cr .ensures ∙ taken-part _ _ _ _ (c .before .before .before .before .before .before .before .layout .ensures) (c .before .before .before .before .passes11 .ensures) _ _ (c .before .before .facts-of9 .ensures) VcpuControlCr 16 refl refl (c .before .before .before .before .before .enum-told11 .given .1) (c .before .before .before .if11 .taken)
+
+enum-told-12 : tie.Need-enum-told-12
+enum-told-12 c = search needs
+
+passes-requires-12 : tie.Need-passes-requires-12
+passes-requires-12 c κs = search needs
+
+facts-of-requires-10 : tie.Need-facts-of-requires-10
+facts-of-requires-10 c κs = search needs
+
+slice-aggregate-control-msr : tie.Need-slice-aggregate-control-msr
+unfolding layoutOf
+slice-aggregate-control-msr c = part _ _ _ _ (c .before .before .before .before .before .before .layout .ensures) (c .before .before .before .passes12 .ensures) VcpuControlMsr 16 refl refl (c .before .before .before .before .enum-told12 .given .1) (c .before .before .if12 .taken) .0
+
+control-msr-requires : tie.Need-control-msr-requires
+control-msr-requires c κs = search needs
+
+returns-12 : tie.Need-returns-12
+unfolding handled layoutOf
+returns-12 c = c .control-msr .ensures ∙ taken-part _ _ _ _ (c .before .before .before .before .before .before .before .layout .ensures) (c .before .before .before .before .passes12 .ensures) _ _ (c .before .before .facts-of10 .ensures) VcpuControlMsr 16 refl refl (c .before .before .before .before .before .enum-told12 .given .1) (c .before .before .before .if12 .taken)
+
+enum-told-13 : tie.Need-enum-told-13
+enum-told-13 c = search needs
+
+passes-requires-13 : tie.Need-passes-requires-13
+passes-requires-13 c κs = search needs
+
+facts-of-requires-11 : tie.Need-facts-of-requires-11
+facts-of-requires-11 c κs = search needs
+
+set-page-access-requires : tie.Need-set-page-access-requires
+set-page-access-requires c κs = search needs
+
+returns-13 : tie.Need-returns-13
+unfolding handled
+returns-13 c = c .set-page-access .ensures ∙ taken _ _ _ _ (c .before .before .before .before .before .before .layout .ensures) (c .before .before .before .passes13 .ensures) _ _ (c .before .facts-of11 .ensures) VmSetPageAccess refl (c .before .before .before .before .enum-told13 .given .1) (c .before .before .if13 .taken)
+
+enum-told-14 : tie.Need-enum-told-14
+enum-told-14 c = search needs
+
+passes-requires-14 : tie.Need-passes-requires-14
+passes-requires-14 c κs = search needs
+
+facts-of-requires-12 : tie.Need-facts-of-requires-12
+facts-of-requires-12 c κs = search needs
+
+slice-aggregate-control-singlestep : tie.Need-slice-aggregate-control-singlestep
+unfolding layoutOf
+slice-aggregate-control-singlestep c = part _ _ _ _ (c .before .before .before .before .before .before .layout .ensures) (c .before .before .before .passes14 .ensures) VcpuControlSinglestep 16 refl refl (c .before .before .before .before .enum-told14 .given .1) (c .before .before .if14 .taken) .0
+
+control-singlestep-requires : tie.Need-control-singlestep-requires
+control-singlestep-requires c κs = search needs
+
+returns-14 : tie.Need-returns-14
+unfolding handled layoutOf
+returns-14 c = c .control-singlestep .ensures ∙ taken-part _ _ _ _ (c .before .before .before .before .before .before .before .layout .ensures) (c .before .before .before .before .passes14 .ensures) _ _ (c .before .before .facts-of12 .ensures) VcpuControlSinglestep 16 refl refl (c .before .before .before .before .before .enum-told14 .given .1) (c .before .before .before .if14 .taken)
+
+enum-told-15 : tie.Need-enum-told-15
+enum-told-15 c = search needs
+
+passes-requires-15 : tie.Need-passes-requires-15
+passes-requires-15 c κs = search needs
+
+facts-of-requires-13 : tie.Need-facts-of-requires-13
+facts-of-requires-13 c κs = search needs
+
+slice-aggregate-control-replies : tie.Need-slice-aggregate-control-replies
+unfolding layoutOf
+slice-aggregate-control-replies c = part _ _ _ _ (c .before .before .before .before .before .before .layout .ensures) (c .before .before .before .passes15 .ensures) VmControlCmdResponse 8 refl refl (c .before .before .before .before .enum-told15 .given .1) (c .before .before .if15 .taken) .0
+
+control-replies-requires : tie.Need-control-replies-requires
+control-replies-requires c κs = search needs
+
+returns-15 : tie.Need-returns-15
+unfolding handled layoutOf
+returns-15 c = c .control-replies .ensures ∙ taken-part _ _ _ _ (c .before .before .before .before .before .before .before .layout .ensures) (c .before .before .before .before .passes15 .ensures) _ _ (c .before .before .facts-of13 .ensures) VmControlCmdResponse 8 refl refl (c .before .before .before .before .before .enum-told15 .given .1) (c .before .before .before .if15 .taken)
+
+enum-told-16 : tie.Need-enum-told-16
+enum-told-16 c = search needs
+
+passes-requires-16 : tie.Need-passes-requires-16
+passes-requires-16 c κs = search needs
+
+facts-of-requires-14 : tie.Need-facts-of-requires-14
+facts-of-requires-14 c κs = search needs
+
+slice-aggregate-event-reply : tie.Need-slice-aggregate-event-reply
+unfolding layoutOf
+slice-aggregate-event-reply c = part _ _ _ _ (c .before .before .before .before .before .before .layout .ensures) (c .before .before .before .passes16 .ensures) EventReply 16 refl refl (c .before .before .before .before .enum-told16 .given .1) (c .before .before .if16 .taken) .0
+
+event-reply-requires : tie.Need-event-reply-requires
+event-reply-requires c κs = search needs
+
+returns-16 : tie.Need-returns-16
+unfolding handled layoutOf
+returns-16 c = c .event-reply .ensures ∙ taken-part _ _ _ _ (c .before .before .before .before .before .before .before .layout .ensures) (c .before .before .before .before .passes16 .ensures) _ _ (c .before .before .facts-of14 .ensures) EventReply 16 refl refl (c .before .before .before .before .before .enum-told16 .given .1) (c .before .before .before .if16 .taken)
+
+enum-told-17 : tie.Need-enum-told-17
+enum-told-17 c = search needs
+
+refused-requires : tie.Need-refused-requires
+refused-requires c κs = search needs
+
+returns-17 : tie.Need-returns-17
+returns-17 c =
+    let e = c .before .before .layout .ensures in
+    c .refused .ensures
+    ∙ ⊎-elim (λ w. left _ _ _ _ e (w .2 .ensures) _ _ (w .3 .left))
+    (⊎-elim (λ w. left _ _ _ _ e (w .2 .ensures) _ _ (w .3 .left))
+    (⊎-elim (λ w. left _ _ _ _ e (w .2 .ensures) _ _ (w .3 .left))
+    (⊎-elim (λ w. left _ _ _ _ e (w .2 .ensures) _ _ (w .3 .left))
+    (⊎-elim (λ w. left _ _ _ _ e (w .2 .ensures) _ _ (w .3 .left))
+    (⊎-elim (λ w. left _ _ _ _ e (w .2 .ensures) _ _ (w .3 .left))
+    (⊎-elim (λ w. left _ _ _ _ e (w .2 .ensures) _ _ (w .3 .left))
+    (⊎-elim (λ w. left _ _ _ _ e (w .2 .ensures) _ _ (w .3 .left))
+    (⊎-elim (λ w. left _ _ _ _ e (w .2 .ensures) _ _ (w .3 .left))
+    (⊎-elim (λ w. left _ _ _ _ e (w .2 .ensures) _ _ (w .3 .left))
+    (⊎-elim (λ w. left _ _ _ _ e (w .2 .ensures) _ _ (w .3 .left))
+    (⊎-elim (λ w. left _ _ _ _ e (w .2 .ensures) _ _ (w .3 .left))
+    (⊎-elim (λ w. left _ _ _ _ e (w .2 .ensures) _ _ (w .3 .left))
+    (⊎-elim (λ w. left _ _ _ _ e (w .2 .ensures) _ _ (w .3 .left))
+    (⊎-elim (λ w. left _ _ _ _ e (w .2 .ensures) _ _ (w .3 .left))
+    (⊎-elim (λ w. left _ _ _ _ e (w .2 .ensures) _ _ (w .3 .left))
+    (λ w. unknown-left _ _ _ _ _ _ e (w .1 .given .1)))))))))))))))))
+    (c .before .match .came)
 
 pub judge-spec : {M : Type 1} → statement M
 judge-spec =
     tie.close
     (tie.spec
     layout-requires
-    is-known-requires
-    refuse-requires
+    enum-told
+    passes-requires
     returns
-    allows-command-requires
-    refuse-requires-2
+    enum-told-2
+    passes-requires-2
+    facts-of-requires
+    slice-aggregate-check-command
+    check-command-requires
     returns-2
-    replies-on-requires
-    carries-data-requires
+    enum-told-3
+    passes-requires-3
+    facts-of-requires-2
+    slice-aggregate-check-event
+    check-event-requires
     returns-3
-    size-fits-requires
+    enum-told-4
+    passes-requires-4
     returns-4
-    handle-requires
-    returns-5)
+    enum-told-5
+    passes-requires-5
+    facts-of-requires-3
+    slice-aggregate-control-vm-events
+    control-vm-events-requires
+    returns-5
+    enum-told-6
+    passes-requires-6
+    facts-of-requires-4
+    slice-aggregate-read-physical
+    read-physical-requires
+    returns-6
+    enum-told-7
+    passes-requires-7
+    facts-of-requires-5
+    write-physical-requires
+    returns-7
+    enum-told-8
+    passes-requires-8
+    facts-of-requires-6
+    slice-aggregate-get-vcpu-info
+    get-vcpu-info-requires
+    returns-8
+    enum-told-9
+    passes-requires-9
+    facts-of-requires-7
+    slice-aggregate-pause
+    pause-requires
+    returns-9
+    enum-told-10
+    passes-requires-10
+    facts-of-requires-8
+    slice-aggregate-control-vcpu-events
+    control-vcpu-events-requires
+    returns-10
+    enum-told-11
+    passes-requires-11
+    facts-of-requires-9
+    slice-aggregate-control-cr
+    control-cr-requires
+    returns-11
+    enum-told-12
+    passes-requires-12
+    facts-of-requires-10
+    slice-aggregate-control-msr
+    control-msr-requires
+    returns-12
+    enum-told-13
+    passes-requires-13
+    facts-of-requires-11
+    set-page-access-requires
+    returns-13
+    enum-told-14
+    passes-requires-14
+    facts-of-requires-12
+    slice-aggregate-control-singlestep
+    control-singlestep-requires
+    returns-14
+    enum-told-15
+    passes-requires-15
+    facts-of-requires-13
+    slice-aggregate-control-replies
+    control-replies-requires
+    returns-15
+    enum-told-16
+    passes-requires-16
+    facts-of-requires-14
+    slice-aggregate-event-reply
+    event-reply-requires
+    returns-16
+    enum-told-17
+    refused-requires
+    returns-17)
