@@ -172,17 +172,46 @@ pub fn store64(out: &mut [u8], at: usize, v: u64)
     }
 }
 
+// The bytes of `src` at a place where all of them lie inside.
+fn put_all(out: &mut [u8], at: usize, src: &[u8])
+    requires { ⌜ at + length (now src) ≤ length (now out) ⌝ }
+    ensures { λ _. ⌜ now (out .exit) ≡ store (now (out .entry)) at (now (src .entry)) ⌝ }
+{
+    let n = src.len();
+    let mut i = 0;
+    while i < n {
+        out[at + i] = src[i];
+        i += 1;
+    }
+}
+
+// The same. A page or less, but not a short run, goes by way of an array that nothing else can reach: LLVM makes one memmove of both
+// copies, where a copy from slice to slice, which might overlap for all it knows, goes 16 bytes at a time.
+fn copy_inside(out: &mut [u8], at: usize, src: &[u8])
+    requires { ⌜ at + length (now src) ≤ length (now out) ⌝ }
+    ensures { λ _. ⌜ now (out .exit) ≡ store (now (out .entry)) at (now (src .entry)) ⌝ }
+{
+    let n = src.len();
+    if n <= 1024 {
+        put_all(out, at, src);
+    } else {
+        if n <= 4096 {
+            let mut held = [0u8; 4096];
+            put_all(&mut held, 0, src);
+            put_all(out, at, &held[..n]);
+        } else {
+            put_all(out, at, src);
+        }
+    }
+}
+
 // The bytes of `src` at a place.
 pub fn copy(out: &mut [u8], at: usize, src: &[u8])
     ensures { λ _. ⌜ now (out .exit) ≡ store (now (out .entry)) at (now (src .entry)) ⌝ }
 {
     let n = src.len();
     if inside(out.len(), at, n) {
-        let mut i = 0;
-        while i < n {
-            out[at + i] = src[i];
-            i += 1;
-        }
+        copy_inside(out, at, src);
     }
 }
 

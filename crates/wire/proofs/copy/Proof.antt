@@ -1,66 +1,24 @@
--- The loop's invariant: the first i bytes of `src` are at their place. The measure is what is left of them. Assumes nothing.
-use mathlib.Core.Path.{refl, sym}
-use Prim.Native.Nat.{_-_}
-use native.Mathlib.Omega.{arith}
-use lib.ListN.{length}
+-- Inside, or past the end. Assumes nothing.
+use mathlib.Core.Path.{sym}
 use borrow.Author.Needs.{needs}
-use Rattle.wire.proofs.Laws.{Copied, copied-none, copied-one, copied-all, store-past, test-passed, test-failed}
+use Rattle.wire.proofs.Laws.{store-past, test-passed, test-failed}
 use Rattle.wire.proofs.copy.Statement.{statement}
 use Rattle.wire.proofs.copy.Tie as tie
 
-abbrev Inv-loop : tie.InvT-loop
-Inv-loop out₀ at src n i₀ out i = Copied out₀ at src out i
-
-abbrev μ-loop : tie.MeasureT-loop
-μ-loop out₀ at src n i₀ out i = length src - i
-
-inside-requires : tie.Need-inside-requires Inv-loop μ-loop
+inside-requires : tie.Need-inside-requires
 inside-requires c κs = search needs
 
-loop-holds : tie.Need-loop-holds Inv-loop μ-loop
-loop-holds c = copied-none _ _ _ (test-passed (c .before .inside .ensures) (c .if1 .taken))
+copy-inside-requires : tie.Need-copy-inside-requires
+copy-inside-requires c κs = test-passed (c .before .before .inside .ensures) (c .before .if1 .taken)
 
-shared-slice-read-out : tie.Need-shared-slice-read-out Inv-loop μ-loop
-shared-slice-read-out c = search needs
+same-length : tie.Need-same-length
+same-length c = search needs
 
-add-out : tie.Need-add-out Inv-loop μ-loop
-add-out c = omega arith
+returns : tie.Need-returns
+returns c = search needs
 
-slice-write-out : tie.Need-slice-write-out Inv-loop μ-loop
-slice-write-out c = omega arith
-
-add-i : tie.Need-add-i Inv-loop μ-loop
-add-i c = omega arith
-
-loop-less : tie.Need-loop-less Inv-loop μ-loop
-loop-less c = omega arith
-
-loop-again : tie.Need-loop-again Inv-loop μ-loop
-loop-again c = copied-one _ _ _ _ _ _ (c .before .before .loop .inv) (c .before .loop-test .taken) refl
-
-same-length : tie.Need-same-length Inv-loop μ-loop
-same-length c = c .before .loop .inv .kept
-
-returns : tie.Need-returns Inv-loop μ-loop
-returns c = copied-all _ _ _ _ _ (c .before .loop .inv) (c .loop-test .left)
-
-returns-2 : tie.Need-returns-2 Inv-loop μ-loop
+returns-2 : tie.Need-returns-2
 returns-2 c = sym (store-past _ _ _ (test-failed (c .before .inside .ensures) (c .if1 .left)))
 
 pub copy-spec : {M : Type 1} → statement M
-copy-spec =
-    tie.close
-    (tie.spec
-    Inv-loop
-    μ-loop
-    inside-requires
-    loop-holds
-    shared-slice-read-out
-    add-out
-    slice-write-out
-    add-i
-    loop-less
-    loop-again
-    same-length
-    returns
-    returns-2)
+copy-spec = tie.close (tie.spec inside-requires copy-inside-requires same-length returns returns-2)
