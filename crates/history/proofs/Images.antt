@@ -53,7 +53,7 @@ stated-same st f =
     let k : min (st .session .tool .pages) (length (st .pages)) ≡ st .session .tool .pages = omega arith in
     λ j. record {
       events = st .session .tool .events;
-      vcpus = vcpusOf (st .session .ready) (st .vcpus) 0 (n j);
+      vcpus = vcpusOf (st .session .shared .ready) (st .vcpus) 0 (n j);
       msrs = msrsOf (st .vcpus) 0 (n j);
       pages = pagesOf (st .pages) (k j);
     }

@@ -40,7 +40,7 @@ same-queued : (s : Settings) (st : State) (m : Model) (vcpu : ℕ) → Stands s 
 unfolding queuedOf queued vcpuOfWords
 same-queued s st m vcpu f h =
     let inside : vcpu < st .session .settings .vcpus = rw (f .settings) h in
-    sym (ap (λ (v : Vcpu). v .pauses) (vcpus-at (st .session .ready) (st .vcpus) (st .session .settings .vcpus) vcpu inside))
+    sym (ap (λ (v : Vcpu). v .pauses) (vcpus-at (st .session .shared .ready) (st .vcpus) (st .session .settings .vcpus) vcpu inside))
     ∙ ap (λ (k : Model). queued vcpu k) (f .model)
 
 -- for each vCPU, from any call on, over every list of calls after which the session is open

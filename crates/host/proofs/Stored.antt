@@ -18,6 +18,8 @@ use Rattle.kvmi.specs.declared.Settings.{Settings}
 use Rattle.session.specs.declared.Session.{Session}
 use Rattle.host.specs.declared.Done.{Done}
 use Rattle.session.proofs.Tool as T
+use Rattle.session.proofs.Shared as H′
+use Rattle.session.proofs.Shared.Laws as H″
 use Rattle.session.proofs.Tool.Laws as T′
 use Rattle.session.proofs.Session as S
 use Rattle.session.proofs.Session.Laws as S′
@@ -35,16 +37,16 @@ module _ (d : Done) (vs : List Val) (is : Is D.the-row d vs) where
   pub tool-is : Is T.the-row (d .session .tool) (LL.vals T.the-type T′.the-laws (d .session .tool))
   tool-is = LL.owed S.the-type S′.the-laws (d .session) _ session-is .1 .0
 
-  pub ready-fits : d .session .ready < 2 ^ 64
-  ready-fits = LL.owed S.the-type S′.the-laws (d .session) _ session-is .1 .1 .0 .1
+  pub shared-is : Is H′.the-row (d .session .shared) (LL.vals H′.the-type H″.the-laws (d .session .shared))
+  shared-is = LL.owed S.the-type S′.the-laws (d .session) _ session-is .1 .1 .0
 
 abbrev mach : Session → Val
 mach s = LL.val S.the-type S′.the-laws s
 
 -- where the settings stay, the fields that are stored make the Session after the call
 pub stored : (h : Session) (d : Done) → d .session .settings ≡ h .settings
-    → mach (record { settings = h .settings; tool = d .session .tool; ready = d .session .ready }) ≡ mach (d .session)
-stored h d e = ap (λ (x : Settings). mach (record { settings = x; tool = d .session .tool; ready = d .session .ready })) (sym e)
+    → mach (record { settings = h .settings; tool = d .session .tool; shared = d .session .shared }) ≡ mach (d .session)
+stored h d e = ap (λ (x : Settings). mach (record { settings = x; tool = d .session .tool; shared = d .session .shared })) (sym e)
 
 -- behind a reference a struct's fields stand at types without names, and code stores them at types with names: a cell at the one is a cell at the other
 module _ {M : Type 1} {𝓤 : URA M} {H : Heap 𝓤} {A : Atoms 𝓤} {K : Type 0} {W : Given 𝓤 H A} where

@@ -139,7 +139,7 @@ pub extern "C" fn semblurick_ready(s: &mut Session, vcpu: u32, result: &mut [u64
 {
     let d = ready(*s, vcpu, result);
     s.tool = d.session.tool;
-    s.ready = d.session.ready;
+    s.shared = d.session.shared;
     d.code
 }
 
@@ -184,7 +184,7 @@ pub extern "C" fn semblurick_message(
 {
     let d = message(*s, vcpus, pages, msg, out, guest, result);
     s.tool = d.session.tool;
-    s.ready = d.session.ready;
+    s.shared = d.session.shared;
     d.code
 }
 
@@ -223,7 +223,7 @@ pub extern "C" fn semblurick_enter(
 {
     let d = enter(*s, vcpus, vcpu, block, out, result);
     s.tool = d.session.tool;
-    s.ready = d.session.ready;
+    s.shared = d.session.shared;
     d.code
 }
 

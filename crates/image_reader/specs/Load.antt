@@ -50,4 +50,4 @@ pagesBy En l at i w = w
 pagesBy Cut l at i w = w
 
 abbrev pub openedSession : Settings → ℕ → ℕ → ℕ → Session
-openedSession s events pages ready = record { settings = s; tool = record { events = events; pages = pages; closed = 0; mode = 0; seq = 0 }; ready = ready }
+openedSession s events pages ready = record { settings = s; tool = record { events = events; pages = pages; closed = 0; mode = 0; seq = 0 }; shared = record { ready = ready } }

@@ -50,7 +50,7 @@ loadedSession s t =
     record {
       settings = s;
       tool = record { events = t .events; pages = length (t .pages); closed = 0; mode = 0; seq = 0 };
-      ready = readyLoaded 0 0 (t .vcpus);
+      shared = record { ready = readyLoaded 0 0 (t .vcpus) };
     }
 
 -- on words that are cleared first

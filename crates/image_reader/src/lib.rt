@@ -8,6 +8,7 @@ use kvmi::Settings;
 use kvmi::Signal;
 use session::Done;
 use session::Session;
+use session::Shared;
 use session::Tool;
 ghost use mathlib.Core.Path.{_≡_};
 ghost use mathlib.Core.Bool.{true};
@@ -189,7 +190,7 @@ fn opened(settings: Settings, events: u64, pages: u64, ready: u64) -> Session
     Session {
         settings,
         tool,
-        ready,
+        shared: Shared { ready },
     }
 }
 

@@ -34,7 +34,7 @@ awaits-none w i n h = let e : n - i ≡ 0 = omega arith in rw e
 
 -- ---- what an image states
 pub stated-same : (st : State)
-    → statedOf (st .session .tool .events) (st .session .ready) (st .session .settings .vcpus) (st .session .tool .pages) (st .vcpus) (st .pages) ≡ statedTables st
+    → statedOf (st .session .tool .events) (st .session .shared .ready) (st .session .settings .vcpus) (st .session .tool .pages) (st .vcpus) (st .pages) ≡ statedTables st
 unfolding statedTables statedVcpus
 stated-same st = refl
 

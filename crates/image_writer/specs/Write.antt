@@ -23,7 +23,7 @@ unfoldable pub statedTables : State → Tables
 statedTables st =
     record {
       events = st .session .tool .events;
-      vcpus = vcpusOf (st .session .ready) (st .vcpus) 0 (statedVcpus st);
+      vcpus = vcpusOf (st .session .shared .ready) (st .vcpus) 0 (statedVcpus st);
       msrs = msrsOf (st .vcpus) 0 (statedVcpus st);
       pages = pagesOf (st .pages) (min (st .session .tool .pages) (length (st .pages)));
     }

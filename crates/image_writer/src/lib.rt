@@ -55,7 +55,7 @@ pub fn write_image(s: Session, vcpus: &[u64], pages: &[u64], out: &mut [u8]) -> 
     let count = image_bytes::put(
         out,
         s.tool.events,
-        s.ready,
+        s.shared.ready,
         s.settings.vcpus,
         s.tool.pages,
         vcpus,

@@ -45,7 +45,7 @@ module _ (st : State) (ok : So (inRange (st .session .settings))) (lives : st .s
   w = st .vcpus
 
   abbrev ready : ℕ
-  ready = st .session .ready
+  ready = st .session .shared .ready
 
   abbrev one : ℕ → Vcpu
   one = recordOf ready w
@@ -136,10 +136,10 @@ module _ (st : State) (ok : So (inRange (st .session .settings))) (words : lengt
   size = st .session .settings .vcpus
 
   abbrev mark : Bool
-  mark = isOn (st .session .ready) vcpu
+  mark = isOn (st .session .shared .ready) vcpu
 
   abbrev at-one : ℕ → Vcpu
-  at-one = recordOf (st .session .ready) (st .vcpus)
+  at-one = recordOf (st .session .shared .ready) (st .vcpus)
 
   abbrev Agreed : List ℕ → List ℕ → List ℕ → ℕ → Verdict → Type 0
   Agreed d out guest seq x = (x ≡ crVerdict vcpu cr on (listForm .answer)) × (recordsOf (judgedOf st 11 seq d out guest x .state) ≡ listForm .vcpus)
@@ -159,12 +159,12 @@ module _ (st : State) (ok : So (inRange (st .session .settings))) (words : lengt
   again h = sym (set-getD (recordsOf st) vcpu blank) ∙ ap (λ (x : Vcpu). set (recordsOf st) vcpu x) (each-at at-one blank size vcpu h)
 
   switched : vcpu < size
-      → eachOf (recordOf (st .session .ready) (setField (st .vcpus) vcpu CRS (putBit (field (st .vcpus) vcpu CRS) (crBit cr) on))) 0 size
+      → eachOf (recordOf (st .session .shared .ready) (setField (st .vcpus) vcpu CRS (putBit (field (st .vcpus) vcpu CRS) (crBit cr) on))) 0 size
       ≡ set (recordsOf st) vcpu (withCrs (at-one vcpu) (putBit (at-one vcpu .crs) (crBit cr) on))
   unfolding recordsOf recordOf
   switched h =
       let few = few-vcpus (st .session .settings) ok in
-      records-crs (st .session .ready) (st .vcpus) size vcpu (putBit (field (st .vcpus) vcpu CRS) (crBit cr) on) (omega arith) h
+      records-crs (st .session .shared .ready) (st .vcpus) size vcpu (putBit (field (st .vcpus) vcpu CRS) (crBit cr) on) (omega arith) h
 
   module _ (d out guest : List ℕ) (seq : ℕ) where
     past : size ≤ vcpu → Agreed d out guest seq (judgedBy size vcpu cr on mark)
@@ -185,7 +185,7 @@ module _ (st : State) (ok : So (inRange (st .session .settings))) (words : lengt
     (allowed : allowsCommand (st .session .settings) 11 ≡ true) (seq vcpu cr : ℕ) (on : Bool) (s : seq < 2 ^ 32) (v : vcpu < 2 ^ 16) (c : cr < 2 ^ 32)
     (out guest : List ℕ) (long : 4112 ≤ length out) where
   as-judged : messageOf st (crMessage seq vcpu cr on) out guest
-      ≡ judgedOf st 11 seq (registerData vcpu cr (bit on)) out guest (judgedBy (st .session .settings .vcpus) vcpu cr on (isOn (st .session .ready) vcpu))
+      ≡ judgedOf st 11 seq (registerData vcpu cr (bit on)) out guest (judgedBy (st .session .settings .vcpus) vcpu cr on (isOn (st .session .shared .ready) vcpu))
   unfolding messageOf headedOf
   as-judged =
       rw (

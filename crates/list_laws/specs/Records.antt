@@ -39,7 +39,7 @@ eachOf f i (suc n) = f i ∷ eachOf f (suc i) n
 
 -- one for each vCPU below the settings' count
 unfoldable pub recordsOf : State → List Vcpu
-recordsOf st = eachOf (recordOf (st .session .ready) (st .vcpus)) 0 (st .session .settings .vcpus)
+recordsOf st = eachOf (recordOf (st .session .shared .ready) (st .vcpus)) 0 (st .session .settings .vcpus)
 
 -- a call's answer, and the records that it leaves
 abbrev pub recordsTold : Told → Listed

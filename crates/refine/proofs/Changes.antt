@@ -79,7 +79,7 @@ module _ (st : State) (g : WordsGood st) (few : st .session .settings .vcpus ≤
   words = st .vcpus
 
   abbrev ready : ℕ
-  ready = st .session .ready
+  ready = st .session .shared .ready
 
   -- a plain field of one vCPU, of which its record alone speaks
   pub field-model : (v k x : ℕ) (f : Vcpu → Vcpu) → k < 4 → v < count

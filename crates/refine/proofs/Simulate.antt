@@ -153,7 +153,7 @@ pub same-simulates : (k : ℕ) (st : State) (out guest : List ℕ) → WordsGood
 same-simulates k st out guest g = record { answer = refl; out = refl; guest = refl; model = refl; settings = refl; words = g }
 
 -- all words 0
-pub zero-words : (s : Settings) (x : Session) (vcpus pages : List ℕ) → length vcpus ≡ 4352 → length pages ≡ 1024 → x .tool .closed ≤ 1 → x .tool .mode ≤ 2 → x .ready ≡ 0 → x .tool .pages ≡ 0
+pub zero-words : (s : Settings) (x : Session) (vcpus pages : List ℕ) → length vcpus ≡ 4352 → length pages ≡ 1024 → x .tool .closed ≤ 1 → x .tool .mode ≤ 2 → x .shared .ready ≡ 0 → x .tool .pages ≡ 0
     → WordsGood (clearedState x vcpus pages)
 unfolding cleared field
 zero-words s x vcpus pages v p c m r k =
@@ -301,12 +301,12 @@ module _ (st : State) (f : WellFormed st) (out guest : List ℕ) where
 -- ---- a ready mark
 module _ (st : State) (f : WellFormed st) where
   ready-set : (v : ℕ) → v < st .session .settings .vcpus
-      → let r = state (withReadyBits (st .session) (putBit (st .session .ready) v true)) (st .vcpus) (st .pages) in
+      → let r = state (withReadyBits (st .session) (putBit (st .session .shared .ready) v true)) (st .vcpus) (st .pages) in
       (modelOf r ≡ onVcpu (modelOf st) v (λ x. withReady x true)) × WordsGood r
   ready-set v h =
       let g = f .words in
       let n = st .session .settings .vcpus in
-      let vcpus = vcpus-ready (st .session .ready) (st .vcpus) v true n ∙ ap (λ (y : Vcpu). set (vcpusOf (st .session .ready) (st .vcpus) 0 n) v (withReady y true)) (sym (vcpu-means st g v)) in (
+      let vcpus = vcpus-ready (st .session .shared .ready) (st .vcpus) v true n ∙ ap (λ (y : Vcpu). set (vcpusOf (st .session .shared .ready) (st .vcpus) 0 n) v (withReady y true)) (sym (vcpu-means st g v)) in (
         λ j. record {
           tables = record { events = modelOf st .tables .events; vcpus = vcpus j; msrs = modelOf st .tables .msrs; pages = modelOf st .tables .pages };
           mode = modelOf st .mode;
@@ -319,7 +319,7 @@ module _ (st : State) (f : WellFormed st) where
           pageWords = g .pageWords;
           closed = g .closed;
           mode = g .mode;
-          ready = put-below n (st .session .ready) v true (g .ready) h;
+          ready = put-below n (st .session .shared .ready) v true (g .ready) h;
           pages = g .pages;
           flag = g .flag;
           waits = g .waits;
@@ -361,7 +361,7 @@ module _ (st : State) (f : WellFormed st) (v : ℕ) (inside : v < st .session .s
   unfolding vcpuOfWords
   model₁ =
       field-model st (f .words) few-here [] [] v PAUSES less (λ x. withPauses x (x .pauses - 1)) (omega arith) inside
-      (vcpus-pauses (st .session .ready) (st .vcpus) v less (st .session .settings .vcpus) (block-inside st (f .words) few-here v inside) inside)
+      (vcpus-pauses (st .session .shared .ready) (st .vcpus) v less (st .session .settings .vcpus) (block-inside st (f .words) few-here v inside) inside)
 
   -- and its reply awaited
   abbrev st₂ : State

@@ -128,9 +128,9 @@ module _ (st : State) (guest d : List ℕ) (i : ℕ) (other : i ≢ vcpuOf d) wh
   end-apart crash = field-block (setField (st .vcpus) (vcpuOf d) AWAITED 0) (vcpuOf d) AWAITED-SEQ 0 i (omega arith) other ∙ one-field AWAITED 0 (omega arith)
 
   abbrev Spares : Told → Type 0
-  Spares r = (r .answer .number ≡ 1 → ⊥) → (block (r .state .vcpus) i ≡ block (st .vcpus) i) × (r .state .session .ready ≡ st .session .ready)
+  Spares r = (r .answer .number ≡ 1 → ⊥) → (block (r .state .vcpus) i ≡ block (st .vcpus) i) × (r .state .session .shared .ready ≡ st .session .shared .ready)
 
-  ready-kept-by : (c : Change) → change st guest d c .state .session .ready ≡ st .session .ready
+  ready-kept-by : (c : Change) → change st guest d c .state .session .shared .ready ≡ st .session .shared .ready
   unfolding change
   ready-kept-by Nothing = refl
   ready-kept-by (SetVmEvent on event) = refl
@@ -151,7 +151,7 @@ module _ (st : State) (guest d : List ℕ) (i : ℕ) (other : i ≢ vcpuOf d) wh
       (λ p _. (change-apart id f p, ready-kept-by (changeOf id d))) (λ _ _. (end-apart (eqb (getD d 8 0) 2), ready-kept-by (EndWait (eqb (getD d 8 0) 2) (vcpuOf d))))
 
 pub message-apart : (st : State) (msg out guest : List ℕ) (i : ℕ) → i ≢ vcpuOf (drop 8 msg) → (messageOf st msg out guest .answer .number ≡ 1 → ⊥)
-    → (block (messageOf st msg out guest .state .vcpus) i ≡ block (st .vcpus) i) × (messageOf st msg out guest .state .session .ready ≡ st .session .ready)
+    → (block (messageOf st msg out guest .state .vcpus) i ≡ block (st .vcpus) i) × (messageOf st msg out guest .state .session .shared .ready ≡ st .session .shared .ready)
 unfolding messageOf headedOf
 message-apart st msg out guest i other =
     pick (Spares st guest (drop 8 msg) i other) (not (eqb (st .session .tool .closed) 0)) _ _ (λ _ _. (refl, refl))

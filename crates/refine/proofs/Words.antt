@@ -61,15 +61,15 @@ module _ (st : State) (g : WordsGood st) where
   unfolding field
   field-past v k h = g .past (v * 272 + k) (omega arith)
 
-  pub vcpu-means : (v : ℕ) → vcpuAt (tablesOf st) v ≡ vcpuOfWords (st .session .ready) w v
+  pub vcpu-means : (v : ℕ) → vcpuAt (tablesOf st) v ≡ vcpuOfWords (st .session .shared .ready) w v
   unfolding vcpuOfWords
   vcpu-means v =
-      test (ltb v n) (λ h. vcpus-at (st .session .ready) w n v (ltb-true v n h))
+      test (ltb v n) (λ h. vcpus-at (st .session .shared .ready) w n v (ltb-true v n h))
       (λ h. let far = ltb-false v n h in
-      List·getD-eq-default (vcpusOf (st .session .ready) w 0 n) resting {n = v} (rw (vcpus-length (st .session .ready) w 0 n) far)
+      List·getD-eq-default (vcpusOf (st .session .shared .ready) w 0 n) resting {n = v} (rw (vcpus-length (st .session .shared .ready) w 0 n) far)
       ∙ sym
       (rw (
-        on-high n (st .session .ready) v (g .ready) far,
+        on-high n (st .session .shared .ready) v (g .ready) far,
         field-past v SINGLESTEP far,
         field-past v CRS far,
         field-past v EVENTS far,

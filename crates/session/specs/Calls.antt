@@ -87,7 +87,7 @@ unfoldable pub readyOf : State → ℕ → Told
 readyOf st vcpu =
     cond (not (eqb (st .session .tool .closed) 0)) (toldSame 2 st [] [])
     (cond (leb (st .session .settings .vcpus) vcpu) (toldSame 4 st [] [])
-    (toldWritten [] Quiet (state (withReadyBits (st .session) (putBit64 (st .session .ready) vcpu true)) (st .vcpus) (st .pages)) [] []))
+    (toldWritten [] Quiet (state (withReadyBits (st .session) (putBit64 (st .session .shared .ready) vcpu true)) (st .vcpus) (st .pages)) [] []))
 
 -- ---- entry of a vCPU
 unfoldable pub pausingOf : State → ℕ → List ℕ → List ℕ → Told

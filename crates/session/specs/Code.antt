@@ -71,7 +71,7 @@ pagesSet t mode pages view count d = pagesTaken t mode (runEntries pageLimit vie
 -- ---- parts of the calls
 -- what the tests ask of a session
 abbrev pub askedOf : Session → ReplyMode → ℕ → Asked
-askedOf s mode guest = record { settings = s .settings; mode = mode; guest = guest; ready = s .ready }
+askedOf s mode guest = record { settings = s .settings; mode = mode; guest = guest; ready = s .shared .ready }
 
 abbrev pub answeredBy : Session → Effect → ℕ → Done
 answeredBy s e count =

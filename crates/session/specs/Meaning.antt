@@ -28,7 +28,7 @@ abbrev pub tablesOf : State → Tables
 tablesOf st =
     record {
       events = st .session .tool .events;
-      vcpus = vcpusOf (st .session .ready) (st .vcpus) 0 (st .session .settings .vcpus);
+      vcpus = vcpusOf (st .session .shared .ready) (st .vcpus) 0 (st .session .settings .vcpus);
       msrs = msrsOf (st .vcpus) 0 (st .session .settings .vcpus);
       pages = pagesOf (st .pages) (st .session .tool .pages);
     }
@@ -49,7 +49,7 @@ pub record WordsGood (st : State) : Type 0 where
   pub pageWords : length (st .pages) ≡ 1024
   pub closed : st .session .tool .closed ≤ 1
   pub mode : st .session .tool .mode ≤ 2
-  pub ready : st .session .ready < 2 ^ st .session .settings .vcpus
+  pub ready : st .session .shared .ready < 2 ^ st .session .settings .vcpus
   pub pages : PagesGood (st .pages) (st .session .tool .pages)
   -- singlestep is 0 or 1, no seq stands without an event, and spare fields and the blocks of vCPUs that there are none of are 0
   pub flag : (i : ℕ) → field (st .vcpus) i SINGLESTEP ≤ 1

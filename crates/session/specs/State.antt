@@ -21,6 +21,7 @@ use Rattle.store.specs.Words.{field, setField, setMsrBit, putBit64, cleared, SI
 use Rattle.page_words.specs.PageWords.{PageTable, runEntries}
 use Rattle.session.specs.declared.Tool.{Tool}
 use Rattle.session.specs.declared.Session.{Session}
+use Rattle.session.specs.declared.Shared.{Shared}
 
 pub record State : Type 0 where
   pub session : Session
@@ -37,11 +38,15 @@ freshTool = record { events = 0; closed = 0; mode = 0; seq = 0; pages = 0 }
 abbrev pub closedTool : Tool
 closedTool = record { events = 0; closed = 1; mode = 0; seq = 0; pages = 0 }
 
+-- no vCPU ready
+abbrev pub freshShared : Shared
+freshShared = record { ready = 0 }
+
 abbrev pub freshSession : Settings → Session
-freshSession s = record { settings = s; tool = freshTool; ready = 0 }
+freshSession s = record { settings = s; tool = freshTool; shared = freshShared }
 
 abbrev pub closedSession : Settings → Session
-closedSession s = record { settings = s; tool = closedTool; ready = 0 }
+closedSession s = record { settings = s; tool = closedTool; shared = freshShared }
 
 -- all words 0
 abbrev pub clearedState : Session → List ℕ → List ℕ → State
@@ -49,10 +54,10 @@ clearedState s vcpus pages = state s (cleared vcpus) (cleared pages)
 
 -- ---- setters
 abbrev pub withTool : Session → Tool → Session
-withTool s t = record { settings = s .settings; tool = t; ready = s .ready }
+withTool s t = record { settings = s .settings; tool = t; shared = s .shared }
 
 abbrev pub withReadyBits : Session → ℕ → Session
-withReadyBits s x = record { settings = s .settings; tool = s .tool; ready = x }
+withReadyBits s x = record { settings = s .settings; tool = s .tool; shared = record { ready = x } }
 
 abbrev pub withToolEvents : Tool → ℕ → Tool
 withToolEvents t x = record { events = x; closed = t .closed; mode = t .mode; seq = t .seq; pages = t .pages }
@@ -91,7 +96,7 @@ factsIn st guest vcpu =
     record {
       mode = modeOfNumber (st .session .tool .mode);
       guest = guest;
-      ready = isOn (st .session .ready) vcpu;
+      ready = isOn (st .session .shared .ready) vcpu;
       pauses = field (st .vcpus) vcpu PAUSES;
       awaited = field (st .vcpus) vcpu AWAITED;
       seq = field (st .vcpus) vcpu AWAITED-SEQ;

@@ -37,12 +37,18 @@ pub struct Tool {
     pub seq: u32,
 }
 
+// What all of a guest's tools share.
+#[repr(C)]
+pub struct Shared {
+    // Bit i is the ready mark of vCPU i.
+    pub ready: u64,
+}
+
 #[repr(C)]
 pub struct Session {
     pub settings: Settings,
     pub tool: Tool,
-    // Bit i is the ready mark of vCPU i.
-    pub ready: u64,
+    pub shared: Shared,
 }
 
 // What a call gives back: its answer, and the session after it. The session stands first, so that it is copied by whole words.
@@ -111,7 +117,7 @@ impl Session {
         Session {
             settings,
             tool,
-            ready: 0,
+            shared: Shared { ready: 0 },
         }
     }
 
@@ -129,7 +135,7 @@ impl Session {
         Session {
             settings,
             tool,
-            ready: 0,
+            shared: Shared { ready: 0 },
         }
     }
 
@@ -343,7 +349,7 @@ fn handle(
         settings,
         mode,
         guest: guest.len(),
-        ready: s.ready,
+        ready: s.shared.ready,
     };
     let v = verdict::judge(asked, vcpus, id, seq, d);
     let e = match v {
@@ -412,7 +418,8 @@ impl Session {
             };
         }
         let mut s = self;
-        s.ready = store::bits::put_bit(self.ready, vcpu as u32, true);
+        let ready = store::bits::put_bit(self.shared.ready, vcpu as u32, true);
+        s.shared.ready = ready;
         Done {
             answer: Answer::Handled {
                 count: 0,

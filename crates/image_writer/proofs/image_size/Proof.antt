@@ -15,7 +15,7 @@ measure-requires c κs = search needs
 returns : tie.Need-returns
 returns c =
     let a = c .before .before .before .args in
-    c .measure .ensures (a .s .tool .events) (a .s .ready) ∙ ap (λ (t : Tables). length (image t)) (stated-same (state (a .s) (a .vcpus .now) (a .pages .now)))
+    c .measure .ensures (a .s .tool .events) (a .s .shared .ready) ∙ ap (λ (t : Tables). length (image t)) (stated-same (state (a .s) (a .vcpus .now) (a .pages .now)))
 
 pub image-size-spec : {M : Type 1} → statement M
 image-size-spec = tie.close (tie.spec measure-requires returns)
