@@ -1,5 +1,5 @@
 pub mod Cases
-pub mod Answers
+pub mod Numbers
 mod Edge
 mod MessageEdges
 mod SessionEdges

@@ -26,7 +26,7 @@ plainAt k off = record { number = k; count = 0; signal = Quiet; offset = off }
 
 -- the table's row of each case
 abbrev pub paper : Answer → Paper
-paper (Handled n g) = handled n g
+paper (Handled v) = handled (v .count) (v .signal)
 paper Closing = plain 1
 paper Closed = plain 2
 paper ShortOut = plain 3

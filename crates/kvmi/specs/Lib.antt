@@ -4,6 +4,7 @@ pub mod Row
 pub mod Limits
 pub mod Settings
 pub mod Codes
+pub mod Mode
 pub mod Answer
 pub mod Tables
 pub mod Model

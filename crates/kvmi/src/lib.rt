@@ -1,5 +1,6 @@
 // KVMI as the filter speaks it: the types that every layer shares. Ids, events, errors and actions have kvmi.rst's names.
-pub mod message;
+pub mod answers;
+pub mod table;
 
 // What the host allows and has, fixed for a session. Unsigned integers only: a flag is set where it is not 0.
 #[repr(C)]
@@ -36,9 +37,15 @@ pub enum Signal {
     Crash { vcpu: u16 },
 }
 
+// The values of answer 0: how many bytes were written, and what the host is to do.
+pub struct Values {
+    pub count: usize,
+    pub signal: Signal,
+}
+
 // What a host call answers.
 pub enum Answer {
-    Handled { count: usize, signal: Signal },
+    Handled(Values),
     Closing,
     Closed,
     ShortOut,

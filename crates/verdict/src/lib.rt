@@ -126,7 +126,7 @@ pub fn judge(a: Asked, vcpus: &[u64], id: u16, seq: u32, d: &[u8]) -> Verdict
     ensures { λ r. ⌜ r ≡ verdict (a .settings) (factsFor a (now (vcpus .entry)) (now (d .entry))) id seq (now (d .entry)) ⌝ }
 {
     let settings = a.settings;
-    let row = kvmi::message::layout(id);
+    let row = kvmi::table::layout(id);
     let handler = row.handler;
     match handler {
         Handler::GetVersion => {

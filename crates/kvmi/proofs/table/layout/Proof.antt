@@ -5,13 +5,13 @@ use native.Mathlib.Omega.{arith}
 use lib.ListN.{List·getD-eq-default}
 use Rattle.kvmi.specs.Message.{layoutOf, messages, unknown}
 use borrow.Author.Needs.{needs}
-use Rattle.kvmi.proofs.message.layout.Statement.{statement}
-use Rattle.kvmi.proofs.message.layout.Tie as tie
-use Rattle.kvmi.proofs.message.layout.Reads as reads
-use Rattle.kvmi.proofs.message.layout.Lts as lts
-use Rattle.kvmi.proofs.message.asking.Reads as asking-reads
-use Rattle.kvmi.proofs.message.plain.Reads as plain-reads
-use Rattle.kvmi.proofs.message.row.Reads as row-reads
+use Rattle.kvmi.proofs.table.layout.Statement.{statement}
+use Rattle.kvmi.proofs.table.layout.Tie as tie
+use Rattle.kvmi.proofs.table.layout.Reads as reads
+use Rattle.kvmi.proofs.table.layout.Lts as lts
+use Rattle.kvmi.proofs.table.asking.Reads as asking-reads
+use Rattle.kvmi.proofs.table.plain.Reads as plain-reads
+use Rattle.kvmi.proofs.table.row.Reads as row-reads
 
 -- a number that is none of 1 to 16 has no row of its own
 abbrev Unlisted : ℕ → Type 0

@@ -12,7 +12,7 @@ use Rattle.kvmi.specs.Answer.{Paper, paper}
 answerOf : Paper → Answer
 answerOf p =
     getD
-    (Handled (p .count) (p .signal) ∷ Closing ∷ Closed ∷ ShortOut ∷ BadVcpu ∷ BadState ∷ Waiting ∷ BadSettings ∷ BadForm (p .offset)
+    (Handled (record { count = p .count; signal = p .signal }) ∷ Closing ∷ Closed ∷ ShortOut ∷ BadVcpu ∷ BadState ∷ Waiting ∷ BadSettings ∷ BadForm (p .offset)
     ∷ Forbidden (p .offset)
     ∷ Busy ∷ [])
     (p .number)
@@ -20,7 +20,7 @@ answerOf p =
 
 answer-of-paper : (a : Answer) → answerOf (paper a) ≡ a
 unfolding answerOf
-answer-of-paper (Handled n g) = refl
+answer-of-paper (Handled v) = refl
 answer-of-paper Closing = refl
 answer-of-paper Closed = refl
 answer-of-paper ShortOut = refl
@@ -36,34 +36,12 @@ answer-of-paper NotApplicable = refl
 pub paper-injective : (a b : Answer) → paper a ≡ paper b → a ≡ b
 paper-injective a b e = sym (answer-of-paper a) ∙ ap answerOf e ∙ answer-of-paper b
 
--- each case's number and values, as the table has them
+-- the table's numbers, in its order
 pub as-in-the-table :
-    map paper (
-    Handled 5 (Kick true 1)
-    ∷ Closing
-    ∷ Closed
-    ∷ ShortOut
-    ∷ BadVcpu
-    ∷ BadState
-    ∷ Waiting
-    ∷ BadSettings
-    ∷ BadForm 28
-    ∷ Forbidden 8
-    ∷ Busy
-    ∷ NotApplicable
+    map (λ (a : Answer). paper a .number) (
+    Handled (record { count = 5; signal = Quiet })
+    ∷ Closing ∷ Closed ∷ ShortOut ∷ BadVcpu ∷ BadState ∷ Waiting ∷ BadSettings ∷ BadForm 28 ∷ Forbidden 8 ∷ Busy ∷ NotApplicable
     ∷ []
     )
-    ≡ (record { number = 0; count = 5; signal = Kick true 1; offset = 0 })
-    ∷ (record { number = 1; count = 0; signal = Quiet; offset = 0 })
-    ∷ (record { number = 2; count = 0; signal = Quiet; offset = 0 })
-    ∷ (record { number = 3; count = 0; signal = Quiet; offset = 0 })
-    ∷ (record { number = 4; count = 0; signal = Quiet; offset = 0 })
-    ∷ (record { number = 5; count = 0; signal = Quiet; offset = 0 })
-    ∷ (record { number = 6; count = 0; signal = Quiet; offset = 0 })
-    ∷ (record { number = 7; count = 0; signal = Quiet; offset = 0 })
-    ∷ (record { number = 8; count = 0; signal = Quiet; offset = 28 })
-    ∷ (record { number = 9; count = 0; signal = Quiet; offset = 8 })
-    ∷ (record { number = 10; count = 0; signal = Quiet; offset = 0 })
-    ∷ (record { number = 14; count = 0; signal = Quiet; offset = 0 })
-    ∷ []
+    ≡ 0 ∷ 1 ∷ 2 ∷ 3 ∷ 4 ∷ 5 ∷ 6 ∷ 7 ∷ 8 ∷ 9 ∷ 10 ∷ 14 ∷ []
 as-in-the-table = refl
