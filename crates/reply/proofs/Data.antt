@@ -33,11 +33,11 @@ abbrev placeOf : ℕ → ℕ
 placeOf id = tagOf the-type (layoutOf id .handler)
 
 -- f holds of each number below n
-abbrev allBelow : (ℕ → Bool) → ℕ → Bool
+abbrev pub allBelow : (ℕ → Bool) → ℕ → Bool
 allBelow f zero = true
 allBelow f (suc n) = f n && allBelow f n
 
-below : (f : ℕ → Bool) (n i : ℕ) → allBelow f n ≡ true → i < n → f i ≡ true
+pub below : (f : ℕ → Bool) (n i : ℕ) → allBelow f n ≡ true → i < n → f i ≡ true
 below f zero i h g = absurd (not-suc-le-zero g)
 below f (suc n) i h g =
     let both = and-eq-true-iff (f n) (allBelow f n) .0 h in

@@ -1,3 +1,4 @@
 pub mod Lengths
 pub mod Laws
 pub mod Data
+pub mod Off

@@ -1,3 +1,4 @@
 pub mod Written
 pub mod Contents
 pub mod Event
+pub mod Off

@@ -4,8 +4,14 @@ use mathlib.Core.Path.{_≡_}
 use mathlib.Core.List.{List}
 use lib.ListN.{length}
 use Rattle.wire.specs.Bytes.{store}
+use Rattle.reply.specs.declared.Answered.{Answered}
 
 -- the output before and after, the count that is returned, and the bytes; where they do not fit the output stays as it was
 pub record Written (before after : List ℕ) (r : ℕ) (bytes : List ℕ) : Type 0 where
   pub count : r ≡ length bytes
   pub there : after ≡ store before 0 bytes
+
+-- what answers a message is written, and the next event's seq told
+pub record Answers (before after : List ℕ) (r : Answered) (bytes : List ℕ) (seq : ℕ) : Type 0 where
+  pub written : Written before after (r .count) bytes
+  pub next : r .next ≡ seq

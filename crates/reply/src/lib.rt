@@ -2,10 +2,8 @@
 // What is written starts at the front of the output. Where it does not fit nothing is written, and the count is that of all of it.
 use kvmi::Handler;
 use kvmi::ReplyKind;
-use kvmi::ReplyMode;
 use kvmi::Settings;
 ghost use mathlib.Core.Path.{_≡_};
-ghost use mathlib.Core.Bool.{cond};
 ghost use mathlib.Core.List.{[], _++_};
 ghost use Prim.Native.Nat.{_+_, _≤_, min};
 ghost use lib.ListN.{length};
@@ -13,8 +11,10 @@ ghost use Rattle.wire.specs.Bytes.{le, store};
 ghost use Rattle.kvmi.specs.Codes.{isError};
 ghost use Rattle.kvmi.specs.Message.{layoutOf};
 ghost use Rattle.kvmi.specs.Model.{nextSeq};
-ghost use Rattle.kvmi.specs.Reply.{replyBytes, replyData, pauseEvent, commandErrorEvent, answerBytes, answerOf, answerSeq};
-ghost use Rattle.reply.specs.Written.{Written};
+ghost use Rattle.kvmi.specs.Reply.{replyBytes, replyData, pauseEvent, commandErrorEvent, answerOf};
+ghost use Rattle.kvmi.specs.Mode.{modeOfNumber};
+ghost use Rattle.reply.specs.Written.{Written, Answers};
+ghost use Rattle.reply.specs.Off.{offBytes, offSeq, kindSeq};
 ghost use Rattle.reply.specs.Contents.{contentsBytes, contentsCount, contentsEnd, Chosen, Picked};
 ghost use Rattle.reply.specs.Event.{eventFront};
 
@@ -28,6 +28,12 @@ enum Contents {
     Memory { from: usize, count: usize },
 }
 
+// How many bytes an answer has, and the next event's seq after it.
+pub struct Answered {
+    pub count: usize,
+    pub next: u32,
+}
+
 // The seq after a seq: it wraps to 0.
 pub fn next_seq(seq: u32) -> u32
     ensures { λ r. ⌜ r ≡ nextSeq seq ⌝ }
@@ -39,17 +45,6 @@ fn is_error(code: i32) -> bool
     ensures { λ r. ⌜ r ≡ isError code ⌝ }
 {
     code < 0
-}
-
-// The next event's seq after a command is answered: a CMD_ERROR event takes one.
-pub fn seq_after(mode: ReplyMode, seq: u32, code: i32) -> u32
-    ensures { λ r. ⌜ r ≡ answerSeq mode seq code ⌝ }
-{
-    match mode {
-        ReplyMode::On => seq,
-        ReplyMode::Off => seq,
-        ReplyMode::ErrorsOnly => { if is_error(code) { next_seq(seq) } else { seq } }
-    }
 }
 
 fn least(a: usize, b: usize) -> usize
@@ -75,7 +70,7 @@ fn choose(guest: &[u8], id: u16, code: i32, d: &[u8]) -> Contents
     if is_error(code) {
         return Contents::Nothing;
     }
-    let row = kvmi::message::layout(id);
+    let row = kvmi::table::layout(id);
     let handler = row.handler;
     match handler {
         Handler::GetVersion => Contents::Version,
@@ -220,70 +215,55 @@ fn put_command_error(out: &mut [u8], next: u32, code: i32, seq: u32, id: u16) ->
     568
 }
 
-// The event that tells an error while replies are off, and nothing where there is none.
-fn put_failure(out: &mut [u8], next: u32, code: i32, seq: u32, id: u16) -> usize
-    ensures { λ r. ⌜ Written (now (out .entry)) (now (out .exit)) r (cond (isError code) (commandErrorEvent next code seq id) []) ⌝ }
+// The answer while replies are off: where errors are told and this is one, the event that tells it, which takes a seq.
+fn answer_off(out: &mut [u8], mode: u32, next: u32, id: u16, seq: u32, code: i32) -> Answered
+    ensures { λ r. ⌜ Answers (now (out .entry)) (now (out .exit)) r (offBytes mode next id seq code) (offSeq mode next code) ⌝ }
 {
-    if is_error(code) {
-        put_command_error(out, next, code, seq, id)
-    } else {
-        0
+    if (mode != 1) & is_error(code) {
+        return Answered {
+            count: put_command_error(out, next, code, seq, id),
+            next: next_seq(next),
+        };
     }
+    Answered { count: 0, next }
 }
 
-// What is written in answer to a command that a code alone answers.
-fn answer_plainly(out: &mut [u8], mode: ReplyMode, next: u32, id: u16, seq: u32, code: i32) -> usize
-    ensures { λ r. ⌜ Written (now (out .entry)) (now (out .exit)) r (answerBytes mode next id seq code []) ⌝ }
-{
-    match mode {
-        ReplyMode::On => put_code(out, id, seq, code),
-        ReplyMode::Off => 0,
-        ReplyMode::ErrorsOnly => put_failure(out, next, code, seq, id),
-    }
-}
-
-// What is written in answer to a command that is answered with data.
-fn answer_with_data(
-    out: &mut [u8],
-    settings: Settings,
-    guest: &[u8],
-    mode: ReplyMode,
-    next: u32,
-    id: u16,
-    seq: u32,
-    code: i32,
-    d: &[u8],
-) -> usize
-    ensures { λ r. ⌜ Written (now (out .entry)) (now (out .exit)) r (answerBytes mode next id seq code (replyData settings (now (guest .entry)) id (now (d .entry)))) ⌝ }
-{
-    match mode {
-        ReplyMode::On => put_reply(out, settings, guest, id, seq, code, d),
-        ReplyMode::Off => 0,
-        ReplyMode::ErrorsOnly => put_failure(out, next, code, seq, id),
-    }
-}
-
-// What is written in answer to a message; `next` is the next event's seq.
+// What is written in answer to a message, by the number of the reply mode (0: on; 1: off; any other: off, and errors told); `next` is
+// the next event's seq.
 pub fn answer(
     out: &mut [u8],
     settings: Settings,
     guest: &[u8],
-    mode: ReplyMode,
+    mode: u32,
     next: u32,
     id: u16,
     seq: u32,
     code: i32,
     d: &[u8],
-) -> usize
-    ensures { λ r. ⌜ Written (now (out .entry)) (now (out .exit)) r (answerOf (layoutOf id .reply) mode next id seq code (replyData settings (now (guest .entry)) id (now (d .entry)))) ⌝ }
+) -> Answered
+    ensures { λ r. ⌜ Answers (now (out .entry)) (now (out .exit)) r (answerOf (layoutOf id .reply) (modeOfNumber mode) next id seq code (replyData settings (now (guest .entry)) id (now (d .entry)))) (kindSeq (layoutOf id .reply) (modeOfNumber mode) next code) ⌝ }
 {
-    let row = kvmi::message::layout(id);
+    let row = kvmi::table::layout(id);
     let kind = row.reply;
     match kind {
-        ReplyKind::CodeOnly => answer_plainly(out, mode, next, id, seq, code),
-        ReplyKind::WithData => {
-            answer_with_data(out, settings, guest, mode, next, id, seq, code, d)
+        ReplyKind::CodeOnly => {
+            if mode != 0 {
+                return answer_off(out, mode, next, id, seq, code);
+            }
+            Answered {
+                count: put_code(out, id, seq, code),
+                next,
+            }
         }
-        ReplyKind::Silent => 0,
+        ReplyKind::WithData => {
+            if mode != 0 {
+                return answer_off(out, mode, next, id, seq, code);
+            }
+            Answered {
+                count: put_reply(out, settings, guest, id, seq, code, d),
+                next,
+            }
+        }
+        ReplyKind::Silent => Answered { count: 0, next },
     }
 }
