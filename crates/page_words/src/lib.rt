@@ -8,6 +8,11 @@ ghost use Rattle.kvmi.specs.Bits.{bit};
 ghost use Rattle.kvmi.specs.Message.{entryOf, entriesOf};
 ghost use Rattle.page_words.specs.PageWords.{wordKey, placeOf, insertWord, removeWord, standsAt, pageTable, changeWord, addWord, putEntry, runEntries};
 
+// How many words are lent for the pages.
+pub const PAGE_WORDS: usize = 1024;
+
+pub type PageWords = [u64; PAGE_WORDS];
+
 // The access of a page that no word stands for: read, write and execute.
 const RWX: u8 = 7;
 

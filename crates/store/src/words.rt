@@ -9,6 +9,11 @@ ghost use Rattle.store.specs.Words.{field, setField, pending, msrSlot, m
 // How many words a vCPU has.
 pub const BLOCK_WORDS: usize = 272;
 
+// How many words are lent for the vCPUs: a block for each of 16.
+pub const VCPU_WORDS: usize = 4352;
+
+pub type VcpuWords = [u64; VCPU_WORDS];
+
 // The plain fields: the switches and queues of a vCPU, and the event whose reply is awaited with its seq.
 pub const SINGLESTEP: usize = 0;
 
