@@ -9,7 +9,11 @@
 use kvmi::Answer;
 use kvmi::Settings;
 use libc::STDOUT_FILENO;
+use page_words::PAGE_WORDS;
+use page_words::PageWords;
 use session::Session;
+use store::words::VCPU_WORDS;
+use store::words::VcpuWords;
 ghost use Rattle.io.specs.Counts.{Counts};
 
 // What goes from step to step beside the lent words: the session, the settings for images, and how long the last image is.
@@ -46,10 +50,7 @@ fn settings_of(arg: &[u8]) -> Settings {
 
 fn is_handled(answer: Answer) -> bool {
     match answer {
-        Answer::Handled {
-            count: _,
-            signal: _,
-        } => true,
+        Answer::Handled(_) => true,
         _ => false,
     }
 }
@@ -102,8 +103,8 @@ fn move_to(letter: &[u8], held: Held, answer: Answer, session: Session) -> Held 
 fn read_image(
     letter: &[u8],
     held: Held,
-    vcpus: &mut [u64; 4352],
-    pages: &mut [u64; 1024],
+    vcpus: &mut VcpuWords,
+    pages: &mut PageWords,
     image: &[u8],
 ) -> Held {
     let settings = held.settings;
@@ -120,8 +121,8 @@ fn read_image(
 // The image is written into the first `room` bytes of its buffer; where it is not, the one that stands there is kept.
 fn write_image(
     held: Held,
-    vcpus: &mut [u64; 4352],
-    pages: &mut [u64; 1024],
+    vcpus: &mut VcpuWords,
+    pages: &mut PageWords,
     room: usize,
     image: &mut [u8],
 ) -> Held {
@@ -142,12 +143,7 @@ fn write_image(
 }
 
 // A session begins fresh, and its settings are those for images too.
-fn begin(
-    vcpus: &mut [u64; 4352],
-    pages: &mut [u64; 1024],
-    settings: Settings,
-    image: usize,
-) -> Held {
+fn begin(vcpus: &mut VcpuWords, pages: &mut PageWords, settings: Settings, image: usize) -> Held {
     let done = session::begin(settings, vcpus, pages);
     let answer = done.answer;
     print_answer(b"F", answer);
@@ -170,7 +166,7 @@ fn compare(image: &[u8], n: usize, arg: &[u8]) {
 }
 
 // The image that was written last is read.
-fn read_again(held: Held, vcpus: &mut [u64; 4352], pages: &mut [u64; 1024], image: &[u8]) -> Held {
+fn read_again(held: Held, vcpus: &mut VcpuWords, pages: &mut PageWords, image: &[u8]) -> Held {
     let end = within(held.image, image);
     read_image(b"A", held, vcpus, pages, &image[..end])
 }
@@ -179,8 +175,8 @@ fn take_step(
     letter: u8,
     arg: &[u8],
     held: Held,
-    vcpus: &mut [u64; 4352],
-    pages: &mut [u64; 1024],
+    vcpus: &mut VcpuWords,
+    pages: &mut PageWords,
     guest: &mut [u8],
     out: &mut [u8],
     image: &mut [u8],
@@ -204,13 +200,13 @@ fn take_step(
         }
         b'E' => {
             let block = [0u8; 536];
-            let done = s.enter(vcpus, wire::load16(arg, 0), &block, out);
+            let done = entry::enter(s, vcpus, wire::load16(arg, 0), &block, out);
             let answer = done.answer;
             let session = done.session;
             move_to(b"E", held, answer, session)
         }
         b'M' => {
-            let done = s.message(vcpus, pages, arg, out, guest);
+            let done = message::take(s, vcpus, pages, arg, out, guest);
             let answer = done.answer;
             let session = done.session;
             move_to(b"M", held, answer, session)
@@ -231,8 +227,8 @@ fn take_step(
 
 // The steps of a script, in order.
 fn run_script(script: &[u8]) {
-    let mut vcpus = [0u64; 4352];
-    let mut pages = [0u64; 1024];
+    let mut vcpus = [0u64; VCPU_WORDS];
+    let mut pages = [0u64; PAGE_WORDS];
     let mut guest = [0u8; 16384];
     let mut out = [0u8; 4112];
     let mut image = [0u8; 65536];

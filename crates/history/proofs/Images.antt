@@ -25,7 +25,8 @@ use Rattle.kvmi.specs.Call as model
 use Rattle.store.specs.Words.{field, cleared, SINGLESTEP, CRS, EVENTS, PAUSES, AWAITED, AWAITED-SEQ}
 use Rattle.store.specs.Meaning.{msrsOf, vcpuOfWords, vcpusOf}
 use Rattle.page_words.specs.Meaning.{pagesOf}
-use Rattle.session.specs.State.{State, modeOfNumber}
+use Rattle.kvmi.specs.Mode.{modeOfNumber}
+use Rattle.session.specs.State.{State}
 use Rattle.session.specs.Calls.{Told}
 use Rattle.session.specs.Meaning.{awaitedOf, tablesOf, modelOf, WordsGood, WellFormed}
 use Rattle.image_writer.specs.Write.{statedVcpus, statedTables, imageOf}

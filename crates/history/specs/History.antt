@@ -11,7 +11,9 @@ use Rattle.kvmi.specs.Model.{Model, fresh, begun}
 use Rattle.kvmi.specs.Image.{loaded, loadImage}
 use Rattle.kvmi.specs.Call.{Call, message, ready, enter, writeImage}
 use Rattle.session.specs.State.{State}
-use Rattle.session.specs.Calls.{Told, freshOf, messageOf, readyOf, enterOf}
+use Rattle.session.specs.Calls.{Told, freshOf, readyOf}
+use Rattle.message.specs.Message.{messageOf}
+use Rattle.entry.specs.Entry.{enterOf}
 use Rattle.image_writer.specs.Write.{imageOf}
 use Rattle.image_reader.specs.Read.{readOf}
 

@@ -4,7 +4,9 @@
 // and a ready mark leave the settings.
 use kvmi::Answer;
 use kvmi::Signal;
+use page_words::PageWords;
 use session::Session;
+use store::words::VcpuWords;
 ghost use mathlib.Core.Path.{_≡_};
 ghost use Prim.Native.Nat.{min};
 ghost use mathlib.Core.List.{[]};
@@ -87,12 +89,7 @@ fn vcpu_number(vcpu: u32) -> u16
 // ---- the calls
 
 // Of the session only its settings are read.
-fn fresh(
-    s: Session,
-    vcpus: &mut [u64; 4352],
-    pages: &mut [u64; 1024],
-    result: &mut [u64; 5],
-) -> Done
+fn fresh(s: Session, vcpus: &mut VcpuWords, pages: &mut PageWords, result: &mut [u64; 5]) -> Done
     ensures { λ r. ⌜ (r ≡ freshGiven s (now (vcpus .entry)) (now (pages .entry)) .done)
         × (now (vcpus .exit) ≡ freshGiven s (now (vcpus .entry)) (now (pages .entry)) .vcpus)
         × (now (pages .exit) ≡ freshGiven s (now (vcpus .entry)) (now (pages .entry)) .pages)
@@ -107,8 +104,8 @@ fn fresh(
 #[no_mangle]
 pub extern "C" fn semblurick_fresh(
     s: &mut Session,
-    vcpus: &mut [u64; 4352],
-    pages: &mut [u64; 1024],
+    vcpus: &mut VcpuWords,
+    pages: &mut PageWords,
     result: &mut [u64; 5],
 ) -> u32
     ensures { λ r. ⌜ (r ≡ freshGiven (now (s .entry)) (now (vcpus .entry)) (now (pages .entry)) .done .code)
@@ -138,15 +135,14 @@ pub extern "C" fn semblurick_ready(s: &mut Session, vcpu: u32, result: &mut [u64
         × (now (result .exit) ≡ readyGiven (now (s .entry)) vcpu .result) ⌝ }
 {
     let d = ready(*s, vcpu, result);
-    s.tool = d.session.tool;
     s.shared = d.session.shared;
     d.code
 }
 
 fn message(
     s: Session,
-    vcpus: &mut [u64; 4352],
-    pages: &mut [u64; 1024],
+    vcpus: &mut VcpuWords,
+    pages: &mut PageWords,
     msg: &[u8],
     out: &mut [u8],
     guest: &mut [u8],
@@ -159,7 +155,7 @@ fn message(
         × (now (guest .exit) ≡ messageGiven s (now (vcpus .entry)) (now (pages .entry)) (now (msg .entry)) (now (out .entry)) (now (guest .entry)) .guest)
         × (now (result .exit) ≡ messageGiven s (now (vcpus .entry)) (now (pages .entry)) (now (msg .entry)) (now (out .entry)) (now (guest .entry)) .result) ⌝ }
 {
-    let done = s.message(vcpus, pages, msg, out, guest);
+    let done = message::take(s, vcpus, pages, msg, out, guest);
     finish(done, result)
 }
 
@@ -167,8 +163,8 @@ fn message(
 #[no_mangle]
 pub extern "C" fn semblurick_message(
     s: &mut Session,
-    vcpus: &mut [u64; 4352],
-    pages: &mut [u64; 1024],
+    vcpus: &mut VcpuWords,
+    pages: &mut PageWords,
     msg: &[u8],
     out: &mut [u8],
     guest: &mut [u8],
@@ -183,14 +179,18 @@ pub extern "C" fn semblurick_message(
         × (now (result .exit) ≡ messageGiven (now (s .entry)) (now (vcpus .entry)) (now (pages .entry)) (now (msg .entry)) (now (out .entry)) (now (guest .entry)) .result) ⌝ }
 {
     let d = message(*s, vcpus, pages, msg, out, guest, result);
-    s.tool = d.session.tool;
+    s.tool.events = d.session.tool.events;
+    s.tool.pages = d.session.tool.pages;
+    s.tool.closed = d.session.tool.closed;
+    s.tool.mode = d.session.tool.mode;
+    s.tool.seq = d.session.tool.seq;
     s.shared = d.session.shared;
     d.code
 }
 
 fn enter(
     s: Session,
-    vcpus: &mut [u64; 4352],
+    vcpus: &mut VcpuWords,
     vcpu: u32,
     block: &[u8],
     out: &mut [u8],
@@ -201,7 +201,7 @@ fn enter(
         × (now (out .exit) ≡ enterGiven s (now (vcpus .entry)) vcpu (now (block .entry)) (now (out .entry)) .out)
         × (now (result .exit) ≡ enterGiven s (now (vcpus .entry)) vcpu (now (block .entry)) (now (out .entry)) .result) ⌝ }
 {
-    let done = s.enter(vcpus, vcpu_number(vcpu), block, out);
+    let done = entry::enter(s, vcpus, vcpu_number(vcpu), block, out);
     finish(done, result)
 }
 
@@ -209,7 +209,7 @@ fn enter(
 #[no_mangle]
 pub extern "C" fn semblurick_enter(
     s: &mut Session,
-    vcpus: &mut [u64; 4352],
+    vcpus: &mut VcpuWords,
     vcpu: u32,
     block: &[u8],
     out: &mut [u8],
@@ -222,16 +222,15 @@ pub extern "C" fn semblurick_enter(
         × (now (result .exit) ≡ enterGiven (now (s .entry)) (now (vcpus .entry)) vcpu (now (block .entry)) (now (out .entry)) .result) ⌝ }
 {
     let d = enter(*s, vcpus, vcpu, block, out, result);
-    s.tool = d.session.tool;
-    s.shared = d.session.shared;
+    s.tool.seq = d.session.tool.seq;
     d.code
 }
 
 // Of the session only its settings are read.
 fn image_read(
     s: Session,
-    vcpus: &mut [u64; 4352],
-    pages: &mut [u64; 1024],
+    vcpus: &mut VcpuWords,
+    pages: &mut PageWords,
     image: &[u8],
     result: &mut [u64; 5],
 ) -> Done
@@ -249,8 +248,8 @@ fn image_read(
 #[no_mangle]
 pub extern "C" fn semblurick_image_read(
     s: &mut Session,
-    vcpus: &mut [u64; 4352],
-    pages: &mut [u64; 1024],
+    vcpus: &mut VcpuWords,
+    pages: &mut PageWords,
     image: &[u8],
     result: &mut [u64; 5],
 ) -> u32
@@ -267,8 +266,8 @@ pub extern "C" fn semblurick_image_read(
 
 fn image_write(
     s: Session,
-    vcpus: &[u64; 4352],
-    pages: &[u64; 1024],
+    vcpus: &VcpuWords,
+    pages: &PageWords,
     out: &mut [u8],
     result: &mut [u64; 5],
 ) -> u32
@@ -285,8 +284,8 @@ fn image_write(
 #[no_mangle]
 pub extern "C" fn semblurick_image_write(
     s: &Session,
-    vcpus: &[u64; 4352],
-    pages: &[u64; 1024],
+    vcpus: &VcpuWords,
+    pages: &PageWords,
     out: &mut [u8],
     result: &mut [u64; 5],
 ) -> u32
@@ -297,7 +296,7 @@ pub extern "C" fn semblurick_image_write(
     image_write(*s, vcpus, pages, out, result)
 }
 
-fn image_size(s: Session, vcpus: &[u64; 4352], pages: &[u64; 1024]) -> usize
+fn image_size(s: Session, vcpus: &VcpuWords, pages: &PageWords) -> usize
     ensures { λ r. ⌜ r ≡ sizeGiven s (now (vcpus .entry)) (now (pages .entry)) ⌝ }
 {
     image_writer::image_size(s, vcpus, pages)
@@ -305,11 +304,7 @@ fn image_size(s: Session, vcpus: &[u64; 4352], pages: &[u64; 1024]) -> usize
 
 // How many bytes the image of a session has.
 #[no_mangle]
-pub extern "C" fn semblurick_image_size(
-    s: &Session,
-    vcpus: &[u64; 4352],
-    pages: &[u64; 1024],
-) -> usize
+pub extern "C" fn semblurick_image_size(s: &Session, vcpus: &VcpuWords, pages: &PageWords) -> usize
     ensures { λ r. ⌜ r ≡ sizeGiven (now (s .entry)) (now (vcpus .entry)) (now (pages .entry)) ⌝ }
 {
     image_size(*s, vcpus, pages)

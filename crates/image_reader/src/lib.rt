@@ -5,11 +5,12 @@ use image_step::Progress;
 use image_step::Step;
 use kvmi::Answer;
 use kvmi::Settings;
-use kvmi::Signal;
+use page_words::PageWords;
 use session::Done;
 use session::Session;
 use session::Shared;
 use session::Tool;
+use store::words::VcpuWords;
 ghost use mathlib.Core.Path.{_≡_};
 ghost use mathlib.Core.Bool.{true};
 ghost use Prim.Native.Nat.{_+_, _≤_};
@@ -199,8 +200,8 @@ fn opened(settings: Settings, events: u64, pages: u64, ready: u64) -> Session
 pub fn read_image(
     settings: Settings,
     l: &[u8],
-    vcpus: &mut [u64; 4352],
-    pages: &mut [u64; 1024],
+    vcpus: &mut VcpuWords,
+    pages: &mut PageWords,
 ) -> Done
     ensures { λ r. ⌜ told r (now (vcpus .exit)) (now (pages .exit)) [] [] ≡ readOf settings (now (l .entry)) (now (vcpus .entry)) (now (pages .entry)) ⌝ }
 {
@@ -229,10 +230,7 @@ pub fn read_image(
             store::words::clear(pages);
             load(l, vcpus, pages);
             Done {
-                answer: Answer::Handled {
-                    count: 0,
-                    signal: Signal::Quiet,
-                },
+                answer: kvmi::answers::done(),
                 session: opened(settings, events, count as u64, ready),
             }
         }

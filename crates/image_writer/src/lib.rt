@@ -1,6 +1,5 @@
 // The image writer: the image of a session, or the answer where none is written.
 use kvmi::Answer;
-use kvmi::Signal;
 use session::Done;
 use session::Session;
 ghost use mathlib.Core.Path.{_≡_};
@@ -68,10 +67,7 @@ pub fn write_image(s: Session, vcpus: &[u64], pages: &[u64], out: &mut [u8]) -> 
         };
     }
     Done {
-        answer: Answer::Handled {
-            count,
-            signal: Signal::Quiet,
-        },
+        answer: kvmi::answers::wrote(count),
         session: s,
     }
 }

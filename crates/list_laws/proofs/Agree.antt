@@ -26,8 +26,10 @@ use Rattle.kvmi.specs.Verdict.{isInvalid, isUnready, isDenied, isUnsupported, i
 use Rattle.kvmi.specs.Reply.{messageBytes}
 use Rattle.kvmi.specs.Case.{registerData}
 use Rattle.store.specs.Words.{field, setField, putBit64, CRS}
-use Rattle.session.specs.State.{State, factsIn, change}
-use Rattle.session.specs.Calls.{Told, answering, judgedOf, headedOf, messageOf, readyOf}
+use Rattle.session.specs.State.{State}
+use Rattle.session.specs.Calls.{Told, readyOf}
+use Rattle.change.specs.Change.{change}
+use Rattle.message.specs.Message.{factsIn, answering, judgedOf, headedOf, messageOf}
 use Rattle.laws.proofs.Bool.{test}
 use Rattle.laws.proofs.Bits.{bit-eqb}
 use Rattle.refine.proofs.Words.{few-vcpus}

@@ -15,7 +15,8 @@ use Rattle.kvmi.specs.Reply.{messageBytes}
 use Rattle.kvmi.specs.Case.{registerData}
 use Rattle.store.specs.Words.{field, SINGLESTEP, CRS, EVENTS, PAUSES, AWAITED, AWAITED-SEQ}
 use Rattle.session.specs.State.{State}
-use Rattle.session.specs.Calls.{Told, judgedOf, messageOf}
+use Rattle.session.specs.Calls.{Told}
+use Rattle.message.specs.Message.{judgedOf, messageOf}
 use Rattle.vcpu_list.specs.declared.Vcpu.{Vcpu}
 use Rattle.vcpu_list.specs.List.{Listed, crSet}
 

@@ -27,7 +27,9 @@ use Rattle.store.specs.Words.{field, setField, setMsrBit, putBit64, SINGLESTEP,
 use Rattle.page_words.specs.PageWords.{PageTable, runEntries}
 use Rattle.store.specs.Meaning.{msrsOf, vcpusOf, vcpuOfWords}
 use Rattle.page_words.specs.Meaning.{pagesOf}
-use Rattle.session.specs.State.{State, state, withField, withVcpuWords, numberOfMode, modeOfNumber, Changed, changed, change}
+use Rattle.kvmi.specs.Mode.{numberOfMode, modeOfNumber}
+use Rattle.session.specs.State.{State, state, withField, withVcpuWords}
+use Rattle.change.specs.Change.{Changed, changed, change}
 use Rattle.session.specs.Meaning.{awaitedIn, awaitedOf, tablesOf, modelOf, WordsGood}
 use Rattle.laws.proofs.Bool.{test, every-and}
 use Rattle.laws.proofs.Kept.{vm-event-small, vcpu-event-small}

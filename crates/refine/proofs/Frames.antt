@@ -25,8 +25,12 @@ use Rattle.kvmi.specs.Change.{signalOf, modeFor}
 use Rattle.kvmi.specs.Reply.{replyData, pauseEvent, answerOf}
 use Rattle.kvmi.specs.Verdict.{verdict}
 use Rattle.store.specs.Words.{field, PAUSES, AWAITED}
-use Rattle.session.specs.State.{State, modeOfNumber, factsIn, Changed, change}
-use Rattle.session.specs.Calls.{Told, toldSame, toldWritten, toldClosing, answering, judgedOf, headedOf, messageOf, readyOf, pausingOf, enterOf}
+use Rattle.kvmi.specs.Mode.{modeOfNumber}
+use Rattle.session.specs.State.{State}
+use Rattle.session.specs.Calls.{Told, toldSame, toldWritten, toldClosing, readyOf}
+use Rattle.change.specs.Change.{Changed, change}
+use Rattle.message.specs.Message.{factsIn, answering, judgedOf, headedOf, messageOf}
+use Rattle.entry.specs.Entry.{pausingOf, enterOf}
 use Rattle.laws.proofs.Verdicts.{pick}
 
 -- ---- "None": answers 2 to 6 change nothing in session, tables, output or guest memory

@@ -44,10 +44,14 @@ use Rattle.store.specs.Words.{field, setField, putBit64, cleared, SINGLESTEP, P
 use Rattle.store.specs.Meaning.{msrsOf, vcpusOf, vcpuOfWords}
 use Rattle.page_words.specs.Meaning.{pagesOf, PagesGood}
 use Rattle.session.specs.declared.Session.{Session}
-use Rattle.session.specs.State.{State, state, freshSession, closedSession, clearedState, withReadyBits, withSeqOf, withField, modeOfNumber, factsIn, Changed, changed, change}
-use Rattle.session.specs.Calls.{Told, toldSame, toldWritten, toldClosing, freshOf, answering, judgedOf, headedOf, messageOf, readyOf, pausingOf, enterOf}
+use Rattle.kvmi.specs.Mode.{modeOfNumber}
+use Rattle.session.specs.State.{State, state, freshSession, closedSession, clearedState, withReadyBits, withSeqOf, withField}
+use Rattle.session.specs.Calls.{Told, toldSame, toldWritten, toldClosing, freshOf, readyOf}
+use Rattle.change.specs.Change.{Changed, changed, change}
+use Rattle.change.proofs.Laws.{change-keeps}
+use Rattle.message.specs.Message.{factsIn, answering, judgedOf, headedOf, messageOf}
+use Rattle.entry.specs.Entry.{pausingOf, enterOf}
 use Rattle.session.specs.Meaning.{awaitedIn, awaitedOf, tablesOf, modelOf, WordsGood, WellFormed}
-use Rattle.session.proofs.Kept.{change-keeps}
 use Rattle.laws.proofs.Bool.{and-l, and-r, test}
 use Rattle.laws.proofs.Bits.{put-below}
 use Rattle.laws.proofs.Verdicts.{pick, and-false, or-false-l, Passed, verdict-cases, sound-of}

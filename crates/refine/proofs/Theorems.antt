@@ -37,8 +37,12 @@ use Rattle.kvmi.specs.Valid.{Valid}
 use Rattle.kvmi.specs.Call as model
 use Rattle.store.specs.Words.{field, setField, setMsrBit, cleared, SINGLESTEP, CRS, EVENTS, PAUSES, AWAITED, AWAITED-SEQ}
 use Rattle.page_words.specs.PageWords.{runEntries}
-use Rattle.session.specs.State.{State, state, freshSession, clearedState, withField, withSeqOf, modeOfNumber, factsIn, change}
-use Rattle.session.specs.Calls.{Told, toldSame, freshOf, answering, judgedOf, headedOf, messageOf, readyOf, enterOf}
+use Rattle.kvmi.specs.Mode.{modeOfNumber}
+use Rattle.session.specs.State.{State, state, freshSession, clearedState, withField, withSeqOf}
+use Rattle.session.specs.Calls.{Told, toldSame, freshOf, readyOf}
+use Rattle.change.specs.Change.{change}
+use Rattle.message.specs.Message.{factsIn, answering, judgedOf, headedOf, messageOf}
+use Rattle.entry.specs.Entry.{enterOf}
 use Rattle.session.specs.Meaning.{tablesOf, modelOf, WordsGood, WellFormed}
 use Rattle.laws.proofs.Verdicts.{pick, Passed, verdict-cases, sound-of}
 use Rattle.laws.proofs.Kept.{empty-valid}

@@ -20,7 +20,8 @@ use Rattle.store.specs.Words.{field, setField, msrWord, msrSlot, setMsrBit, SIN
 use Rattle.store.specs.Meaning.{vcpuOfWords, vcpusOf}
 use Rattle.page_words.specs.Meaning.{PagesGood}
 use Rattle.session.specs.declared.Tool.{Tool}
-use Rattle.session.specs.State.{State, state, withTool, withVcpuWords, withField, factsIn}
+use Rattle.session.specs.State.{State, state, withTool, withVcpuWords, withField}
+use Rattle.message.specs.Message.{factsIn}
 use Rattle.session.specs.Meaning.{awaitedIn, awaitedOf, tablesOf, modelOf, WordsGood, WellFormed}
 use Rattle.laws.proofs.Bool.{and-l, and-r, test}
 use Rattle.laws.proofs.Same.{on-high}

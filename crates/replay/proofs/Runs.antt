@@ -12,8 +12,11 @@ use Rattle.kvmi.specs.Message.{layoutOf, sizeFits, namesVcpu, vcpuOf, switchesA
 use Rattle.kvmi.specs.Verdict.{isInvalid, isUnready, isDenied, isUnsupported, isBusy, isAbsent, changeOf, losesErrors, commandVerdict, verdict}
 use Rattle.kvmi.specs.Reply.{messageBytes, replyBytes, replyData, answerBytes, answerSeq, answerOf}
 use Rattle.store.specs.Words.{field, putBit64, cleared}
-use Rattle.session.specs.State.{freshSession, withReadyBits, clearedState, modeOfNumber, change}
-use Rattle.session.specs.Calls.{freshOf, answering, judgedOf, headedOf, messageOf, readyOf}
+use Rattle.kvmi.specs.Mode.{modeOfNumber}
+use Rattle.session.specs.State.{freshSession, withReadyBits, clearedState}
+use Rattle.session.specs.Calls.{freshOf, readyOf}
+use Rattle.change.specs.Change.{change}
+use Rattle.message.specs.Message.{answering, judgedOf, headedOf, messageOf}
 use Rattle.stream.specs.Cut.{totalOf, cutOf, extentOf}
 use Rattle.stream.specs.Signed.{signedOf}
 use Rattle.stream.specs.Line.{idOf, seqOf, isCommandError, errorAt, errorOf, lineOf}

@@ -7,7 +7,8 @@ use lib.Dec.{eqb}
 use Rattle.kvmi.specs.declared.Settings.{Settings}
 use Rattle.session.specs.declared.Session.{Session}
 use Rattle.session.specs.State.{State, state}
-use Rattle.session.specs.Calls.{Told, freshOf, readyOf, messageOf}
+use Rattle.session.specs.Calls.{Told, freshOf, readyOf}
+use Rattle.message.specs.Message.{messageOf}
 use Rattle.wire.specs.Bytes.{store}
 use Rattle.stream.specs.declared.Line.{Line}
 use Rattle.stream.specs.declared.End.{End}

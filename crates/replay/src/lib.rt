@@ -1,7 +1,9 @@
 // Document 01's runner, but for reading and printing: the session that it starts with, what becomes of one message, and the text
 // that is printed.
 use kvmi::Settings;
+use page_words::PageWords;
 use session::Session;
+use store::words::VcpuWords;
 use stream::Cut;
 use stream::End;
 use stream::Line;
@@ -51,7 +53,7 @@ pub fn settings() -> Settings
 }
 
 // A fresh session whose two vCPUs are ready, on whatever words are lent.
-pub fn start(vcpus: &mut [u64; 4352], pages: &mut [u64; 1024]) -> Session
+pub fn start(vcpus: &mut VcpuWords, pages: &mut PageWords) -> Session
     ensures { λ r. ⌜ state r (now (vcpus .exit)) (now (pages .exit)) ≡ startOf (now (vcpus .entry)) (now (pages .entry)) ⌝ }
 {
     let begun = session::begin(settings(), vcpus, pages);
@@ -65,15 +67,15 @@ pub fn start(vcpus: &mut [u64; 4352], pages: &mut [u64; 1024]) -> Session
 // One message, whole or cut, through the session.
 pub fn pass(
     s: Session,
-    vcpus: &mut [u64; 4352],
-    pages: &mut [u64; 1024],
+    vcpus: &mut VcpuWords,
+    pages: &mut PageWords,
     msg: &[u8],
     out: &mut [u8],
     guest: &mut [u8],
 ) -> Passed
     ensures { λ r. ⌜ left r (now (vcpus .exit)) (now (pages .exit)) (now (out .exit)) (now (guest .exit)) ≡ passedOf (state s (now (vcpus .entry)) (now (pages .entry))) (now (msg .entry)) (now (out .entry)) (now (guest .entry)) ⌝ }
 {
-    let done = s.message(vcpus, pages, msg, out, guest);
+    let done = message::take(s, vcpus, pages, msg, out, guest);
     let answer = done.answer;
     let session = done.session;
     Passed {
@@ -87,8 +89,8 @@ pub fn pass(
 fn tell(
     index: u64,
     s: Session,
-    vcpus: &mut [u64; 4352],
-    pages: &mut [u64; 1024],
+    vcpus: &mut VcpuWords,
+    pages: &mut PageWords,
     msg: &[u8],
     out: &mut [u8],
     guest: &mut [u8],
@@ -119,8 +121,8 @@ fn tell(
 pub fn turn(
     index: u64,
     s: Session,
-    vcpus: &mut [u64; 4352],
-    pages: &mut [u64; 1024],
+    vcpus: &mut VcpuWords,
+    pages: &mut PageWords,
     msg: &[u8],
     out: &mut [u8],
     guest: &mut [u8],

@@ -3,8 +3,12 @@
 use libc::STDERR_FILENO;
 use libc::STDIN_FILENO;
 use libc::STDOUT_FILENO;
+use page_words::PAGE_WORDS;
+use page_words::PageWords;
 use replay::Next;
 use session::Session;
+use store::words::VCPU_WORDS;
+use store::words::VcpuWords;
 use stream::End;
 ghost use Prim.Native.Nat.{_≤_};
 ghost use lib.ListN.{length};
@@ -67,8 +71,8 @@ fn print_end(end: End) {
 fn take_turn(
     index: u64,
     s: Session,
-    vcpus: &mut [u64; 4352],
-    pages: &mut [u64; 1024],
+    vcpus: &mut VcpuWords,
+    pages: &mut PageWords,
     msg: &mut [u8],
     out: &mut [u8],
     guest: &mut [u8],
@@ -94,8 +98,8 @@ fn take_turn(
 // an index can count.
 fn serve(
     fresh: Session,
-    vcpus: &mut [u64; 4352],
-    pages: &mut [u64; 1024],
+    vcpus: &mut VcpuWords,
+    pages: &mut PageWords,
     msg: &mut [u8],
     out: &mut [u8],
     guest: &mut [u8],
@@ -126,8 +130,8 @@ fn serve(
 
 // A message of 65,536 bytes at most, the least output that a message is given, and four zero pages of guest memory.
 fn main() {
-    let mut vcpus = [0u64; 4352];
-    let mut pages = [0u64; 1024];
+    let mut vcpus = [0u64; VCPU_WORDS];
+    let mut pages = [0u64; PAGE_WORDS];
     let mut msg = [0u8; 65536];
     let mut out = [0u8; 4112];
     let mut guest = [0u8; 16384];

@@ -7,13 +7,14 @@ use mathlib.Core.Option.{Option, none, some}
 use lib.ListN.{length, getD}
 use lib.Dec.{eqb}
 use Rattle.kvmi.specs.Settings.{inRange}
+use Rattle.kvmi.specs.Mode.{modeOfNumber}
 use Rattle.kvmi.specs.Tables.{Tables}
 use Rattle.kvmi.specs.Model.{Awaited, Model}
 use Rattle.kvmi.specs.Valid.{Valid}
 use Rattle.store.specs.Words.{field, SINGLESTEP, AWAITED, AWAITED-SEQ}
 use Rattle.store.specs.Meaning.{msrsOf, vcpusOf}
 use Rattle.page_words.specs.Meaning.{pagesOf, PagesGood}
-use Rattle.session.specs.State.{State, modeOfNumber}
+use Rattle.session.specs.State.{State}
 
 -- the event that a vCPU awaits a reply to; 0 stands for none
 unfoldable pub awaitedIn : List ℕ → ℕ → Option Awaited

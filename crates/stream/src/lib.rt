@@ -104,10 +104,7 @@ pub fn answer_number(a: Answer) -> u8
     ensures { λ r. ⌜ r ≡ paper a .number ⌝ }
 {
     match a {
-        Answer::Handled {
-            count: _,
-            signal: _,
-        } => 0,
+        Answer::Handled(_) => 0,
         Answer::Closing => 1,
         Answer::Closed => 2,
         Answer::ShortOut => 3,
@@ -127,7 +124,7 @@ pub fn answer_count(a: Answer) -> usize
     ensures { λ r. ⌜ r ≡ paper a .count ⌝ }
 {
     match a {
-        Answer::Handled { count, signal: _ } => count,
+        Answer::Handled(values) => values.count,
         Answer::Closing => 0,
         Answer::Closed => 0,
         Answer::ShortOut => 0,

@@ -2,9 +2,13 @@
 // A stream is read whole and then cut into its messages.
 use libc::STDERR_FILENO;
 use libc::STDOUT_FILENO;
+use page_words::PAGE_WORDS;
+use page_words::PageWords;
 use replay::Next;
 use replay::Turned;
 use session::Session;
+use store::words::VCPU_WORDS;
+use store::words::VcpuWords;
 use stream::End;
 ghost use Prim.Native.Nat.{_≤_, min};
 ghost use mathlib.Core.Path.{_≡_};
@@ -39,8 +43,8 @@ fn print_end(end: End) {
 fn take_turn(
     index: u64,
     s: Session,
-    vcpus: &mut [u64; 4352],
-    pages: &mut [u64; 1024],
+    vcpus: &mut VcpuWords,
+    pages: &mut PageWords,
     msg: &[u8],
     out: &mut [u8],
     guest: &mut [u8],
@@ -56,8 +60,8 @@ fn take_turn(
 fn serve(
     all: &[u8],
     fresh: Session,
-    vcpus: &mut [u64; 4352],
-    pages: &mut [u64; 1024],
+    vcpus: &mut VcpuWords,
+    pages: &mut PageWords,
     out: &mut [u8],
     guest: &mut [u8],
 ) {
@@ -81,8 +85,8 @@ fn serve(
 
 // A stream through a fresh session whose two vCPUs are ready, over four zero pages of guest memory.
 fn run(all: &[u8]) {
-    let mut vcpus = [0u64; 4352];
-    let mut pages = [0u64; 1024];
+    let mut vcpus = [0u64; VCPU_WORDS];
+    let mut pages = [0u64; PAGE_WORDS];
     let mut out = [0u8; 4112];
     let mut guest = [0u8; 16384];
     let s = replay::start(&mut vcpus, &mut pages);

@@ -1,7 +1,6 @@
 // vCPU records as a list that the host lends, for a host that keeps them itself: marking one ready, and one CR switch.
 // What is done to a record is a function on the record by value; the two over the list reach the record and store it back.
 use kvmi::Answer;
-use kvmi::Signal;
 ghost use mathlib.Core.Path.{_≡_};
 ghost use Rattle.vcpu_list.specs.List.{one, listed, done, oneReady, oneCr, markedReady, crSet};
 
@@ -33,10 +32,7 @@ fn handled(vcpu: Vcpu) -> Changed
 {
     Changed {
         vcpu,
-        answer: Answer::Handled {
-            count: 0,
-            signal: Signal::Quiet,
-        },
+        answer: kvmi::answers::done(),
     }
 }
 

@@ -3,7 +3,7 @@ use mathlib.Core.Path.{sym, _∙_}
 use borrow.Author.Tests.{not-true, not-false}
 use denote.Ref.{now}
 use Rattle.kvmi.specs.Settings.{inRange}
-use Rattle.session.specs.Code.{countsFit}
+use Rattle.session.specs.Calls.{countsFit}
 use Rattle.kvmi.specs.Image.{loadImage}
 use Rattle.image_reader.specs.Read.{readOf}
 use Rattle.image_reader.proofs.Loads.{told-bad, told-forbidden, told-accepted}
@@ -48,6 +48,9 @@ clear-requires-2 c κs = search needs
 load-requires : tie.Need-load-requires
 load-requires c κs = search needs
 
+done-requires : tie.Need-done-requires
+done-requires c κs = search needs
+
 opened-requires : tie.Need-opened-requires
 opened-requires c κs = search needs
 
@@ -61,7 +64,7 @@ returns-3 c = simp (sym (c .before .before .before .before .before .before .in-r
 
 returns-4 : tie.Need-returns-4
 unfolding readOf inRange countsFit
-returns-4 c = simp (sym (c .before .before .before .before .before .before .before .before .before .before .before .before .before .in-range .ensures) ∙ not-false _ (c .before .before .before .before .before .before .before .before .before .before .before .before .if1 .left), c .opened .ensures) (told-accepted (c .before .before .before .before .before .before .before .before .before .before .before .before .before .before .before .args .settings) _ _ (loadImage (c .before .before .before .before .before .before .before .before .before .before .before .before .before .before .before .args .settings) (now (c .before .before .before .before .before .before .before .before .before .before .before .before .before .before .before .args .l))) _ _ _ _ _ (sym (c .before .before .before .before .before .before .before .before .before .before .before .test .ensures) ∙ c .before .before .before .before .before .before .before .before .before .tested3 .given .1) (λ u e. let g = c .before .load .ensures (c .before .before .before .before .before .before .before .before .before .before .before .before .before .before .before .args .settings) u e in (g .0 ∙ rw (c .before .before .before .before .before .before .clear .ensures), g .1 ∙ rw (c .before .before .before .before .clear2 .ensures))))
+returns-4 c = simp (sym (c .before .before .before .before .before .before .before .before .before .before .before .before .before .before .in-range .ensures) ∙ not-false _ (c .before .before .before .before .before .before .before .before .before .before .before .before .before .if1 .left), c .before .done .ensures, c .opened .ensures) (told-accepted (c .before .before .before .before .before .before .before .before .before .before .before .before .before .before .before .before .args .settings) _ _ (loadImage (c .before .before .before .before .before .before .before .before .before .before .before .before .before .before .before .before .args .settings) (now (c .before .before .before .before .before .before .before .before .before .before .before .before .before .before .before .before .args .l))) _ _ _ _ _ (sym (c .before .before .before .before .before .before .before .before .before .before .before .before .test .ensures) ∙ c .before .before .before .before .before .before .before .before .before .before .tested3 .given .1) (λ u e. let g = c .before .before .load .ensures (c .before .before .before .before .before .before .before .before .before .before .before .before .before .before .before .before .args .settings) u e in (g .0 ∙ rw (c .before .before .before .before .before .before .before .clear .ensures), g .1 ∙ rw (c .before .before .before .before .before .clear2 .ensures))))
 
 pub read-image-spec : {M : Type 1} → statement M
 read-image-spec =
@@ -79,6 +82,7 @@ read-image-spec =
     clear-requires
     clear-requires-2
     load-requires
+    done-requires
     opened-requires
     returns-2
     returns-3

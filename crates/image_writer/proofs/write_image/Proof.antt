@@ -44,17 +44,20 @@ returns-3 c =
     let there = c .before .before .before .put .ensures .1 ∙ ap (λ (t : Tables). store (a .out .now) 0 (image t)) (stated-same st) in
     image-past st _ (c .before .before .before .before .before .before .before .stated .ensures) (c .before .before .before .before .before .before .before .before .if1 .left) _ (sym (c .before .before .before .before .before .before .awaits .ensures) ∙ c .before .before .before .before .before .if2 .left) _ _ there size (c .if3 .taken)
 
+wrote-requires : tie.Need-wrote-requires
+wrote-requires c κs = search needs
+
 same-length-2 : tie.Need-same-length-2
 same-length-2 c = search needs
 
 returns-4 : tie.Need-returns-4
 returns-4 c =
-    let a = c .before .before .before .before .before .before .before .before .before .before .before .before .before .args in
+    let a = c .before .before .before .before .before .before .before .before .before .before .before .before .before .before .args in
     let st = state (a .s) (a .vcpus .now) (a .pages .now) in
-    let size = c .before .before .before .put .ensures .0 ∙ ap (λ (t : Tables). length (image t)) (stated-same st) in
-    let there = c .before .before .before .put .ensures .1 ∙ ap (λ (t : Tables). store (a .out .now) 0 (image t)) (stated-same st) in
-    let room : length (image (statedTables st)) ≤ length (a .out .now) = rw (there, length-store, size) at (c .if3 .left) in
-    rw (there, size) (image-whole st _ (c .before .before .before .before .before .before .before .stated .ensures) (c .before .before .before .before .before .before .before .before .if1 .left) _ (sym (c .before .before .before .before .before .before .awaits .ensures) ∙ c .before .before .before .before .before .if2 .left) room)
+    let size = c .before .before .before .before .put .ensures .0 ∙ ap (λ (t : Tables). length (image t)) (stated-same st) in
+    let there = c .before .before .before .before .put .ensures .1 ∙ ap (λ (t : Tables). store (a .out .now) 0 (image t)) (stated-same st) in
+    let room : length (image (statedTables st)) ≤ length (a .out .now) = rw (there, length-store, size) at (c .before .if3 .left) in
+    rw (c .wrote .ensures, there, size) (image-whole st _ (c .before .before .before .before .before .before .before .before .stated .ensures) (c .before .before .before .before .before .before .before .before .before .if1 .left) _ (sym (c .before .before .before .before .before .before .before .awaits .ensures) ∙ c .before .before .before .before .before .before .if2 .left) room)
 
 pub write-image-spec : {M : Type 1} → statement M
 write-image-spec =
@@ -67,5 +70,6 @@ write-image-spec =
     put-requires
     same-length
     returns-3
+    wrote-requires
     same-length-2
     returns-4)

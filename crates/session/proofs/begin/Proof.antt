@@ -1,8 +1,7 @@
 -- Settings in range or not. Assumes nothing.
 use mathlib.Core.Path.{sym, _∙_}
 use borrow.Author.Tests.{not-true, not-false}
-use Rattle.session.specs.Calls.{freshOf}
-use Rattle.session.specs.Code.{countsFit}
+use Rattle.session.specs.Calls.{freshOf, countsFit}
 use Rattle.kvmi.specs.Settings.{inRange}
 use borrow.Author.Needs.{needs}
 use Rattle.session.proofs.begin.Statement.{statement}
@@ -24,12 +23,15 @@ clear-requires c κs = search needs
 clear-requires-2 : tie.Need-clear-requires-2
 clear-requires-2 c κs = search needs
 
+done-requires : tie.Need-done-requires
+done-requires c κs = search needs
+
 fresh-requires : tie.Need-fresh-requires
 fresh-requires c κs = search needs
 
 returns-2 : tie.Need-returns-2
 unfolding freshOf inRange countsFit
-returns-2 c = simp (sym (c .before .before .before .before .before .before .in-range .ensures) ∙ not-false _ (c .before .before .before .before .before .if1 .left), c .before .before .before .clear .ensures, c .before .clear2 .ensures, c .fresh .ensures)
+returns-2 c = simp (sym (c .before .before .before .before .before .before .before .in-range .ensures) ∙ not-false _ (c .before .before .before .before .before .before .if1 .left), c .before .before .before .before .clear .ensures, c .before .before .clear2 .ensures, c .before .done .ensures, c .fresh .ensures)
 
 pub begin-spec : {M : Type 1} → statement M
 begin-spec =
@@ -40,5 +42,6 @@ begin-spec =
     returns
     clear-requires
     clear-requires-2
+    done-requires
     fresh-requires
     returns-2)

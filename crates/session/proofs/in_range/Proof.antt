@@ -1,6 +1,6 @@
 -- Each bound by its test. Assumes nothing.
 use borrow.Author.Tests.{le-leb, lt-leb}
-use Rattle.session.specs.Code.{countsFit}
+use Rattle.session.specs.Calls.{countsFit}
 use Rattle.session.proofs.in_range.Statement.{statement}
 use Rattle.session.proofs.in_range.Tie as tie
 

@@ -1,6 +1,6 @@
 -- Each number by its tests. Assumes nothing.
 use borrow.Author.Tests.{eq-eqb, ne-eqb}
-use Rattle.session.specs.State.{modeOfNumber}
+use Rattle.kvmi.specs.Mode.{modeOfNumber}
 use Rattle.session.proofs.mode_of.Statement.{statement}
 use Rattle.session.proofs.mode_of.Tie as tie
 

@@ -18,9 +18,12 @@ returns-2 c v p = simp (eq-eqb _ _ (c .before .before .if1 .left), le-leb _ _ (c
 put-bit-requires : tie.Need-put-bit-requires
 put-bit-requires c κs = search needs
 
+done-requires : tie.Need-done-requires
+done-requires c κs = search needs
+
 returns-3 : tie.Need-returns-3
 unfolding readyOf putBit64
-returns-3 c v p = simp (eq-eqb _ _ (c .before .before .before .before .if1 .left), lt-leb _ _ (c .before .before .if2 .left), c .before .put-bit .ensures, store-none)
+returns-3 c v p = simp (eq-eqb _ _ (c .before .before .before .before .before .if1 .left), lt-leb _ _ (c .before .before .before .if2 .left), c .before .before .put-bit .ensures, c .done .ensures, store-none)
 
 pub ready-spec : {M : Type 1} → statement M
-ready-spec = tie.close (tie.spec returns returns-2 put-bit-requires returns-3)
+ready-spec = tie.close (tie.spec returns returns-2 put-bit-requires done-requires returns-3)

@@ -1,0 +1,147 @@
+// What a message that passes its tests changes, in the session's numbers and in the lent words and bytes.
+use kvmi::Change;
+use kvmi::Signal;
+use session::Session;
+use session::Tool;
+ghost use mathlib.Core.Path.{_≡_};
+ghost use lib.ListN.{drop};
+ghost use Rattle.wire.specs.Bytes.{store};
+ghost use Rattle.session.specs.State.{state};
+ghost use Rattle.kvmi.specs.Codes.{OK};
+ghost use Rattle.kvmi.specs.declared.Signal.the-variants.{Quiet};
+ghost use Rattle.change.specs.Effect.{applied, effect, plainEffect, toolAfter, pagesEffect, pagesSet};
+
+// What a change gives: the numbers of the tool that a change can move, 0 or the error that it met, the number of the mode by which it is
+// answered, and what the host is to do.
+pub struct Effect {
+    pub events: u64,
+    pub pages: u64,
+    pub mode: u32,
+    pub code: i32,
+    pub by: u32,
+    pub signal: Signal,
+}
+
+// No number of the tool moves; a code, and something for the host to do.
+pub fn still(tool: Tool, code: i32, signal: Signal) -> Effect
+    ensures { λ r. ⌜ r ≡ plainEffect tool code signal ⌝ }
+{
+    Effect {
+        events: tool.events,
+        pages: tool.pages,
+        mode: tool.mode,
+        code,
+        by: tool.mode,
+        signal,
+    }
+}
+
+// What a tool owns after an effect, with the next event's seq.
+pub fn after(tool: Tool, e: Effect, seq: u32) -> Tool
+    ensures { λ r. ⌜ r ≡ toolAfter tool e seq ⌝ }
+{
+    Tool {
+        events: e.events,
+        pages: e.pages,
+        closed: tool.closed,
+        mode: e.mode,
+        seq,
+    }
+}
+
+// No number of the tool moves, no error, and nothing for the host to do.
+fn quiet(tool: Tool) -> Effect
+    ensures { λ r. ⌜ r ≡ plainEffect tool OK Quiet ⌝ }
+{
+    still(tool, 0, Signal::Quiet)
+}
+
+// VM_WRITE_PHYSICAL: the bytes after the 16 that name the place, where all of them lie inside.
+fn write_guest(guest: &mut [u8], gpa: u64, d: &[u8])
+    ensures { λ _. ⌜ now (guest .exit) ≡ store (now (guest .entry)) gpa (drop 16 (now (d .entry))) ⌝ }
+{
+    if 16 <= d.len() {
+        wire::copy(guest, gpa as usize, &d[16..]);
+    }
+}
+
+// VM_SET_PAGE_ACCESS: its entries stand behind the first 8 bytes.
+fn set_pages(tool: Tool, pages: &mut [u64], view: u16, count: u16, d: &[u8]) -> Effect
+    ensures { λ r. ⌜ pagesEffect r (now (pages .exit)) ≡ pagesSet tool (now (pages .entry)) view count (now (d .entry)) ⌝ }
+{
+    let from = if 8 <= d.len() { 8 } else { d.len() };
+    let used = tool.pages as usize;
+    let taken = page_words::put_entries(pages, used, Session::PAGE_LIMIT, view, count, &d[from..]);
+    let mut e = quiet(tool);
+    e.pages = taken.count as u64;
+    if taken.skipped {
+        e.code = -12;
+        return e;
+    }
+    e
+}
+
+// A change on what the tool owns and on the lent words; of all else nothing changes.
+pub fn apply(
+    s: Session,
+    vcpus: &mut [u64],
+    pages: &mut [u64],
+    guest: &mut [u8],
+    d: &[u8],
+    c: Change,
+) -> Effect
+    ensures { λ r. ⌜ effect s r (now (vcpus .exit)) (now (pages .exit)) (now (guest .exit)) ≡ applied (state s (now (vcpus .entry)) (now (pages .entry))) (now (guest .entry)) (now (d .entry)) c ⌝ }
+{
+    let tool = s.tool;
+    match c {
+        Change::Nothing => quiet(tool),
+        Change::SetVmEvent { on, event } => {
+            let mut e = quiet(tool);
+            e.events = store::bits::put_bit(tool.events, event as u32, on);
+            e
+        }
+        Change::WritePhysical { gpa } => {
+            write_guest(guest, gpa, d);
+            quiet(tool)
+        }
+        Change::QueuePause { wait, vcpu } => {
+            store::words::queue_pause(vcpus, vcpu);
+            still(tool, 0, Signal::Kick { wait, vcpu })
+        }
+        Change::SetVcpuEvent { on, vcpu, event } => {
+            store::words::switch_field(vcpus, vcpu, store::words::EVENTS, event, on);
+            quiet(tool)
+        }
+        Change::SetCr { on, vcpu, cr } => {
+            store::words::switch_cr(vcpus, vcpu, cr, on);
+            quiet(tool)
+        }
+        Change::SetMsr { on, vcpu, msr } => {
+            store::words::write_msr(vcpus, vcpu, msr, on);
+            quiet(tool)
+        }
+        Change::SetPages { view, count } => set_pages(tool, pages, view, count, d),
+        Change::SetSinglestep { on, vcpu } => {
+            store::words::write_field(vcpus, vcpu, store::words::SINGLESTEP, on as u64);
+            quiet(tool)
+        }
+        Change::SetReplies { now, mode } => {
+            let number = session::mode_number(mode);
+            let mut e = quiet(tool);
+            e.mode = number;
+            if now {
+                e.by = number;
+                return e;
+            }
+            e
+        }
+        Change::EndWait { crash, vcpu } => {
+            store::words::end_wait(vcpus, vcpu);
+            if crash {
+                still(tool, 0, Signal::Crash { vcpu })
+            } else {
+                quiet(tool)
+            }
+        }
+    }
+}

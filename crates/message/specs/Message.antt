@@ -1,0 +1,75 @@
+-- A message as code performs it: answer, session, and every lent word and byte after it, for any bits in the session.
+use Prim.Native.Nat.{ℕ}
+use mathlib.Core.List.{List}
+use mathlib.Core.Bool.{cond, not}
+use lib.IntN.{ℤ}
+use lib.ListN.{length, drop}
+use lib.Dec.{ltb, eqb}
+use Rattle.wire.specs.Header.{headerOf}
+use Rattle.wire.specs.declared.Header.{Header}
+use Rattle.wire.specs.declared.Header.the-variants.{Whole, Broken}
+use Rattle.kvmi.specs.declared.Facts.{Facts}
+use Rattle.kvmi.specs.declared.ReplyMode.{ReplyMode}
+use Rattle.kvmi.specs.declared.Signal.{Signal}
+use Rattle.kvmi.specs.declared.Signal.the-variants.{Quiet}
+use Rattle.kvmi.specs.declared.Verdict.{Verdict}
+use Rattle.kvmi.specs.declared.Verdict.the-variants.{Closes, Fails, Does}
+use Rattle.kvmi.specs.Bits.{isOn}
+use Rattle.kvmi.specs.Limits.{leastOut}
+use Rattle.kvmi.specs.Mode.{modeOfNumber}
+use Rattle.kvmi.specs.Message.{layoutOf, vcpuOf}
+use Rattle.kvmi.specs.Verdict.{verdict}
+use Rattle.kvmi.specs.Change.{signalOf, modeFor}
+use Rattle.kvmi.specs.Reply.{replyData, answerOf, answerSeq}
+use Rattle.store.specs.Words.{field, PAUSES, AWAITED, AWAITED-SEQ}
+use Rattle.verdict.specs.declared.Asked.{Asked}
+use Rattle.session.specs.declared.Session.{Session}
+use Rattle.session.specs.State.{State, withSeqOf}
+use Rattle.session.specs.Calls.{Told, toldSame, toldWritten, toldClosing}
+use Rattle.change.specs.Change.{change}
+
+-- what the tests of a message ask
+abbrev pub factsIn : State → ℕ → ℕ → Facts
+factsIn st guest vcpu =
+    record {
+      mode = modeOfNumber (st .session .tool .mode);
+      guest = guest;
+      ready = isOn (st .session .shared .ready) vcpu;
+      pauses = field (st .vcpus) vcpu PAUSES;
+      awaited = field (st .vcpus) vcpu AWAITED;
+      seq = field (st .vcpus) vcpu AWAITED-SEQ;
+    }
+
+-- ---- a message
+unfoldable pub answering : ReplyMode → ℕ → ℕ → ℤ → List ℕ → Signal → List ℕ → List ℕ → State → Told
+answering mode id seq code d g out guest st =
+    toldWritten (answerOf (layoutOf id .reply) mode (st .session .tool .seq) id seq code (replyData (st .session .settings) guest id d)) g
+    (withSeqOf st (answerSeq mode (st .session .tool .seq) code))
+    out
+    guest
+
+unfoldable pub judgedOf : State → ℕ → ℕ → List ℕ → List ℕ → List ℕ → Verdict → Told
+judgedOf st id seq d out guest Closes = toldClosing st out guest
+judgedOf st id seq d out guest (Fails code) = answering (modeOfNumber (st .session .tool .mode)) id seq code d Quiet out guest st
+judgedOf st id seq d out guest (Does c) =
+    answering (modeFor (modeOfNumber (st .session .tool .mode)) c) id seq (change st guest d c .code) d (signalOf c) out (change st guest d c .guest)
+    (change st guest d c .state)
+
+unfoldable pub headedOf : State → List ℕ → List ℕ → List ℕ → Header → Told
+headedOf st d out guest Broken = toldClosing st out guest
+headedOf st d out guest (Whole id size seq) =
+    judgedOf st id seq d out guest (verdict (st .session .settings) (factsIn st (length guest) (vcpuOf d)) id seq d)
+
+unfoldable pub messageOf : State → List ℕ → List ℕ → List ℕ → Told
+messageOf st msg out guest =
+    cond (not (eqb (st .session .tool .closed) 0)) (toldSame 2 st out guest)
+    (cond (ltb (length out) leastOut) (toldSame 3 st out guest)
+    (headedOf st (drop 8 msg) out guest (headerOf msg)))
+
+-- ---- parts of the call
+-- what the tests ask of a session
+abbrev pub askedOf : Session → ReplyMode → ℕ → Asked
+askedOf s mode guest = record { settings = s .settings; mode = mode; guest = guest; ready = s .shared .ready }
+
+unfoldable pub handledOf : State → ℕ → ℕ → List ℕ → List ℕ → List ℕ → Told
+handledOf st id seq d out guest = judgedOf st id seq d out guest (verdict (st .session .settings) (factsIn st (length guest) (vcpuOf d)) id seq d)
