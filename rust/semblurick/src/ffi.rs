@@ -29,7 +29,7 @@ pub struct Session {
 }
 
 #[repr(C)]
-#[derive(Clone, Copy, Default)]
+#[derive(Clone, Copy)]
 pub struct Outcome {
     pub count: u64,
     pub offset: u64,

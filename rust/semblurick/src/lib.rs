@@ -30,6 +30,8 @@ mod ffi;
 mod names;
 
 use core::fmt;
+use core::mem::MaybeUninit;
+use core::ptr::addr_of_mut;
 
 pub use names::{Command, CommandSet, Errno, Event, EventSet};
 
@@ -277,76 +279,98 @@ impl Session {
     }
 
     /// A session with every switch off and no vCPU ready. Refused: [`Refusal::BadSettings`].
+    #[inline]
     pub fn fresh(settings: &Settings) -> Result<Session, Refusal> {
-        let mut session = Session::closed();
-        session.begin(settings)?;
-        Ok(session)
+        Session::made(settings, None)
     }
 
     /// A session as an image states. Refused: [`Refusal::BadSettings`], [`Refusal::BadForm`], [`Refusal::Forbidden`].
+    #[inline]
     pub fn from_image(settings: &Settings, image: &[u8]) -> Result<Session, Refusal> {
-        let mut session = Session::closed();
-        session.load(settings, image)?;
-        Ok(session)
+        Session::made(settings, Some(image))
     }
 
     /// Begins as [`fresh`](Session::fresh) does, in place of what was there. Refused, the session is closed.
+    #[inline]
     pub fn begin(&mut self, settings: &Settings) -> Result<(), Refusal> {
-        self.raw.settings = settings.raw();
-        let mut told = ffi::Outcome::default();
         // SAFETY: the session is borrowed for this call alone.
-        let number = unsafe { ffi::semblurick_fresh(&mut self.raw, &mut self.vcpus, &mut self.pages, &mut told) };
-        done(number, &told).map(|_| ())
+        unsafe { Session::begin_at(self, settings, None) }
     }
 
     /// Begins as [`from_image`](Session::from_image) does, in place of what was there. Refused, the session is closed.
+    #[inline]
     pub fn load(&mut self, settings: &Settings, image: &[u8]) -> Result<(), Refusal> {
-        self.raw.settings = settings.raw();
-        let mut told = ffi::Outcome::default();
-        // SAFETY: the session is borrowed for this call alone, and the image is only read.
-        let number = unsafe {
-            ffi::semblurick_image_read(&mut self.raw, &mut self.vcpus, &mut self.pages, image.as_ptr(), image.len(), &mut told)
+        // SAFETY: the session is borrowed for this call alone.
+        unsafe { Session::begin_at(self, settings, Some(image)) }
+    }
+
+    /// A new session: fresh, or as an image states. The library writes it in memory that was never cleared.
+    #[inline]
+    fn made(settings: &Settings, image: Option<&[u8]>) -> Result<Session, Refusal> {
+        let mut session = MaybeUninit::uninit();
+        // SAFETY: the memory is this function's own.
+        unsafe { Session::begin_at(session.as_mut_ptr(), settings, image) }?;
+        // SAFETY: it was not refused, so that every word is written.
+        Ok(unsafe { session.assume_init() })
+    }
+
+    /// Begins a session, fresh or as an image states, at a place where anything may stand. Every word of it and of its tables is
+    /// then written; but refused, the session is closed and no word of the tables is written.
+    ///
+    /// # Safety
+    /// The place is memory for a session, and this call alone uses it.
+    #[inline]
+    unsafe fn begin_at(place: *mut Session, settings: &Settings, image: Option<&[u8]>) -> Result<(), Refusal> {
+        // SAFETY: the caller lends the place, the image is only read, and of the session the library uses the settings alone,
+        // which are written first.
+        let told = unsafe {
+            let (raw, vcpus, pages) = (addr_of_mut!((*place).raw), addr_of_mut!((*place).vcpus), addr_of_mut!((*place).pages));
+            addr_of_mut!((*raw).settings).write(settings.raw());
+            Told::by(|result| match image {
+                None => ffi::semblurick_fresh(raw, vcpus, pages, result),
+                Some(image) => ffi::semblurick_image_read(raw, vcpus, pages, image.as_ptr(), image.len(), result),
+            })
         };
-        done(number, &told).map(|_| ())
+        told.done().map(|_| ())
     }
 
     /// Marks a vCPU ready: the tool can use it from now on. Refused: [`Refusal::Closed`], [`Refusal::BadVcpu`].
     #[inline]
     pub fn ready(&mut self, vcpu: u32) -> Result<(), Refusal> {
-        let mut told = ffi::Outcome::default();
         // SAFETY: the session is borrowed for this call alone.
-        let number = unsafe { ffi::semblurick_ready(&mut self.raw, vcpu, &mut told) };
-        done(number, &told).map(|_| ())
+        let told = unsafe { Told::by(|result| ffi::semblurick_ready(&mut self.raw, vcpu, result)) };
+        told.done().map(|_| ())
     }
 
     /// Takes one message of the tool, header included. `guest` is the guest's physical memory from address 0; a page exists if it
     /// lies wholly inside. Refused: [`Refusal::Closed`], [`Refusal::ShortOut`].
     #[inline]
     pub fn message<'a>(&mut self, message: &[u8], out: &'a mut [u8], guest: &mut [u8]) -> Result<Answer<'a>, Refusal> {
-        let mut told = ffi::Outcome::default();
         // SAFETY: the slices are borrowed for this call, and what is `&mut` overlaps nothing else.
-        let number = unsafe {
-            ffi::semblurick_message(
-                &mut self.raw,
-                &mut self.vcpus,
-                &mut self.pages,
-                message.as_ptr(),
-                message.len(),
-                out.as_mut_ptr(),
-                out.len(),
-                guest.as_mut_ptr(),
-                guest.len(),
-                &mut told,
-            )
+        let told = unsafe {
+            Told::by(|result| {
+                ffi::semblurick_message(
+                    &mut self.raw,
+                    &mut self.vcpus,
+                    &mut self.pages,
+                    message.as_ptr(),
+                    message.len(),
+                    out.as_mut_ptr(),
+                    out.len(),
+                    guest.as_mut_ptr(),
+                    guest.len(),
+                    result,
+                )
+            })
         };
-        if number == 1 {
+        if told.number == 1 {
             return Ok(Answer::Closing);
         }
-        let count = done(number, &told)?;
-        let vcpu = told.vcpu as u16;
-        let signal = match told.signal {
+        let count = told.done()?;
+        let vcpu = told.values.vcpu as u16;
+        let signal = match told.values.signal {
             0 => Signal::None,
-            1 => Signal::Kick { vcpu, wait: told.wait != 0 },
+            1 => Signal::Kick { vcpu, wait: told.values.wait != 0 },
             _ => Signal::Crash { vcpu },
         };
         Ok(Answer::Handled { bytes: &out[..count], signal })
@@ -357,21 +381,22 @@ impl Session {
     /// [`Refusal::BadState`], [`Refusal::ShortOut`], [`Refusal::Waiting`].
     #[inline]
     pub fn enter<'a>(&mut self, vcpu: u32, state: &[u8], out: &'a mut [u8]) -> Result<&'a [u8], Refusal> {
-        let mut told = ffi::Outcome::default();
         // SAFETY: as for `message`.
-        let number = unsafe {
-            ffi::semblurick_enter(
-                &mut self.raw,
-                &mut self.vcpus,
-                vcpu,
-                state.as_ptr(),
-                state.len(),
-                out.as_mut_ptr(),
-                out.len(),
-                &mut told,
-            )
+        let told = unsafe {
+            Told::by(|result| {
+                ffi::semblurick_enter(
+                    &mut self.raw,
+                    &mut self.vcpus,
+                    vcpu,
+                    state.as_ptr(),
+                    state.len(),
+                    out.as_mut_ptr(),
+                    out.len(),
+                    result,
+                )
+            })
         };
-        let count = done(number, &told)?;
+        let count = told.done()?;
         Ok(&out[..count])
     }
 
@@ -386,11 +411,13 @@ impl Session {
     /// [`Refusal::ShortOut`].
     #[inline]
     pub fn write_image(&self, out: &mut [u8]) -> Result<usize, Refusal> {
-        let mut told = ffi::Outcome::default();
         // SAFETY: the session is only read, and the output overlaps nothing else.
-        let number =
-            unsafe { ffi::semblurick_image_write(&self.raw, &self.vcpus, &self.pages, out.as_mut_ptr(), out.len(), &mut told) };
-        done(number, &told)
+        let told = unsafe {
+            Told::by(|result| {
+                ffi::semblurick_image_write(&self.raw, &self.vcpus, &self.pages, out.as_mut_ptr(), out.len(), result)
+            })
+        };
+        told.done()
     }
 
     /// Whether the session was closed.
@@ -422,12 +449,30 @@ impl Session {
     }
 }
 
-/// The count of answer 0, or the refusal.
-#[inline]
-fn done(number: u32, told: &ffi::Outcome) -> Result<usize, Refusal> {
-    match number {
-        0 => Ok(told.count as usize),
-        _ => Err(Refusal::of(number, told.offset)),
+/// What a call of the library told: the answer's number, and its values.
+struct Told {
+    number: u32,
+    values: ffi::Outcome,
+}
+
+impl Told {
+    /// # Safety
+    /// The call is one of the library's, with the result that it is handed: they write every word of it, whatever they answer.
+    #[inline]
+    unsafe fn by(call: impl FnOnce(*mut ffi::Outcome) -> u32) -> Told {
+        let mut values = MaybeUninit::uninit();
+        let number = call(values.as_mut_ptr());
+        // SAFETY: the call has written every word.
+        Told { number, values: unsafe { values.assume_init() } }
+    }
+
+    /// The count of answer 0, or the refusal.
+    #[inline]
+    fn done(&self) -> Result<usize, Refusal> {
+        match self.number {
+            0 => Ok(self.values.count as usize),
+            number => Err(Refusal::of(number, self.values.offset)),
+        }
     }
 }
 
