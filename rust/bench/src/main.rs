@@ -1,5 +1,9 @@
 //! The proved filter beside the plain Rust implementation, in one run: ns a message, best of several rounds, and the ratio.
+//! With `count`: instructions a call, beside their bounds.
+mod callgrind;
+
 use std::hint::black_box;
+use std::process::ExitCode;
 use std::time::Instant;
 
 const ROUNDS: usize = 25;
@@ -203,22 +207,35 @@ fn thousand() -> Vec<Vec<u8>> {
     pages.chunks(250).map(|part| access(0, part)).collect()
 }
 
-/// Nanoseconds for each of n things that are done once.
-fn time(n: usize, mut once: impl FnMut()) -> f64 {
-    let start = Instant::now();
-    once();
-    start.elapsed().as_nanos() as f64 / n as f64
+/// What a round gives: how many calls it measured, and the nanoseconds of each.
+struct Measured {
+    calls: usize,
+    ns: f64,
 }
 
-fn small_commands<F: Filter>() -> f64 {
+/// What is measured, for times and for counts: callgrind finds this function by its name.
+#[no_mangle]
+#[inline(never)]
+fn measured_region(once: &mut dyn FnMut()) {
+    once();
+}
+
+/// Measures so many calls, which are done once.
+fn measure(calls: usize, mut once: impl FnMut()) -> Measured {
+    let start = Instant::now();
+    measured_region(&mut once);
+    Measured { calls, ns: start.elapsed().as_nanos() as f64 / calls as f64 }
+}
+
+fn small_commands<F: Filter>() -> Measured {
     let mut r = Random(1);
     let list: Vec<_> = (0..4096).map(|seq| small(&mut r, seq)).collect();
     let (mut f, mut b) = (begun::<F>(), Bench::new());
     b.send(&mut f, &list);
-    time(list.len() * 16, || (0..16).for_each(|_| b.send(&mut f, &list)))
+    measure(list.len() * 16, || (0..16).for_each(|_| b.send(&mut f, &list)))
 }
 
-fn pause_cycles<F: Filter>() -> f64 {
+fn pause_cycles<F: Filter>() -> Measured {
     let (mut f, mut b) = (begun::<F>(), Bench::new());
     let state = [7; 536];
     let (mut r, cycles) = (Random(2), 20_000u32);
@@ -229,7 +246,7 @@ fn pause_cycles<F: Filter>() -> f64 {
             (vcpu as u32, on_vcpu(9, seq, vcpu, [0; 8]), on_vcpu(16, seq, vcpu, [0, 2, 0, 0, 0, 0, 0, 0]))
         })
         .collect();
-    time(3 * cycles as usize, || {
+    measure(3 * cycles as usize, || {
         for (vcpu, pause, reply) in &list {
             b.send(&mut f, std::slice::from_ref(pause));
             assert_eq!(f.enter(*vcpu, &state, &mut b.out), 552);
@@ -238,7 +255,7 @@ fn pause_cycles<F: Filter>() -> f64 {
     })
 }
 
-fn ascending<F: Filter>() -> f64 {
+fn ascending<F: Filter>() -> Measured {
     let (mut f, mut b) = (begun::<F>(), Bench::new());
     b.send(&mut f, &thousand());
     let mut r = Random(3);
@@ -250,10 +267,10 @@ fn ascending<F: Filter>() -> f64 {
         })
         .collect();
     b.send(&mut f, &list);
-    time(list.len() * 8, || (0..8).for_each(|_| b.send(&mut f, &list)))
+    measure(list.len() * 8, || (0..8).for_each(|_| b.send(&mut f, &list)))
 }
 
-fn random_entries<F: Filter>() -> f64 {
+fn random_entries<F: Filter>() -> Measured {
     let (mut f, mut b) = (begun::<F>(), Bench::new());
     let mut r = Random(4);
     // 256 random pages set, and the same forgotten in another order
@@ -269,21 +286,21 @@ fn random_entries<F: Filter>() -> f64 {
         .collect();
     b.send(&mut f, &thousand()[..2]);
     b.send(&mut f, &list);
-    time(list.len() * 4, || (0..4).for_each(|_| b.send(&mut f, &list)))
+    measure(list.len() * 4, || (0..4).for_each(|_| b.send(&mut f, &list)))
 }
 
-fn reads<F: Filter>() -> f64 {
+fn reads<F: Filter>() -> Measured {
     let (mut f, mut b) = (begun::<F>(), Bench::new());
     let list: Vec<_> = (0..256).map(|i| physical(6, i % 16 * 4096, &[])).collect();
     b.send(&mut f, &list);
-    time(list.len() * 16, || (0..16).for_each(|_| b.send(&mut f, &list)))
+    measure(list.len() * 16, || (0..16).for_each(|_| b.send(&mut f, &list)))
 }
 
-fn writes<F: Filter>() -> f64 {
+fn writes<F: Filter>() -> Measured {
     let (mut f, mut b) = (begun::<F>(), Bench::new());
     let list: Vec<_> = (0..256).map(|i| physical(7, i % 16 * 4096, &[i as u8; 4096])).collect();
     b.send(&mut f, &list);
-    time(list.len() * 16, || (0..16).for_each(|_| b.send(&mut f, &list)))
+    measure(list.len() * 16, || (0..16).for_each(|_| b.send(&mut f, &list)))
 }
 
 /// 16 vCPUs, 256 MSR switches, 1,024 pages in all views.
@@ -303,20 +320,20 @@ fn full<F: Filter>() -> F {
     f
 }
 
-fn image_writes<F: Filter>() -> f64 {
+fn image_writes<F: Filter>() -> Measured {
     let f = full::<F>();
     let mut out = vec![0; 1 << 16];
     assert_eq!(f.write_image(&mut out), 14 + 160 + 8 * 256 + 14 * 1024);
-    time(256, || (0..256).for_each(|_| _ = black_box(f.write_image(&mut out))))
+    measure(256, || (0..256).for_each(|_| _ = black_box(f.write_image(&mut out))))
 }
 
-fn image_reads<F: Filter>() -> f64 {
+fn image_reads<F: Filter>() -> Measured {
     let mut out = vec![0; 1 << 16];
     let n = full::<F>().write_image(&mut out);
-    time(256, || (0..256).for_each(|_| _ = black_box(F::from_image(black_box(&out[..n])))))
+    measure(256, || (0..256).for_each(|_| _ = black_box(F::from_image(black_box(&out[..n])))))
 }
 
-type Round = fn() -> f64;
+type Round = fn() -> Measured;
 
 const ROWS: [(&str, Round, Round); 8] = [
     ("small commands: 5, 10, 11, 12", small_commands::<semblurick::Session>, small_commands::<reference::Session>),
@@ -335,17 +352,36 @@ const ROWS: [(&str, Round, Round); 8] = [
 
 /// The least of several rounds of both, taken in turns, so that a busy machine is as busy for the one as for the other.
 fn best(proved: Round, reference: Round) -> (f64, f64) {
-    (0..ROUNDS).fold((f64::INFINITY, f64::INFINITY), |(ours, theirs), _| (ours.min(proved()), theirs.min(reference())))
+    (0..ROUNDS).fold((f64::INFINITY, f64::INFINITY), |(ours, theirs), _| (ours.min(proved().ns), theirs.min(reference().ns)))
 }
 
-fn main() {
+/// The rows that have a word, or all of them for an empty one.
+fn times(word: &str) {
     println!("ns a message or image, best of {ROUNDS} rounds; output and guest buffers are not cleared between calls");
     println!("{:<52}{:>10}{:>12}{:>8}", "", "proved", "reference", "ratio");
-    // with a word given, only the rows that have it
-    let word = std::env::args().nth(1).unwrap_or_default();
-    for (name, proved, reference) in ROWS.into_iter().filter(|row| row.0.contains(&word)) {
+    for (name, proved, reference) in ROWS.into_iter().filter(|row| row.0.contains(word)) {
         let (ours, theirs) = best(proved, reference);
         println!("{name:<52}{ours:>10.1}{theirs:>12.1}{:>7.2}x", theirs / ours);
     }
     println!("ratio: the reference's time over the proved filter's; above 1 the proved filter is faster");
+}
+
+fn main() -> ExitCode {
+    let words: Vec<String> = std::env::args().skip(1).collect();
+    let words: Vec<&str> = words.iter().map(String::as_str).collect();
+    let done = match words[..] {
+        ["count"] => callgrind::table(),
+        ["count", ref words @ ..] => callgrind::run(words),
+        _ => {
+            times(words.first().unwrap_or(&""));
+            Ok(())
+        }
+    };
+    match done {
+        Ok(()) => ExitCode::SUCCESS,
+        Err(text) => {
+            eprintln!("bench: {text}");
+            ExitCode::FAILURE
+        }
+    }
 }
