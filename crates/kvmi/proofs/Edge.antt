@@ -12,7 +12,7 @@ use Rattle.kvmi.specs.declared.ReplyMode.{ReplyMode}
 use Rattle.kvmi.specs.declared.ReplyMode.the-variants.{On}
 use Rattle.kvmi.specs.declared.Signal.the-variants.{Quiet}
 use Rattle.kvmi.specs.Answer.{Paper, handled, plain}
-use Rattle.kvmi.specs.Model.{Awaited, Model}
+use Rattle.kvmi.specs.Model.{Awaited, awaiting, Model}
 use Rattle.kvmi.specs.Reply.{messageBytes}
 use Rattle.kvmi.specs.Image.{image}
 use Rattle.kvmi.specs.Call.{Call, message, ready}
@@ -59,7 +59,12 @@ outcome e = outcomeAt (endOf (e .settings) (e .start) (e .calls))
 -- those of `two` but for the counts, the commands and events allowed, and singlestep, descriptors and breakpoints
 abbrev pub given : ℕ → ℕ → ℕ → ℕ → ℕ → ℕ → ℕ → Settings
 given n views commands events step desc bp =
-    record { vcpus = n; views = views; commands = commands; events = events; tsc = 0; singlestep = step; vmfunc = 1; eptp = 1; ve = 1; spp = 1; descriptors = desc; breakpoints = bp }
+    record { vcpus = n; views = views; commands = commands; events = events; tsc = two .tsc; singlestep = step; vmfunc = two .vmfunc; eptp = two .eptp; ve = two .ve; spp = two .spp; descriptors = desc; breakpoints = bp }
+
+-- with another TSC speed and other features beside singlestep: VMFUNC, EPTP, VE, SPP
+abbrev pub featuring : ℕ → ℕ → ℕ → ℕ → ℕ → Settings → Settings
+featuring tsc vmfunc eptp ve spp s =
+    record { vcpus = s .vcpus; views = s .views; commands = s .commands; events = s .events; tsc = tsc; singlestep = s .singlestep; vmfunc = vmfunc; eptp = eptp; ve = ve; spp = spp; descriptors = s .descriptors; breakpoints = s .breakpoints }
 
 -- the bit set of every command or event
 abbrev pub everything : ℕ
@@ -84,11 +89,11 @@ without event = eventful (everything - 2 ^ event)
 
 -- two vCPUs, one view, every command allowed, of the events 2, 9 and 13 alone, no feature, descriptor events not catchable, breakpoints taken
 abbrev pub few : Settings
-few = record { vcpus = 2; views = 1; commands = 0xFFFFFFFF; events = 0x2204; tsc = 0; singlestep = 0; vmfunc = 0; eptp = 0; ve = 0; spp = 0; descriptors = 0; breakpoints = 1 }
+few = featuring 0 0 0 0 0 (given 2 1 everything 0x2204 0 0 1)
 
 -- three vCPUs, and numbers of which no two bytes are alike
 abbrev pub odd : Settings
-odd = record { vcpus = 3; views = 8; commands = 0xFFFFFFFF; events = 0xFFFFFFFF; tsc = 0x1122334455667788; singlestep = 0xF1; vmfunc = 0xF2; eptp = 0xF3; ve = 0xF4; spp = 0xF5; descriptors = 0xF6; breakpoints = 0xF7 }
+odd = featuring 0x1122334455667788 0xF2 0xF3 0xF4 0xF5 (given 3 8 everything everything 0xF1 0xF6 0xF7)
 
 -- ---- what is lent, data, and calls
 abbrev pub lent : ℕ → List ℕ
@@ -194,7 +199,7 @@ nobody = none ∷ none ∷ []
 
 -- a pause event's reply, by the event's seq
 abbrev pub awaits : ℕ → Option Awaited
-awaits seq = some (record { event = 2; seq = seq })
+awaits seq = some (awaiting 2 seq)
 
 abbrev pub quiet : Beside
 quiet = beside On 0 nobody

@@ -8,8 +8,8 @@ use Rattle.kvmi.specs.declared.ReplyMode.{ReplyMode}
 use Rattle.kvmi.specs.declared.ReplyMode.the-variants.{On, Off, ErrorsOnly}
 use Rattle.kvmi.specs.declared.Signal.the-variants.{Quiet, Kick, Crash}
 use Rattle.kvmi.specs.Answer.{handled, plain}
-use Rattle.kvmi.specs.Tables.{Page, Tables, vmEventOn, eventOn, crOn, msrOn, access}
-use Rattle.kvmi.specs.Model.{Model}
+use Rattle.kvmi.specs.Tables.{Page, Tables, resting, emptyTables, withReady, withSinglestep, withCrs, withEvents, withPauses, withVmEvents, withVcpus, withMsrs, withPages, vmEventOn, eventOn, crOn, msrOn, access}
+use Rattle.kvmi.specs.Model.{Model, fresh, withTables, withMode, withSeq, onVcpu}
 use Rattle.kvmi.specs.Message.{Entry}
 use Rattle.kvmi.specs.Change.{Run, takeEntries}
 use Rattle.kvmi.specs.Reply.{messageBytes}
@@ -58,7 +58,7 @@ replyEdges =
 -- ---- vCPU entry and event replies
 -- vCPU 0 has one pause queued, and the next event has a given seq
 abbrev pub pausedAt : ℕ → Model
-pausedAt seq = record { tables = record { events = 0; vcpus = (record { ready = true; singlestep = false; crs = 0; events = 0; pauses = 1 }) ∷ (record { ready = false; singlestep = false; crs = 0; events = 0; pauses = 0 }) ∷ []; msrs = []; pages = [] }; mode = On; seq = seq; awaited = nobody; closed = false }
+pausedAt seq = withSeq (onVcpu (fresh two) 0 (λ v. withPauses (withReady v true) 1)) seq
 
 -- vCPU 0 has sent a pause event with seq 0
 abbrev pub sent : List Call
@@ -179,12 +179,12 @@ ownEdges =
 -- what a reader reads there: VM events 1 and 12; of each vCPU event 5, then CR0, CR3, CR4, then CR1 of vCPU 0, then MSRs 0x10 and 0x20 of each vCPU
 abbrev pub tables : Tables
 tables =
-    record {
-      events = 0x1000;
-      vcpus = (record { ready = true; singlestep = true; crs = 5; events = 0x4218; pauses = 3 }) ∷ (record { ready = true; singlestep = false; crs = 2; events = 0x20; pauses = 2 }) ∷ [];
-      msrs = (record { vcpu = 0; msr = 0x10 }) ∷ (record { vcpu = 1; msr = 0x20 }) ∷ [];
-      pages = (record { view = 0; page = 5; access = 1 }) ∷ (record { view = 1; page = 6; access = 4 }) ∷ [];
-    }
+    withPages
+    (withMsrs
+    (withVcpus (withVmEvents (emptyTables 2) 0x1000)
+    (withPauses (withEvents (withCrs (withSinglestep (withReady resting true) true) 5) 0x4218) 3 ∷ withPauses (withEvents (withCrs (withReady resting true) 2) 0x20) 2 ∷ []))
+    ((record { vcpu = 0; msr = 0x10 }) ∷ (record { vcpu = 1; msr = 0x20 }) ∷ []))
+    ((record { view = 0; page = 5; access = 1 }) ∷ (record { view = 1; page = 6; access = 4 }) ∷ [])
 
 abbrev pub lookups : List Bool
 lookups =
@@ -270,12 +270,12 @@ pasFrom i (suc n) = pa 0 i 1 ++ pasFrom (suc i) n
 
 -- two vCPUs, and the pages 0 to n - 1
 abbrev pub holding : ℕ → Tables
-holding n = record { events = 0; vcpus = (record { ready = false; singlestep = false; crs = 0; events = 0; pauses = 0 }) ∷ (record { ready = false; singlestep = false; crs = 0; events = 0; pauses = 0 }) ∷ []; msrs = []; pages = pagesFrom 0 n }
+holding n = withPages (emptyTables 2) (pagesFrom 0 n)
 
 -- a session with the pages 0 to n - 1 and a reply mode; in it, three entries of view 0
 abbrev pub filled : ℕ → ReplyMode → List ℕ → Outcome → Edge
 filled n mode entries expected =
-    started two (standing (record { tables = holding n; mode = mode; seq = 7; awaited = nobody; closed = false })) (setAccess 3 0 entries ∷ []) expected
+    started two (standing (withSeq (withMode (withTables (fresh two) (holding n)) mode) 7)) (setAccess 3 0 entries ∷ []) expected
 
 abbrev pub fullEdges : List Edge
 fullEdges =

@@ -21,7 +21,7 @@ use Rattle.kvmi.specs.Limits.{leastOut, eventOut, stateBytes}
 use Rattle.kvmi.specs.Answer.{Paper, handled, plain, plainAt}
 use Rattle.kvmi.specs.Settings.{inRange}
 use Rattle.kvmi.specs.Tables.{Tables, vcpuAt, withReady, withPauses}
-use Rattle.kvmi.specs.Model.{Awaited, Model, begun, fresh, closedModel, withSeq, setAwaited, awaitedBy, onVcpu, nextSeq, isSome}
+use Rattle.kvmi.specs.Model.{Awaited, awaiting, Model, begun, fresh, closedModel, withSeq, setAwaited, awaitedBy, onVcpu, nextSeq, isSome}
 use Rattle.kvmi.specs.Message.{layoutOf, vcpuOf}
 use Rattle.kvmi.specs.Verdict.{verdict, factsOf}
 use Rattle.kvmi.specs.Change.{apply, signalOf, modeFor}
@@ -118,7 +118,7 @@ readyStep s m vcpu =
 unfoldable pub pausing : Model → ℕ → List ℕ → List ℕ → Step
 pausing m vcpu state out =
     writing (pauseEvent (m .seq) vcpu state) Quiet out []
-    (withSeq (setAwaited (onVcpu m vcpu (λ v. withPauses v (v .pauses - 1))) vcpu (some (record { event = 2; seq = m .seq }))) (nextSeq (m .seq)))
+    (withSeq (setAwaited (onVcpu m vcpu (λ v. withPauses v (v .pauses - 1))) vcpu (some (awaiting 2 (m .seq)))) (nextSeq (m .seq)))
 
 -- 2 closed; 4 bad vCPU; 5 bad state block, not 536 bytes; 3 short out, below 552; 6 waiting
 unfoldable pub enterStep : Settings → Model → ℕ → List ℕ → List ℕ → Step

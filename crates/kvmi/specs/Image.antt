@@ -10,7 +10,7 @@ use Rattle.kvmi.specs.Bits.{bit, bitsHave, among}
 use Rattle.kvmi.specs.Settings.{allowsEvent, canSinglestep, uncatchable, heldByHost}
 use Rattle.kvmi.specs.Row.{Row}
 use Rattle.kvmi.specs.Record.{Kind, VM, VC, MS, PA, EN, widths, size, vmVersion, vmCount, vmEvents, vcVcpu, vcFlags, vcCrs, vcEvents, vcPauses, vcZero, msVcpu, msMsr, paView, paAccess, paZero, paPage, enCount, Rec, whole, cut, orderOf, writeAll, parse}
-use Rattle.kvmi.specs.Tables.{Vcpu, Msr, Page, Tables, resting, isMsr, withVcpus, withMsrs, withPages}
+use Rattle.kvmi.specs.Tables.{Vcpu, Msr, Page, Tables, resting, emptyTables, isMsr, withVmEvents, withVcpus, withMsrs, withPages}
 use Rattle.kvmi.specs.Message.{isVmEvent, isVcpuEvent}
 
 -- ---- tables as records
@@ -185,7 +185,7 @@ loadRest s n off lo t (whole EN f ∷ rs) = judge (fitsIn EN n lo t f) (mayOf EN
 
 -- what VM alone states
 abbrev pub stated : ℕ → Tables
-stated events = record { events = events; vcpus = []; msrs = []; pages = [] }
+stated events = withVmEvents (emptyTables 0) events
 
 -- "one VM" comes first; "version u16 = 1"
 abbrev pub loadRecords : Settings → List Rec → Loaded

@@ -15,6 +15,10 @@ pub record Awaited : Type 0 where
   pub event : ℕ
   pub seq : ℕ
 
+-- one with its seq
+abbrev pub awaiting : ℕ → ℕ → Awaited
+awaiting event seq = record { event = event; seq = seq }
+
 -- "Beside the standing: the reply mode, the next event seq, each vCPU's awaited event, and whether closed."
 pub record Model : Type 0 where
   pub tables : Tables
