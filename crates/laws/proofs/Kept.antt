@@ -19,6 +19,7 @@ use Rattle.kvmi.specs.Image.{vmForm, isIdle, vcForm, msForm, vmMay, mayEnable, 
 use Rattle.laws.proofs.Bool.{and-l, and-r, and-i, or-l, or-r, either, test, clash, every-head, every-tail, every-imp, every-getD, every-set, every-replicate}
 use Rattle.laws.proofs.Bits.{bits-zero, bits-put, put-below}
 use Rattle.kvmi.specs.Valid.{Valid, vcGood}
+use Rattle.laws.proofs.Valid.{valid-vcpus}
 
 resting-good : (s : Settings) → So (vcGood s resting)
 unfolding vcForm isIdle vcMay
@@ -60,16 +61,8 @@ ms-form-set vs i v keep m h =
 
 pub vcpu-valid : (s : Settings) (t : Tables) (i : ℕ) (v : Vcpu) → So (vcGood s v) → (vcpuAt t i .ready ≡ true → v .ready ≡ true) → Valid s t → Valid s (setVcpu t i v)
 vcpu-valid s t i v good keep a =
-    record {
-      vm = rw length-set (a .vm);
-      may = rw length-set (a .may);
-      vcs = every-set (vcGood s) (t .vcpus) i v good (a .vcs);
-      mss = every-imp (msForm (t .vcpus)) (msForm (set (t .vcpus) i v)) (λ m h. ms-form-set (t .vcpus) i v keep m h) (t .msrs) (a .mss);
-      msUp = a .msUp;
-      pas = a .pas;
-      paUp = a .paUp;
-      paFew = a .paFew;
-    }
+    valid-vcpus s t a (set (t .vcpus) i v) (length-set (t .vcpus) i v) (every-set (vcGood s) (t .vcpus) i v good (a .vcs))
+    (every-imp (msForm (t .vcpus)) (msForm (set (t .vcpus) i v)) (λ m h. ms-form-set (t .vcpus) i v keep m h) (t .msrs) (a .mss))
 
 -- ---- small numbers
 among-last : {C : Type 0} → So false → C

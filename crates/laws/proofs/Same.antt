@@ -30,6 +30,14 @@ pub count-is : (s : Settings) (t : Tables) → Valid s t → length (t .vcpus) �
 unfolding vmMay
 count-is s t a = let h = a .may in eqb-true (length (t .vcpus)) (s .vcpus) (search (and-l, and-r))
 
+-- a vCPU's record, and tables, are what their fields are
+pub vcpu-ext : (v w : Vcpu) → v .ready ≡ w .ready → v .singlestep ≡ w .singlestep → v .crs ≡ w .crs → v .events ≡ w .events → v .pauses ≡ w .pauses → v ≡ w
+vcpu-ext v w ready singlestep crs events pauses =
+    λ j. record { ready = ready j; singlestep = singlestep j; crs = crs j; events = events j; pauses = pauses j }
+
+pub tables-ext : (t u : Tables) → t .events ≡ u .events → t .vcpus ≡ u .vcpus → t .msrs ≡ u .msrs → t .pages ≡ u .pages → t ≡ u
+tables-ext t u events vcpus msrs pages = λ j. record { events = events j; vcpus = vcpus j; msrs = msrs j; pages = pages j }
+
 -- CR switches are those of CR0, CR3 and CR4
 crs-same : (v w : ℕ) → v < 8 → w < 8 → isOn v 0 ≡ isOn w 0 → isOn v 1 ≡ isOn w 1 → isOn v 2 ≡ isOn w 2 → v ≡ w
 crs-same v w h g a b c = bits-ext 3 v w h g at
@@ -48,7 +56,7 @@ module _ (s : Settings) (t u : Tables) (a : Valid s t) (b : Valid s u) (e : Same
       let w = vc-numbers (vcpuAt u i) (and-l _ (vcMay s (vcpuAt u i)) (vcpu-good s u i b)) in
       let crs = crs-same (vcpuAt t i .crs) (vcpuAt u i .crs) (omega arith) (omega arith) (e .crs i 0) (e .crs i 3) (e .crs i 4) in
       let events = bits-ext 16 (vcpuAt t i .events) (vcpuAt u i .events) (v .1) (w .1) (λ k. e .events i k) in
-      λ j. record { ready = e .ready i j; singlestep = e .singlestep i j; crs = crs j; events = events j; pauses = e .pauses i j }
+      vcpu-ext (vcpuAt t i) (vcpuAt u i) (e .ready i) (e .singlestep i) crs events (e .pauses i)
 
   vcpus-same : t .vcpus ≡ u .vcpus
   vcpus-same = ext-getD resting (t .vcpus) (u .vcpus) (count-is s t a ∙ sym (count-is s u b)) (λ i _. vcpu-same i)
@@ -76,7 +84,7 @@ same-equal s t u a b e =
     let vcpus = vcpus-same s t u a b e in
     let msrs = msr-ext (t .msrs) (u .msrs) (a .msUp) (numbered-all s t a) (b .msUp) (numbered-all s u b) (λ v n. e .msrs v n) in
     let pages = access-ext (t .pages) (u .pages) (a .paUp) (paged-all s t a) (lowered-all s t a) (b .paUp) (paged-all s u b) (lowered-all s u b) (λ v n. e .pages v n) in
-    λ j. record { events = events j; vcpus = vcpus j; msrs = msrs j; pages = pages j }
+    tables-ext t u events vcpus msrs pages
 
 pub equal-same : (t u : Tables) → t ≡ u → SameTables t u
 equal-same t u e =

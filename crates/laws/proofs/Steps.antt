@@ -35,6 +35,7 @@ use Rattle.laws.proofs.Bool.{and-l, and-r, and-i, or-l, or-r, either, t
 use Rattle.laws.proofs.Bits.{bits-put}
 use Rattle.laws.proofs.Ascending.{rising-put, rising-forget, length-put, length-put-found, length-put-new, length-forget, every-put, every-forget}
 use Rattle.kvmi.specs.Valid.{Valid, vcGood, paGood}
+use Rattle.laws.proofs.Valid.{valid-events, valid-msrs, valid-pages}
 use Rattle.laws.proofs.Load.{load-valid}
 use Rattle.laws.proofs.Verdicts.{pick, or-false-l, or-false-r, and-false, Passed, verdict-cases, Sound, sound-of}
 use Rattle.laws.proofs.Kept.{empty-valid, vcpu-good, vcpu-valid, ready-good, unpaused-good, paused-good, event-good, cr-good, singlestep-good, vm-event-small}
@@ -119,16 +120,9 @@ module _ (s : Settings) (ok : So (inRange s)) (m : Model) (a : Valid s (m .table
       let small = vm-event-small event h in
       let w = a .vm in
       let u = a .may in
-      record {
-        vm = and-i (leb 1 (length (m .tables .vcpus)) && leb (length (m .tables .vcpus)) 16) _ (search (and-l, and-r)) (bits-put isVmEvent 0 16 (m .tables .events) event on (search (and-l, and-r)) small (λ _. rw zero-add h));
-        may = and-i (eqb (length (m .tables .vcpus)) (s .vcpus)) _ (search (and-l, and-r)) (bits-put (allowsEvent s) 0 16 (m .tables .events) event on (search (and-l, and-r)) small (λ _. rw zero-add g));
-        vcs = a .vcs;
-        mss = a .mss;
-        msUp = a .msUp;
-        pas = a .pas;
-        paUp = a .paUp;
-        paFew = a .paFew;
-      }
+      valid-events s (m .tables) a _
+      (and-i (leb 1 (length (m .tables .vcpus)) && leb (length (m .tables .vcpus)) 16) _ (search (and-l, and-r)) (bits-put isVmEvent 0 16 (m .tables .events) event on (search (and-l, and-r)) small (λ _. rw zero-add h)))
+      (and-i (eqb (length (m .tables .vcpus)) (s .vcpus)) _ (search (and-l, and-r)) (bits-put (allowsEvent s) 0 16 (m .tables .events) event on (search (and-l, and-r)) small (λ _. rw zero-add g)))
 
   msrs-fine : (msr : ℕ) (on : Bool) → So (isMsr msr) → vcpuOf d < s .vcpus → vcpuAt (m .tables) (vcpuOf d) .ready ≡ true → Fine (SetMsr on (vcpuOf d) msr)
   unfolding apply setMsr msForm vmMay
@@ -137,26 +131,8 @@ module _ (s : Settings) (ok : So (inRange s)) (m : Model) (a : Valid s (m .table
       let count = eqb-true (length (m .tables .vcpus)) (s .vcpus) (let w = a .may in search (and-l, and-r)) in
       let form : So (msForm (m .tables .vcpus) own) = and-i _ _ (and-i _ _ (lt-ltb (vcpuOf d) (length (m .tables .vcpus)) (omega arith)) h) r in
       pick (λ (ms : List Msr). Valid s (withMsrs (m .tables) ms)) on (put msrKey own (m .tables .msrs)) (forget msrKey (msrKey own) (m .tables .msrs))
-      (λ _. record {
-        vm = a .vm;
-        may = a .may;
-        vcs = a .vcs;
-        mss = every-put msrKey (msForm (m .tables .vcpus)) own (m .tables .msrs) form (a .mss);
-        msUp = rising-put msrKey 0 own (m .tables .msrs) zero-le (a .msUp);
-        pas = a .pas;
-        paUp = a .paUp;
-        paFew = a .paFew;
-      })
-      (λ _. record {
-        vm = a .vm;
-        may = a .may;
-        vcs = a .vcs;
-        mss = every-forget msrKey (msForm (m .tables .vcpus)) (msrKey own) (m .tables .msrs) (a .mss);
-        msUp = rising-forget msrKey 0 (msrKey own) (m .tables .msrs) (a .msUp);
-        pas = a .pas;
-        paUp = a .paUp;
-        paFew = a .paFew;
-      })
+      (λ _. valid-msrs s (m .tables) a _ (every-put msrKey (msForm (m .tables .vcpus)) own (m .tables .msrs) form (a .mss)) (rising-put msrKey 0 own (m .tables .msrs) zero-le (a .msUp)))
+      (λ _. valid-msrs s (m .tables) a _ (every-forget msrKey (msForm (m .tables .vcpus)) (msrKey own) (m .tables .msrs) (a .mss)) (rising-forget msrKey 0 (msrKey own) (m .tables .msrs) (a .msUp)))
 
   pages-fine : (view count : ℕ) → view < s .views → So (every (λ (e : Entry). isAccess (e .access)) (entriesOf count (drop 8 d))) → Fine (SetPages view count)
   unfolding apply
@@ -164,7 +140,7 @@ module _ (s : Settings) (ok : So (inRange s)) (m : Model) (a : Valid s (m .table
       let es = entriesOf count (drop 8 d) in
       let p = entries-pages s view es (record { pages = m .tables .pages; skipped = false }) ok v (every-and (λ (e : Entry). isAccess (e .access)) (λ (e : Entry). ltb (e .page) (2 ^ 52)) es h (entries-small count (drop 8 d)))
       (record { good = a .pas; up = a .paUp; few = a .paFew }) in
-      record { vm = a .vm; may = a .may; vcs = a .vcs; mss = a .mss; msUp = a .msUp; pas = p .good; paUp = p .up; paFew = p .few }
+      valid-pages s (m .tables) a _ (p .good) (p .up) (p .few)
 
   -- a record of one vCPU changed
   vcpu-fine : (v : Vcpu) → So (vcGood s v) → v .ready ≡ true → Valid s (setVcpu (m .tables) (vcpuOf d) v)

@@ -1,4 +1,4 @@
--- What valid tables say of their numbers. Assumes nothing.
+-- What valid tables say of their numbers, and what must be shown again when one list of them is another. Assumes nothing.
 use mathlib.Core.Path.{_≡_, refl, sym, ap, _∙_}
 use Prim.Native.Nat.{ℕ, zero, suc, _+_, _*_, _-_, _^_, _≤_, _<_, zero-le}
 use native.Mathlib.Omega.{arith}
@@ -10,10 +10,11 @@ use borrow.Author.Tests.{leb-true, ltb-true, eqb-true}
 use Rattle.kvmi.specs.declared.Settings.{Settings}
 use Rattle.kvmi.specs.Bits.{every, bitsHave, among}
 use Rattle.kvmi.specs.Ascending.{rising}
-use Rattle.kvmi.specs.Tables.{Vcpu, Msr, Page, Tables, msrKey, pageKey, isMsr}
+use Rattle.kvmi.specs.Tables.{Vcpu, Msr, Page, Tables, msrKey, pageKey, isMsr, withVmEvents, withVcpus, withMsrs, withPages}
 use Rattle.kvmi.specs.Message.{isVmEvent, isVcpuEvent}
 use Rattle.kvmi.specs.Image.{vmForm, vcForm, msForm, paForm, vmMay, vcMay, paMay, recordCount}
-use Rattle.kvmi.specs.Valid.{Valid}
+use Rattle.kvmi.specs.Limits.{pageLimit}
+use Rattle.kvmi.specs.Valid.{Valid, vcGood, paGood}
 use Rattle.laws.proofs.Bool.{and-l, and-r, either, every-head, every-tail}
 use Rattle.laws.proofs.Bits.{bits-small}
 use Rattle.laws.proofs.Ascending.{Side, below, level, over, side, rising-low, rising-rest}
@@ -118,3 +119,21 @@ count-small s t a =
     let few = few-msrs (t .vcpus) 0 0 (t .msrs) n (λ m g l. zero-le) zero-le (a .mss) (a .msUp) in
     let w = a .paFew in
     omega arith
+
+-- ---- valid tables with other VM event switches, vCPUs, MSR switches or pages: the rest is as it was
+module _ (s : Settings) (t : Tables) (a : Valid s t) where
+  pub valid-events : (e : ℕ) → So (vmForm (length (t .vcpus)) e) → So (vmMay s (length (t .vcpus)) e) → Valid s (withVmEvents t e)
+  valid-events e vm may =
+      record { vm = vm; may = may; vcs = a .vcs; mss = a .mss; msUp = a .msUp; pas = a .pas; paUp = a .paUp; paFew = a .paFew }
+
+  pub valid-vcpus : (vs : List Vcpu) → length vs ≡ length (t .vcpus) → So (every (vcGood s) vs) → So (every (msForm vs) (t .msrs)) → Valid s (withVcpus t vs)
+  valid-vcpus vs e vcs mss =
+      record { vm = rw e (a .vm); may = rw e (a .may); vcs = vcs; mss = mss; msUp = a .msUp; pas = a .pas; paUp = a .paUp; paFew = a .paFew }
+
+  pub valid-msrs : (ms : List Msr) → So (every (msForm (t .vcpus)) ms) → So (rising msrKey 0 ms) → Valid s (withMsrs t ms)
+  valid-msrs ms mss up =
+      record { vm = a .vm; may = a .may; vcs = a .vcs; mss = mss; msUp = up; pas = a .pas; paUp = a .paUp; paFew = a .paFew }
+
+  pub valid-pages : (ps : List Page) → So (every (paGood s) ps) → So (rising pageKey 0 ps) → length ps ≤ pageLimit → Valid s (withPages t ps)
+  valid-pages ps pas up few =
+      record { vm = a .vm; may = a .may; vcs = a .vcs; mss = a .mss; msUp = a .msUp; pas = pas; paUp = up; paFew = few }

@@ -13,7 +13,7 @@ use Rattle.kvmi.specs.Bits.{bit, every}
 use Rattle.kvmi.specs.Ascending.{rising}
 use Rattle.kvmi.specs.Row.{Row, fits}
 use Rattle.kvmi.specs.Record.{Kind, VM, VC, MS, PA, EN, widths, size, Rec, whole, cut, place, orderOf, writeAll, parse}
-use Rattle.kvmi.specs.Tables.{Vcpu, Msr, Page, Tables, msrKey, pageKey}
+use Rattle.kvmi.specs.Tables.{Vcpu, Msr, Page, Tables, msrKey, pageKey, withReady, withSinglestep, withVcpus, withMsrs, withPages}
 use Rattle.kvmi.specs.Image.{vcRow, msRow, paRow, vmRecord, vcRecord, msRecord, paRecord, enRecord, onto, vcRecords, recordCount, records, image, vcpuOfRow, withRecord, vmForm, vcForm, msForm, paForm, vmMay, vcMay, paMay, formOf, isNext, mayOf, Loaded, loaded, judge, fitsIn, loadRest, stated, loadRecords, loadImage}
 use Rattle.laws.proofs.Bool.{and-l, and-r, and-i, every-head, every-tail, length-snoc}
 use Rattle.laws.proofs.Ascending.{rising-low, rising-rest}
@@ -32,7 +32,7 @@ same? n = eq-eqb n n refl
 
 -- the tables with parts of their lists
 abbrev made : ℕ → List Vcpu → List Msr → List Page → Tables
-made e vs ms ps = record { events = e; vcpus = vs; msrs = ms; pages = ps }
+made e vs ms ps = withPages (withMsrs (withVcpus (stated e) vs) ms) ps
 
 load-pages : (s : Settings) (n off lo up e : ℕ) (vs : List Vcpu) (ms : List Msr) (qs ps : List Page) (u : Tables) → length vs ≡ n → lo ≤ place 3 0 up → up ≤ 2 ^ 80
     → made e vs ms (qs ++ ps) ≡ u → So (rising pageKey up ps) → So (every (paGood s) ps) → length qs + length ps ≤ 1024
@@ -76,7 +76,7 @@ flags-of false false = (refl, refl, refl)
 vcpu-of-row : (i : ℕ) (v : Vcpu) → vcpuOfRow (vcRow i v) ≡ v
 vcpu-of-row i v =
     let f = flags-of (v .ready) (v .singlestep) in
-    λ j. record { ready = f .0 j; singlestep = f .1 j; crs = v .crs; events = v .events; pauses = v .pauses }
+    λ j. withSinglestep (withReady v (f .0 j)) (f .1 j)
 
 load-vcs : (s : Settings) (n off lo e i : ℕ) (vs ws : List Vcpu) (ms : List Msr) (ps : List Page) (u : Tables) → length vs ≡ i → i + length ws ≡ n → n ≤ 16 → lo ≤ place 1 i 0
     → made e (vs ++ ws) ms ps ≡ u → So (every (vcGood s) ws) → So (rising msrKey 0 ms) → So (every (msForm (vs ++ ws)) ms) → So (rising pageKey 0 ps)
