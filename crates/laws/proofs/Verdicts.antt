@@ -19,9 +19,10 @@ use Rattle.kvmi.specs.Bits.{among, every}
 use Rattle.kvmi.specs.Codes.{isError, EPERM, ENOENT, EAGAIN, EBUSY, EINVAL, EOPNOTSUPP, ENOSYS}
 use Rattle.kvmi.specs.Settings.{allowsCommand, allowsEvent}
 use Rattle.kvmi.specs.Tables.{isCr, isMsr}
-use Rattle.kvmi.specs.Message.{layoutOf, sizeFits, carriesData, namesVcpu, vcpuOf, switchesAt, eventOf, registerOf, gpaOf, sizeOf, countOf, countFits, viewOf, Entry, entriesOf, firstPadding, takesEvent}
+use Rattle.kvmi.specs.Message.{layoutOf, sizeFits, carriesData, namesVcpu, vcpuOf, switchesAt, actionOf, repliedEvent, eventOf, registerOf, gpaOf, sizeOf, countOf, countFits, viewOf, Entry, entriesOf, firstPadding, takesEvent}
 use Rattle.kvmi.specs.declared.Facts.{Facts}
 use Rattle.kvmi.specs.Verdict.{repliesOn, isAccess, inOnePage, isInvalid, isUnready, isDenied, isUnsupported, isBusy, isAbsent, changeOf, losesErrors, commandVerdict, isAwaited, eventReplyVerdict, refuse, verdict}
+use Rattle.laws.proofs.Bool.{and-l, and-r}
 
 pub or-false-l : (a b : Bool) → (a || b) ≡ false → a ≡ false
 or-false-l true b h = h
@@ -41,9 +42,17 @@ pub pick : {A : Type 0} (P : A → Type 0) (b : Bool) (x y : A) → (b ≡ true 
 pick P true x y f g = f refl
 pick P false x y f g = g refl
 
--- a command that tests 2 to 6 pass
-pub record Passed (s : Settings) (f : Facts) (id : ℕ) (d : List ℕ) : Type 0 where
+-- a message that tests 2 to 4 pass: a known id, allowed, no reply with data where replies are off, data of the right size
+pub record Admitted (s : Settings) (f : Facts) (id : ℕ) (d : List ℕ) : Type 0 where
+  pub known : (leb 1 id && leb id 16) ≡ true
+  pub permitted : allowsCommand s id ≡ true
+  pub answerable : (not (repliesOn (f .mode)) && carriesData (layoutOf id .reply)) ≡ false
   pub size : sizeFits (layoutOf id .size) d ≡ true
+
+-- a command that tests 2 to 6 pass, in their order; `errors` is test 5's second sentence
+pub record Passed (s : Settings) (f : Facts) (id : ℕ) (d : List ℕ) : Type 0 where
+  pub admitted : Admitted s f id d
+  pub command : eqb id 16 ≡ false
   pub pauses : (eqb id 9 && not (allowsEvent s 2)) ≡ false
   pub valid : isInvalid s id d ≡ false
   pub ready : isUnready f id ≡ false
@@ -51,20 +60,40 @@ pub record Passed (s : Settings) (f : Facts) (id : ℕ) (d : List ℕ) : Type 0 
   pub supported : isUnsupported s id d ≡ false
   pub free : isBusy s f id d ≡ false
   pub present : isAbsent f id d ≡ false
+  pub errors : losesErrors s id d ≡ false
 
--- a message closes, fails, or does its change
+-- an EVENT_REPLY that is taken
+pub record Replied (s : Settings) (f : Facts) (id seq : ℕ) (d : List ℕ) : Type 0 where
+  pub admitted : Admitted s f id d
+  pub reply : id ≡ 16
+  pub padding : eqb (firstPadding 16 d) 0 ≡ true
+  pub awaited : isAwaited f seq (repliedEvent d) ≡ true
+  pub action : among (actionOf d) (0 ∷ 2 ∷ []) ≡ true
+
+-- a message closes, fails, does its change, or ends a vCPU's wait
 pub verdict-cases : (P : Verdict → Type 0) (s : Settings) (f : Facts) (id seq : ℕ) (d : List ℕ) → P Closes → ((code : ℤ) → isError code ≡ true → P (Fails code))
-    → (Passed s f id d → P (Does (changeOf id d))) → (id ≡ 16 → P (Does (EndWait (eqb (getD d 8 0) 2) (vcpuOf d)))) → P (verdict s f id seq d)
+    → (Passed s f id d → P (Does (changeOf id d))) → (Replied s f id seq d → P (Does (EndWait (eqb (actionOf d) 2) (vcpuOf d)))) → P (verdict s f id seq d)
 unfolding verdict commandVerdict eventReplyVerdict
 verdict-cases P s f id seq d closes fails does ends =
     let refused : (code : ℤ) → isError code ≡ true → P (refuse (f .mode) code) = λ code e. pick P (repliesOn (f .mode)) (Fails code) Closes (λ _. fails code e) (λ _. closes) in
     pick P (not (leb 1 id && leb id 16)) _ _ (λ _. refused ENOSYS refl)
-    (λ _. pick P (not (allowsCommand s id)) _ _ (λ _. refused EPERM refl)
-    (λ _. pick P (not (repliesOn (f .mode)) && carriesData (layoutOf id .reply)) _ _ (λ _. closes)
-    (λ _. pick P (not (sizeFits (layoutOf id .size) d)) _ _ (λ _. closes)
-    (λ size. pick P (eqb id 16) _ _
-    (λ e. pick P (eqb (firstPadding 16 d) 0 && isAwaited f seq (getD d 9 0) && among (getD d 8 0) (0 ∷ 2 ∷ [])) _ _ (λ _. ends (eqb-true id 16 e)) (λ _. closes))
-    (λ _. pick P (eqb id 9 && not (allowsEvent s 2)) _ _ (λ _. closes)
+    (λ known. pick P (not (allowsCommand s id)) _ _ (λ _. refused EPERM refl)
+    (λ permitted. pick P (not (repliesOn (f .mode)) && carriesData (layoutOf id .reply)) _ _ (λ _. closes)
+    (λ answerable. pick P (not (sizeFits (layoutOf id .size) d)) _ _ (λ _. closes)
+    (λ size. let admitted : Admitted s f id d
+    = record { known = not-false _ known; permitted = not-false _ permitted; answerable = answerable; size = not-false (sizeFits (layoutOf id .size) d) size } in
+    pick P (eqb id 16) _ _
+    (λ e. pick P (eqb (firstPadding 16 d) 0 && isAwaited f seq (repliedEvent d) && among (actionOf d) (0 ∷ 2 ∷ [])) _ _
+    (λ h. ends
+    (record {
+      admitted = admitted;
+      reply = eqb-true id 16 e;
+      padding = search (and-l, and-r);
+      awaited = search (and-l, and-r);
+      action = search (and-l, and-r);
+    }))
+    (λ _. closes))
+    (λ command. pick P (eqb id 9 && not (allowsEvent s 2)) _ _ (λ _. closes)
     (λ pauses. pick P (isInvalid s id d) _ _ (λ _. fails EINVAL refl)
     (λ valid. pick P (isUnready f id) _ _ (λ _. fails EAGAIN refl)
     (λ ready. pick P (isDenied s id d) _ _ (λ _. fails EPERM refl)
@@ -72,9 +101,10 @@ verdict-cases P s f id seq d closes fails does ends =
     (λ supported. pick P (isBusy s f id d) _ _ (λ _. fails EBUSY refl)
     (λ free. pick P (isAbsent f id d) _ _ (λ _. fails ENOENT refl)
     (λ present. pick P (losesErrors s id d) _ _ (λ _. closes)
-    (λ _. does
+    (λ errors. does
     (record {
-      size = not-false (sizeFits (layoutOf id .size) d) size;
+      admitted = admitted;
+      command = command;
       pauses = pauses;
       valid = valid;
       ready = ready;
@@ -82,6 +112,7 @@ verdict-cases P s f id seq d closes fails does ends =
       supported = supported;
       free = free;
       present = present;
+      errors = errors;
     }))))))))))))))
 
 -- ---- the causes of -22, none of which applies

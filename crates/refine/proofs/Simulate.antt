@@ -287,7 +287,8 @@ module _ (st : State) (f : WellFormed st) (out guest : List ℕ) where
       verdict-cases (λ v. S (judgedOf st id seq d out guest v) (model.judged cfg (modelOf st) id seq d out guest v)) cfg (factsOf (modelOf st) (length guest) (vcpuOf d)) id seq d
       (closes-simulates id seq d) (λ code e. fails-simulates id seq d long code e)
       (λ p. does-simulates id seq d long (changeOf id d) (data-fits id d p) (change-meant st (f .words) (f .settings) guest d id p))
-      (λ e. does-simulates id seq d long (EndWait (eqb (getD d 8 0) 2) (vcpuOf d)) (inr (λ q. omega arith))
+      (λ p. let e = p .reply in
+      does-simulates id seq d long (EndWait (eqb (getD d 8 0) 2) (vcpuOf d)) (inr (λ q. omega arith))
       (end-meant st (f .words) (few-vcpus cfg (f .settings)) guest d (vcpuOf d) (eqb (getD d 8 0) 2)))
 
   headed-simulates : (d : List ℕ) → 4112 ≤ length out → (h : Header) → S (headedOf st d out guest h) (model.headed cfg (modelOf st) d out guest h)
