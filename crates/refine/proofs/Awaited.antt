@@ -11,7 +11,7 @@ use lib.ListN.{length, getD, set, replicate, length-set}
 use lib.Seq.{ext-getD, getD-set-same, getD-set-other}
 use lib.Dec.{eqb}
 use borrow.Author.Tests.{eqb-true, eqb-false, eq-eqb, ne-eqb}
-use Rattle.kvmi.specs.Model.{Awaited}
+use Rattle.kvmi.specs.Model.{Awaited, awaiting}
 use Rattle.kvmi.specs.Verdict.{awaitedEvent, awaitedSeq}
 use Rattle.store.specs.Words.{field, setField, setMsrBit, AWAITED, AWAITED-SEQ}
 use Rattle.session.specs.Meaning.{awaitedIn, awaitedOf}
@@ -57,7 +57,7 @@ pub awaited-none : (w : List ℕ) (i : ℕ) → field w i AWAITED ≡ 0 → awai
 unfolding awaitedIn
 awaited-none w i e = rw e
 
-pub awaited-some : (w : List ℕ) (i event seq : ℕ) → field w i AWAITED ≡ event → field w i AWAITED-SEQ ≡ seq → (event ≡ 0 → ⊥) → awaitedIn w i ≡ some (record { event = event; seq = seq })
+pub awaited-some : (w : List ℕ) (i event seq : ℕ) → field w i AWAITED ≡ event → field w i AWAITED-SEQ ≡ seq → (event ≡ 0 → ⊥) → awaitedIn w i ≡ some (awaiting event seq)
 unfolding awaitedIn
 awaited-some w i event seq p q d = rw (p, q, ne-eqb event 0 d)
 

@@ -17,8 +17,8 @@ use Rattle.kvmi.specs.declared.Change.the-variants.{Nothing, SetVmEvent, WriteP
 use Rattle.kvmi.specs.Bits.{bit, every, putBit}
 use Rattle.kvmi.specs.Codes.{OK, ENOMEM}
 use Rattle.kvmi.specs.Settings.{inRange}
-use Rattle.kvmi.specs.Tables.{Vcpu, Msr, Tables, vcpuAt, setVcpu, withCrs, withEvents, withPauses, withSinglestep, withVcpus, isMsr, crBit}
-use Rattle.kvmi.specs.Model.{Awaited, Model, withTables, onVcpu, setAwaited}
+use Rattle.kvmi.specs.Tables.{Vcpu, Msr, Tables, vcpuAt, setVcpu, withCrs, withEvents, withPauses, withSinglestep, withVcpus, withMsrs, withPages, isMsr, crBit}
+use Rattle.kvmi.specs.Model.{Awaited, awaiting, withTables, withMode, withAwaited, onVcpu, setAwaited}
 use Rattle.kvmi.specs.Message.{Entry, entriesOf, isVmEvent, isVcpuEvent}
 use Rattle.kvmi.specs.Verdict.{isAccess}
 use Rattle.kvmi.specs.Limits.{pageLimit}
@@ -62,17 +62,6 @@ mode-small On = omega arith
 mode-small Off = omega arith
 mode-small ErrorsOnly = omega arith
 
--- the model with given parts
-abbrev withLists : Model → List Vcpu → List Msr → Model
-withLists m vs ms =
-    record {
-      tables = record { events = m .tables .events; vcpus = vs; msrs = ms; pages = m .tables .pages };
-      mode = m .mode;
-      seq = m .seq;
-      awaited = m .awaited;
-      closed = m .closed;
-    }
-
 module _ (st : State) (g : WordsGood st) (few : st .session .settings .vcpus ≤ 16) (guest d : List ℕ) where
   abbrev count : ℕ
   count = st .session .settings .vcpus
@@ -82,6 +71,11 @@ module _ (st : State) (g : WordsGood st) (few : st .session .settings .vcpus ≤
 
   abbrev ready : ℕ
   ready = st .session .shared .ready
+
+  -- other vCPU words: of the model, the lists that they mean
+  words-model : (u : List ℕ) (vs : List Vcpu) (ms : List Msr) (ws : List (Option Awaited)) → vcpusOf ready u 0 count ≡ vs → msrsOf u 0 count ≡ ms → awaitedOf u 0 count ≡ ws
+      → modelOf (withVcpuWords st u) ≡ withAwaited (withTables (modelOf st) (withMsrs (withVcpus (tablesOf st) vs) ms)) ws
+  words-model u vs ms ws vcpus msrs awaited = λ j. withAwaited (withTables (modelOf st) (withMsrs (withVcpus (tablesOf st) (vcpus j)) (msrs j))) (awaited j)
 
   -- a plain field of one vCPU, of which its record alone speaks
   pub field-model : (v k x : ℕ) (f : Vcpu → Vcpu) → k < 4 → v < count
@@ -94,13 +88,7 @@ module _ (st : State) (g : WordsGood st) (few : st .session .settings .vcpus ≤
       = awaited-same words (setField words v k x) count
       (λ i. awaited-fields words (setField words v k x) i (field-set-other words v k x i AWAITED (omega arith) (omega arith) (λ p q. omega arith))
       (field-set-other words v k x i AWAITED-SEQ (omega arith) (omega arith) (λ p q. omega arith))) in
-      λ j. record {
-        tables = record { events = modelOf st .tables .events; vcpus = vcpus j; msrs = msrs j; pages = modelOf st .tables .pages };
-        mode = modelOf st .mode;
-        seq = modelOf st .seq;
-        awaited = awaited j;
-        closed = modelOf st .closed;
-      }
+      words-model (setField words v k x) _ _ _ vcpus msrs awaited
 
   pub pause-meant : (v : ℕ) (wait : Bool) → v < count → field words v PAUSES < 8 → Meant (change st guest d (QueuePause wait v)) (apply (modelOf st) guest d (QueuePause wait v))
   unfolding change apply
@@ -166,13 +154,7 @@ module _ (st : State) (g : WordsGood st) (few : st .session .settings .vcpus ≤
       let awaited : awaitedOf u 0 count ≡ awaitedOf words 0 count
       = awaited-same words u count (λ i. awaited-fields words u i (bit-field words v msr on m i AWAITED (omega arith)) (bit-field words v msr on m i AWAITED-SEQ (omega arith))) in
       record {
-        model = λ j. record {
-          tables = record { events = modelOf st .tables .events; vcpus = vcpus j; msrs = msrs j; pages = modelOf st .tables .pages };
-          mode = modelOf st .mode;
-          seq = modelOf st .seq;
-          awaited = awaited j;
-          closed = modelOf st .closed;
-        };
+        model = words-model u _ _ _ vcpus msrs awaited;
         guest = refl;
         code = refl;
         words = msr-kept st g few v h msr on m;
@@ -194,13 +176,7 @@ module _ (st : State) (g : WordsGood st) (few : st .session .settings .vcpus ≤
   unfolding change apply
   replies-meant mode now =
       record {
-        model = λ j. record {
-          tables = modelOf st .tables;
-          mode = mode-back mode j;
-          seq = modelOf st .seq;
-          awaited = modelOf st .awaited;
-          closed = modelOf st .closed;
-        };
+        model = ap (λ (x : ReplyMode). withMode (modelOf st) x) (mode-back mode);
         guest = refl;
         code = refl;
         words = tool-kept st g _ (st .pages) (g .pageWords) (g .closed) (mode-small mode) (g .pages);
@@ -216,20 +192,14 @@ module _ (st : State) (g : WordsGood st) (few : st .session .settings .vcpus ≤
       (every-and (λ (e : Entry). isAccess (e .access)) (λ (e : Entry). ltb (e .page) (2 ^ 52)) es h (entries-small n (drop 8 d))) (omega arith) in
       let t = runEntries pageLimit view es (st .pages) (st .session .tool .pages) in
       record {
-        model = λ j. record {
-          tables = record { events = modelOf st .tables .events; vcpus = modelOf st .tables .vcpus; msrs = modelOf st .tables .msrs; pages = m .run j .pages };
-          mode = modelOf st .mode;
-          seq = modelOf st .seq;
-          awaited = modelOf st .awaited;
-          closed = modelOf st .closed;
-        };
+        model = ap (λ (r : Run). withTables (modelOf st) (withPages (tablesOf st) (r .pages))) (m .run);
         guest = refl;
         code = λ j. cond (m .run j .skipped) ENOMEM OK;
         words = tool-kept st g _ (t .words) (m .long ∙ l) (g .closed) (g .mode) (m .good);
       }
 
   -- the awaited event of a vCPU, and its seq
-  await-words : (v event seq : ℕ) → v < count → (awaitedIn (setField (setField words v AWAITED event) v AWAITED-SEQ seq) v ≡ cond (eqb event 0) none (some (record { event = event; seq = seq })))
+  await-words : (v event seq : ℕ) → v < count → (awaitedIn (setField (setField words v AWAITED event) v AWAITED-SEQ seq) v ≡ cond (eqb event 0) none (some (awaiting event seq)))
   unfolding awaitedIn
   await-words v event seq h =
       let l = block-inside st g few v h in
@@ -239,7 +209,7 @@ module _ (st : State) (g : WordsGood st) (few : st .session .settings .vcpus ≤
       let then : field (setField u v AWAITED-SEQ seq) v AWAITED-SEQ ≡ seq = field-set u v AWAITED-SEQ seq (rw (field-length words v AWAITED event) (omega arith)) in
       rw (now, then)
 
-  awaits-set : (v event seq : ℕ) (a : Option Awaited) → v < count → cond (eqb event 0) none (some (record { event = event; seq = seq })) ≡ a
+  awaits-set : (v event seq : ℕ) (a : Option Awaited) → v < count → cond (eqb event 0) none (some (awaiting event seq)) ≡ a
       → modelOf (withField (withField st v AWAITED event) v AWAITED-SEQ seq) ≡ setAwaited (modelOf st) v a
   awaits-set v event seq a h e =
       let u = setField words v AWAITED event in
@@ -252,17 +222,11 @@ module _ (st : State) (g : WordsGood st) (few : st .session .settings .vcpus ≤
       let awaited : awaitedOf ended 0 count ≡ set (awaitedOf words 0 count) v a
       = awaited-set words ended count v a (await-words v event seq h ∙ e)
       (λ i q. awaited-fields words ended i (other i AWAITED (omega arith) q) (other i AWAITED-SEQ (omega arith) q)) in
-      λ j. record {
-        tables = record { events = modelOf st .tables .events; vcpus = vcpus j; msrs = msrs j; pages = modelOf st .tables .pages };
-        mode = modelOf st .mode;
-        seq = modelOf st .seq;
-        awaited = awaited j;
-        closed = modelOf st .closed;
-      }
+      words-model ended _ _ _ vcpus msrs awaited
 
   pub await-model : (v event seq : ℕ) → v < count → (event ≡ 0 → ⊥)
-      → modelOf (withField (withField st v AWAITED event) v AWAITED-SEQ seq) ≡ setAwaited (modelOf st) v (some (record { event = event; seq = seq }))
-  await-model v event seq h d = awaits-set v event seq (some (record { event = event; seq = seq })) h (rw (ne-eqb event 0 d))
+      → modelOf (withField (withField st v AWAITED event) v AWAITED-SEQ seq) ≡ setAwaited (modelOf st) v (some (awaiting event seq))
+  await-model v event seq h d = awaits-set v event seq (some (awaiting event seq)) h (rw (ne-eqb event 0 d))
 
   -- a word that is 0 already
   zero-again : (v k : ℕ) → count ≤ v → setField words v k 0 ≡ words
@@ -282,7 +246,7 @@ module _ (st : State) (g : WordsGood st) (few : st .session .settings .vcpus ≤
       let none-there : set (awaitedOf words 0 count) v none ≡ awaitedOf words 0 count = set-out (awaitedOf words 0 count) v none (rw (awaited-length words 0 count) h) in
       rw same
       (record {
-        model = λ j. record { tables = modelOf st .tables; mode = modelOf st .mode; seq = modelOf st .seq; awaited = sym none-there j; closed = modelOf st .closed };
+        model = ap (λ (x : List (Option Awaited)). withAwaited (modelOf st) x) (sym none-there);
         guest = refl;
         code = refl;
         words = g;

@@ -32,8 +32,8 @@ use Rattle.kvmi.specs.Answer.{Paper}
 use Rattle.kvmi.specs.Bits.{every, among, putBit}
 use Rattle.kvmi.specs.Codes.{isError}
 use Rattle.kvmi.specs.Settings.{inRange}
-use Rattle.kvmi.specs.Tables.{Vcpu, vcpuAt, resting, emptyTables, withReady, withPauses}
-use Rattle.kvmi.specs.Model.{Awaited, Model, fresh, closedModel, withSeq, nextSeq, onVcpu, setAwaited, awaitedBy, isSome}
+use Rattle.kvmi.specs.Tables.{Vcpu, vcpuAt, resting, emptyTables, withReady, withPauses, withVcpus, withMsrs, withPages}
+use Rattle.kvmi.specs.Model.{Awaited, awaiting, Model, fresh, closedModel, withTables, withSeq, withAwaited, nextSeq, onVcpu, setAwaited, awaitedBy, isSome}
 use Rattle.kvmi.specs.Message.{layoutOf, namesVcpu, vcpuOf, enables, eventOf, registerOf, gpaOf, sizeOf, countOf, countFits, viewOf, Entry, entriesOf, isVmEvent, isVcpuEvent, takesEvent}
 use Rattle.kvmi.specs.Verdict.{factsOf, isAccess, inOnePage, isInvalid, isBusy, modeOf, changeOf, verdict}
 use Rattle.kvmi.specs.Change.{Applied, applied, apply, signalOf, modeFor}
@@ -61,7 +61,7 @@ use Rattle.refine.proofs.Pages.{none-good}
 use Rattle.refine.proofs.Msrs.{zeros-field, zeros-msrs}
 use Rattle.refine.proofs.Vcpus.{zeros-vcpus, vcpus-ready, vcpus-pauses}
 use Rattle.refine.proofs.Awaited.{zeros-awaited}
-use Rattle.refine.proofs.Words.{few-vcpus, tool-kept, vcpu-means, awaited-means, facts-mean, block-inside, field-kept, awaited-kept}
+use Rattle.refine.proofs.Words.{few-vcpus, tool-kept, shared-kept, vcpu-means, awaited-means, facts-mean, block-inside, field-kept, awaited-kept}
 use Rattle.refine.proofs.Changes.{field-model, await-model, Meant, pause-meant, event-meant, cr-meant, single-meant, msr-meant, vm-event-meant, replies-meant, pages-meant, end-meant}
 
 -- ---- a message that passes: its change
@@ -193,13 +193,10 @@ closing-simulates st out guest g =
       answer = refl;
       out = refl;
       guest = refl;
-      model = λ j. record {
-        tables = record { events = 0; vcpus = zeros-vcpus k n j; msrs = zeros-msrs k n j; pages = no-pages (replicate (length (st .pages)) 0) j };
-        mode = On;
-        seq = 0;
-        awaited = zeros-awaited k n j;
-        closed = true;
-      };
+      model = λ j. withAwaited
+          (withTables (closedModel (st .session .settings))
+          (withPages (withMsrs (withVcpus (emptyTables n) (zeros-vcpus k n j)) (zeros-msrs k n j)) (no-pages (replicate (length (st .pages)) 0) j)))
+          (zeros-awaited k n j);
       settings = refl;
       words = zero-words (st .session .settings) (closedSession (st .session .settings)) (st .vcpus) (st .pages) (g .vcpuWords) (g .pageWords) (omega arith) (omega arith) refl refl;
     }
@@ -312,25 +309,8 @@ module _ (st : State) (f : WellFormed st) where
       let g = f .words in
       let n = st .session .settings .vcpus in
       let vcpus = vcpus-ready (st .session .shared .ready) (st .vcpus) v true n ∙ ap (λ (y : Vcpu). set (vcpusOf (st .session .shared .ready) (st .vcpus) 0 n) v (withReady y true)) (sym (vcpu-means st g v)) in (
-        λ j. record {
-          tables = record { events = modelOf st .tables .events; vcpus = vcpus j; msrs = modelOf st .tables .msrs; pages = modelOf st .tables .pages };
-          mode = modelOf st .mode;
-          seq = modelOf st .seq;
-          awaited = modelOf st .awaited;
-          closed = modelOf st .closed;
-        },
-        record {
-          vcpuWords = g .vcpuWords;
-          pageWords = g .pageWords;
-          closed = g .closed;
-          mode = g .mode;
-          ready = put-below n (st .session .shared .ready) v true (g .ready) h;
-          pages = g .pages;
-          flag = g .flag;
-          waits = g .waits;
-          spare = g .spare;
-          past = g .past;
-        },
+        ap (λ (x : List Vcpu). withTables (modelOf st) (withVcpus (tablesOf st) x)) vcpus,
+        shared-kept st g _ (put-below n (st .session .shared .ready) v true (g .ready) h),
       )
 
   pub ready-simulates : (v : ℕ) → Simulates st (readyOf st v) (model.readyStep (st .session .settings) (modelOf st) v)
@@ -375,15 +355,15 @@ module _ (st : State) (f : WellFormed st) (v : ℕ) (inside : v < st .session .s
   words₂ : WordsGood st₂
   words₂ = awaited-kept st₁ words₁ few-here v inside 2 seq (λ e. absurd (omega arith))
 
-  model₂ : modelOf st₂ ≡ setAwaited (modelOf st₁) v (some (record { event = 2; seq = seq }))
+  model₂ : modelOf st₂ ≡ setAwaited (modelOf st₁) v (some (awaiting 2 seq))
   model₂ = await-model st₁ words₁ few-here [] [] v 2 seq inside (λ e. omega arith)
 
   pausing-simulates : (block out : List ℕ) → length block ≡ 536 → 552 ≤ length out → Simulates st (pausingOf st v block out) (model.pausing (modelOf st) v block out)
   unfolding pausingOf model.pausing
   pausing-simulates block out whole long =
       let l = length-pause-whole seq v block whole in
-      let both-models : modelOf (withSeqOf st₂ (nextSeq seq)) ≡ withSeq (setAwaited (onVcpu (modelOf st) v (λ x. withPauses x (x .pauses - 1))) v (some (record { event = 2; seq = seq }))) (nextSeq seq)
-      = ap (λ (m : Model). withSeq m (nextSeq seq)) (model₂ ∙ ap (λ (m : Model). setAwaited m v (some (record { event = 2; seq = seq }))) model₁) in
+      let both-models : modelOf (withSeqOf st₂ (nextSeq seq)) ≡ withSeq (setAwaited (onVcpu (modelOf st) v (λ x. withPauses x (x .pauses - 1))) v (some (awaiting 2 seq))) (nextSeq seq)
+      = ap (λ (m : Model). withSeq m (nextSeq seq)) (model₂ ∙ ap (λ (m : Model). setAwaited m v (some (awaiting 2 seq))) model₁) in
       record {
         answer = refl;
         out = store-start out (pauseEvent seq v block) (omega arith);
@@ -396,11 +376,11 @@ module _ (st : State) (f : WellFormed st) (v : ℕ) (inside : v < st .session .s
 -- an event is awaited where its word is not 0
 awaits-same : (st : State) → WordsGood st → (v : ℕ) → isSome (awaitedBy (modelOf st) v) ≡ not (eqb (field (st .vcpus) v AWAITED) 0)
 unfolding awaitedIn
-awaits-same st g v = ap isSome (awaited-means st g v) ∙ by (eqb (field (st .vcpus) v AWAITED) 0)
+awaits-same st g v = ap isSome (awaited-means st g v) ∙ by (eqb (field (st .vcpus) v AWAITED) 0) _
   where
-    by : (b : Bool) → isSome {A = Awaited} (cond b none (some (record { event = field (st .vcpus) v AWAITED; seq = field (st .vcpus) v AWAITED-SEQ }))) ≡ not b
-    by true = refl
-    by false = refl
+    by : (b : Bool) (a : Awaited) → isSome (cond b none (some a)) ≡ not b
+    by true a = refl
+    by false a = refl
 
 pub enter-simulates : (st : State) → WellFormed st → (v : ℕ) (block out : List ℕ) → Simulates st (enterOf st v block out) (model.enterStep (st .session .settings) (modelOf st) v block out)
 unfolding enterOf model.enterStep vcpuOfWords

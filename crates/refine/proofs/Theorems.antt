@@ -17,7 +17,6 @@ use Rattle.wire.specs.declared.Header.{Header}
 use Rattle.wire.specs.declared.Header.the-variants.{Whole, Broken}
 use Rattle.kvmi.specs.declared.Settings.{Settings}
 use Rattle.kvmi.specs.declared.ReplyMode.{ReplyMode}
-use Rattle.kvmi.specs.declared.ReplyMode.the-variants.{On}
 use Rattle.kvmi.specs.declared.Facts.{Facts}
 use Rattle.kvmi.specs.declared.Signal.the-variants.{Quiet}
 use Rattle.kvmi.specs.declared.Change.{Change}
@@ -28,8 +27,8 @@ use Rattle.kvmi.specs.Answer.{handled}
 use Rattle.kvmi.specs.Limits.{pageLimit}
 use Rattle.kvmi.specs.Codes.{isError, OK, ENOMEM}
 use Rattle.kvmi.specs.Settings.{inRange}
-use Rattle.kvmi.specs.Tables.{Tables, resting, isMsr}
-use Rattle.kvmi.specs.Model.{Model, fresh}
+use Rattle.kvmi.specs.Tables.{Tables, resting, isMsr, emptyTables, withVcpus, withMsrs, withPages}
+use Rattle.kvmi.specs.Model.{Model, fresh, withTables, withAwaited}
 use Rattle.kvmi.specs.Message.{namesVcpu, vcpuOf, enables, registerOf, countOf, viewOf, entriesOf, layoutOf}
 use Rattle.kvmi.specs.Verdict.{changeOf, modeOf, verdict}
 use Rattle.kvmi.specs.Reply.{answerSeq, answerOf}
@@ -59,13 +58,9 @@ fresh-model s vcpus pages =
     let n = s .vcpus in
     let k = length vcpus in
     let waits = zeros-awaited k n ∙ ap (λ (i : ℕ). replicate i none) (sym (length-replicate n resting)) in
-    λ j. record {
-      tables = record { events = 0; vcpus = zeros-vcpus k n j; msrs = zeros-msrs k n j; pages = no-pages (cleared pages) j };
-      mode = On;
-      seq = 0;
-      awaited = waits j;
-      closed = false;
-    }
+    λ j. withAwaited
+    (withTables (fresh s) (withPages (withMsrs (withVcpus (emptyTables n) (zeros-vcpus k n j)) (zeros-msrs k n j)) (no-pages (cleared pages) j)))
+    (waits j)
 
 pub fresh-formed : (s : Settings) (vcpus pages : List ℕ) → length vcpus ≡ 4352 → length pages ≡ 1024 → So (inRange s) → WellFormed (clearedState (freshSession s) vcpus pages)
 fresh-formed s vcpus pages v p ok =

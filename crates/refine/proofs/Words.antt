@@ -20,7 +20,7 @@ use Rattle.store.specs.Words.{field, setField, msrWord, msrSlot, setMsrBit, SIN
 use Rattle.store.specs.Meaning.{vcpuOfWords, vcpusOf}
 use Rattle.page_words.specs.Meaning.{PagesGood}
 use Rattle.session.specs.declared.Tool.{Tool}
-use Rattle.session.specs.State.{State, state, withTool, withVcpuWords, withField}
+use Rattle.session.specs.State.{State, state, withTool, withReadyBits, withVcpuWords, withField}
 use Rattle.message.specs.Message.{factsIn}
 use Rattle.session.specs.Meaning.{awaitedIn, awaitedOf, tablesOf, modelOf, WordsGood, WellFormed}
 use Rattle.laws.proofs.Bool.{and-l, and-r, test}
@@ -55,6 +55,39 @@ module _ (st : State) (g : WordsGood st) where
         waits = g .waits;
         spare = g .spare;
         past = g .past;
+      }
+
+  -- ---- the ready marks may be others that name no vCPU past the count
+  pub shared-kept : (ready : ℕ) → ready < 2 ^ n → WordsGood (state (withReadyBits (st .session) ready) w (st .pages))
+  shared-kept ready below =
+      record {
+        vcpuWords = g .vcpuWords;
+        pageWords = g .pageWords;
+        closed = g .closed;
+        mode = g .mode;
+        ready = below;
+        pages = g .pages;
+        flag = g .flag;
+        waits = g .waits;
+        spare = g .spare;
+        past = g .past;
+      }
+
+  -- ---- the vCPU words may be others that are good
+  pub vcpus-kept : (u : List ℕ) → length u ≡ 4352 → ((i : ℕ) → field u i SINGLESTEP ≤ 1) → ((i : ℕ) → field u i AWAITED ≡ 0 → field u i AWAITED-SEQ ≡ 0)
+      → ((i k : ℕ) → 6 ≤ k → k < 16 → field u i k ≡ 0) → ((j : ℕ) → n * 272 ≤ j → getD u j 0 ≡ 0) → WordsGood (withVcpuWords st u)
+  vcpus-kept u long flag waits spare past =
+      record {
+        vcpuWords = long;
+        pageWords = g .pageWords;
+        closed = g .closed;
+        mode = g .mode;
+        ready = g .ready;
+        pages = g .pages;
+        flag = flag;
+        waits = waits;
+        spare = spare;
+        past = past;
       }
 
   -- ---- past the count every field is 0
@@ -111,18 +144,10 @@ module _ (st : State) (g : WordsGood st) where
     unfolding setField
     field-kept k x a small =
         let far : (i j : ℕ) → j < 272 → (i ≡ v → j ≡ k → ⊥) → field (setField w v k x) i j ≡ field w i j = λ i j b d. field-set-other w v k x i j (omega arith) b d in
-        record {
-          vcpuWords = field-length w v k x ∙ g .vcpuWords;
-          pageWords = g .pageWords;
-          closed = g .closed;
-          mode = g .mode;
-          ready = g .ready;
-          pages = g .pages;
-          flag = λ i. flag i far;
-          waits = λ i e. far i AWAITED-SEQ (omega arith) (λ p q. omega arith) ∙ g .waits i (sym (far i AWAITED (omega arith) (λ p q. omega arith)) ∙ e);
-          spare = λ i j b c. far i j (omega arith) (λ p q. omega arith) ∙ g .spare i j b c;
-          past = past-set (v * 272 + k) x (omega arith);
-        }
+        vcpus-kept (setField w v k x) (field-length w v k x ∙ g .vcpuWords) (λ i. flag i far)
+        (λ i e. far i AWAITED-SEQ (omega arith) (λ p q. omega arith) ∙ g .waits i (sym (far i AWAITED (omega arith) (λ p q. omega arith)) ∙ e))
+        (λ i j b c. far i j (omega arith) (λ p q. omega arith) ∙ g .spare i j b c)
+        (past-set (v * 272 + k) x (omega arith))
       where
         flag : (i : ℕ) → ((i j : ℕ) → j < 272 → (i ≡ v → j ≡ k → ⊥) → field (setField w v k x) i j ≡ field w i j) → field (setField w v k x) i SINGLESTEP ≤ 1
         flag i far =
@@ -139,18 +164,9 @@ module _ (st : State) (g : WordsGood st) where
     unfolding setMsrBit msrWord
     msr-kept m on h =
         let same : (i j : ℕ) → j < 16 → field (setMsrBit w v m on) i j ≡ field w i j = λ i j b. bit-field w v m on h i j b in
-        record {
-          vcpuWords = bit-length w v m on ∙ g .vcpuWords;
-          pageWords = g .pageWords;
-          closed = g .closed;
-          mode = g .mode;
-          ready = g .ready;
-          pages = g .pages;
-          flag = λ i. rw (same i SINGLESTEP (omega arith)) (g .flag i);
-          waits = λ i e. same i AWAITED-SEQ (omega arith) ∙ g .waits i (sym (same i AWAITED (omega arith)) ∙ e);
-          spare = λ i j b c. same i j c ∙ g .spare i j b c;
-          past = past-set (v * 272 + 16 + msrSlot m / 64) _ (omega (arith, slot-below m h));
-        }
+        vcpus-kept (setMsrBit w v m on) (bit-length w v m on ∙ g .vcpuWords) (λ i. rw (same i SINGLESTEP (omega arith)) (g .flag i))
+        (λ i e. same i AWAITED-SEQ (omega arith) ∙ g .waits i (sym (same i AWAITED (omega arith)) ∙ e)) (λ i j b c. same i j c ∙ g .spare i j b c)
+        (past-set (v * 272 + 16 + msrSlot m / 64) _ (omega (arith, slot-below m h)))
 
     -- the awaited event and its seq together
     pub awaited-kept : (event seq : ℕ) → (event ≡ 0 → seq ≡ 0) → WordsGood (withField (withField st v AWAITED event) v AWAITED-SEQ seq)
@@ -160,18 +176,11 @@ module _ (st : State) (g : WordsGood st) where
         let far : (i j : ℕ) → j < 272 → (i ≡ v → j ≡ AWAITED → ⊥) → (i ≡ v → j ≡ AWAITED-SEQ → ⊥) → field (setField u v AWAITED-SEQ seq) i j ≡ field w i j
         = λ i j b d e. field-set-other u v AWAITED-SEQ seq i j (omega arith) b e ∙ field-set-other w v AWAITED event i j (omega arith) b d in
         let l = block-inside in
-        record {
-          vcpuWords = field-length u v AWAITED-SEQ seq ∙ field-length w v AWAITED event ∙ g .vcpuWords;
-          pageWords = g .pageWords;
-          closed = g .closed;
-          mode = g .mode;
-          ready = g .ready;
-          pages = g .pages;
-          flag = λ i. rw (far i SINGLESTEP (omega arith) (λ p q. omega arith) (λ p q. omega arith)) (g .flag i);
-          waits = λ i. waits i far;
-          spare = λ i j b c. far i j (omega arith) (λ p q. omega arith) (λ p q. omega arith) ∙ g .spare i j b c;
-          past = λ j h. getD-set-other u (v * 272 + AWAITED-SEQ) j seq 0 (λ e. omega arith) ∙ past-set (v * 272 + AWAITED) event (omega arith) j h;
-        }
+        vcpus-kept (setField u v AWAITED-SEQ seq) (field-length u v AWAITED-SEQ seq ∙ field-length w v AWAITED event ∙ g .vcpuWords)
+        (λ i. rw (far i SINGLESTEP (omega arith) (λ p q. omega arith) (λ p q. omega arith)) (g .flag i))
+        (λ i. waits i far)
+        (λ i j b c. far i j (omega arith) (λ p q. omega arith) (λ p q. omega arith) ∙ g .spare i j b c)
+        (λ j h. getD-set-other u (v * 272 + AWAITED-SEQ) j seq 0 (λ e. omega arith) ∙ past-set (v * 272 + AWAITED) event (omega arith) j h)
       where
         waits : (i : ℕ)
             → ((i j : ℕ) → j < 272 → (i ≡ v → j ≡ AWAITED → ⊥) → (i ≡ v → j ≡ AWAITED-SEQ → ⊥) → field (setField (setField w v AWAITED event) v AWAITED-SEQ seq) i j ≡ field w i j)

@@ -9,7 +9,7 @@ use lib.Dec.{eqb}
 use Rattle.kvmi.specs.Settings.{inRange}
 use Rattle.kvmi.specs.Mode.{modeOfNumber}
 use Rattle.kvmi.specs.Tables.{Tables}
-use Rattle.kvmi.specs.Model.{Awaited, Model}
+use Rattle.kvmi.specs.Model.{Awaited, awaiting, Model}
 use Rattle.kvmi.specs.Valid.{Valid}
 use Rattle.store.specs.Words.{field, SINGLESTEP, AWAITED, AWAITED-SEQ}
 use Rattle.store.specs.Meaning.{msrsOf, vcpusOf}
@@ -18,7 +18,7 @@ use Rattle.session.specs.State.{State}
 
 -- the event that a vCPU awaits a reply to; 0 stands for none
 unfoldable pub awaitedIn : List ℕ → ℕ → Option Awaited
-awaitedIn w i = cond (eqb (field w i AWAITED) 0) none (some (record { event = field w i AWAITED; seq = field w i AWAITED-SEQ }))
+awaitedIn w i = cond (eqb (field w i AWAITED) 0) none (some (awaiting (field w i AWAITED) (field w i AWAITED-SEQ)))
 
 -- those of n vCPUs, from one on
 unfoldable pub awaitedOf : List ℕ → ℕ → ℕ → List (Option Awaited)
