@@ -13,12 +13,11 @@ use lib.Dec.{ltb, leb, eqb}
 use borrow.Author.Tests.{ltb-true, ltb-false, leb-true}
 use Rattle.wire.proofs.Laws.{store-start}
 use Rattle.kvmi.specs.declared.Settings.{Settings}
-use Rattle.kvmi.specs.declared.ReplyMode.the-variants.{On}
 use Rattle.kvmi.specs.declared.Signal.the-variants.{Quiet}
 use Rattle.kvmi.specs.Bits.{bit, isOn}
 use Rattle.kvmi.specs.Settings.{inRange}
-use Rattle.kvmi.specs.Tables.{Vcpu, Tables, resting}
-use Rattle.kvmi.specs.Model.{Model, begun}
+use Rattle.kvmi.specs.Tables.{Vcpu, Tables, resting, withVcpus, withMsrs, withPages}
+use Rattle.kvmi.specs.Model.{Model, begun, withTables, withAwaited}
 use Rattle.kvmi.specs.Image.{image, Loaded, loaded, loadImage}
 use Rattle.kvmi.specs.Valid.{Valid}
 use Rattle.kvmi.specs.Call as model
@@ -26,19 +25,19 @@ use Rattle.store.specs.Words.{field, cleared, SINGLESTEP, CRS, EVENTS, PAUSES, 
 use Rattle.store.specs.Meaning.{msrsOf, vcpuOfWords, vcpusOf}
 use Rattle.page_words.specs.Meaning.{pagesOf}
 use Rattle.kvmi.specs.Mode.{modeOfNumber}
-use Rattle.session.specs.State.{State}
+use Rattle.session.specs.State.{State, freshSession}
 use Rattle.session.specs.Calls.{Told}
 use Rattle.session.specs.Meaning.{awaitedOf, tablesOf, modelOf, WordsGood, WellFormed}
 use Rattle.image_writer.specs.Write.{statedVcpus, statedTables, imageOf}
 use Rattle.image_reader.specs.Read.{vcpusLoaded, msrsLoaded, readyLoaded, pagesLoaded, loadedSession, loadedState}
 use Rattle.laws.proofs.Bool.{test}
 use Rattle.laws.proofs.Valid.{vm-few}
-use Rattle.laws.proofs.Same.{count-is}
+use Rattle.laws.proofs.Same.{count-is, vcpu-ext}
 use Rattle.refine.proofs.Msrs.{zeros-field, zeros-msrs, msrs-same}
 use Rattle.refine.proofs.Vcpus.{vcpus-length, vcpus-at}
 use Rattle.refine.proofs.Awaited.{awaited-same, awaited-none, awaited-at, awaited-length, zeros-awaited}
-use Rattle.refine.proofs.Words.{few-vcpus}
-use Rattle.refine.proofs.Simulate.{Simulates, both, same-simulates}
+use Rattle.refine.proofs.Words.{few-vcpus, tool-kept, shared-kept, vcpus-kept}
+use Rattle.refine.proofs.Simulate.{Simulates, both, same-simulates, zero-words}
 use Rattle.history.proofs.Loading.{AllIn, all-in, Holds, vcpus-loaded-length, vcpus-loaded-other, vcpus-loaded-past, vcpus-loaded-at, ready-loaded-at, ready-loaded-below, msrs-loaded-length, msrs-loaded-field, msrs-loaded-past, msrs-loaded, pages-mean, pages-length, pages-good}
 
 -- ---- the writer
@@ -52,12 +51,8 @@ stated-same st f =
     let n = stated-count st f in
     let i = f .words .pages .inside in
     let k : min (st .session .tool .pages) (length (st .pages)) ≡ st .session .tool .pages = omega arith in
-    λ j. record {
-      events = st .session .tool .events;
-      vcpus = vcpusOf (st .session .shared .ready) (st .vcpus) 0 (n j);
-      msrs = msrsOf (st .vcpus) 0 (n j);
-      pages = pagesOf (st .pages) (k j);
-    }
+    λ j. withPages (withMsrs (withVcpus (tablesOf st) (vcpusOf (st .session .shared .ready) (st .vcpus) 0 (n j))) (msrsOf (st .vcpus) 0 (n j)))
+    (pagesOf (st .pages) (k j))
 
 pub image-simulates : (st : State) → WellFormed st → (out : List ℕ) → Simulates st (imageOf st out) (model.imageStep (modelOf st) out)
 unfolding imageOf model.imageStep
@@ -144,7 +139,7 @@ module _ (s : Settings) (t : Tables) (ok : So (inRange s)) (a : Valid s t) (vcpu
       let crs = plain i CRS (omega arith) ∙ v .crs in
       let events = plain i EVENTS (omega arith) ∙ v .events in
       let pauses = plain i PAUSES (omega arith) ∙ v .pauses in
-      λ j. record { ready = r j; singlestep = step j; crs = crs j; events = events j; pauses = pauses j }
+      vcpu-ext (vcpuOfWords ready words i) (getD (t .vcpus) i resting) r step crs events pauses
 
   vcpus-mean : vcpusOf ready words 0 (s .vcpus) ≡ t .vcpus
   vcpus-mean =
@@ -191,29 +186,17 @@ module _ (s : Settings) (t : Tables) (ok : So (inRange s)) (a : Valid s t) (vcpu
   pub loaded-model : modelOf st ≡ begun t
   unfolding loadedState modeOfNumber
   loaded-model =
-      λ j. record {
-        tables = record { events = t .events; vcpus = vcpus-mean j; msrs = msrs-mean j; pages = pages-mean s t a pages plong j };
-        mode = On;
-        seq = 0;
-        awaited = awaits-none j;
-        closed = false;
-      }
+      λ j. withAwaited (withTables (begun t) (withPages (withMsrs (withVcpus t (vcpus-mean j)) (msrs-mean j)) (pages-mean s t a pages plong j))) (awaits-none j)
 
   pub loaded-words : WordsGood st
   unfolding loadedState
   loaded-words =
-      record {
-        vcpuWords = words-length;
-        pageWords = pages-length s t a pages plong;
-        closed = zero-le;
-        mode = zero-le;
-        ready = let c = count in ready-loaded-below (s .vcpus) 0 0 (t .vcpus) (pow-pos (s .vcpus)) (omega arith);
-        pages = pages-good s t a pages plong;
-        flag = flag-small;
-        waits = λ i _. spare i AWAITED-SEQ (omega arith) (omega arith);
-        spare = λ i k g h. spare i k (omega arith) h;
-        past = λ j h. msrs-loaded-past (s .vcpus) fields (t .msrs) all j h ∙ fields-past j h;
-      }
+      let c = count in
+      let none-set = zero-words s (freshSession s) vcpus pages vlong plong zero-le zero-le refl refl in
+      let switches = vcpus-kept _ none-set words words-length flag-small (λ i _. spare i AWAITED-SEQ (omega arith) (omega arith)) (λ i k g h. spare i k (omega arith) h)
+      (λ j h. msrs-loaded-past (s .vcpus) fields (t .msrs) all j h ∙ fields-past j h) in
+      let marks = shared-kept _ switches ready (ready-loaded-below (s .vcpus) 0 0 (t .vcpus) (pow-pos (s .vcpus)) (omega arith)) in
+      tool-kept _ marks (loadedSession s t .tool) _ (pages-length s t a pages plong) zero-le zero-le (pages-good s t a pages plong)
 
   pub loaded-formed : WellFormed st
   unfolding loadedState

@@ -8,7 +8,7 @@ use lib.ListN.{length, getD}
 use Rattle.wire.specs.Bytes.{store}
 use Rattle.kvmi.specs.Bits.{isOn}
 use Rattle.kvmi.specs.Record.{writeAll}
-use Rattle.kvmi.specs.Tables.{Vcpu, Msr, Page, Tables}
+use Rattle.kvmi.specs.Tables.{Vcpu, Msr, Page, Tables, emptyTables, withVmEvents, withVcpus, withMsrs, withPages}
 use Rattle.kvmi.specs.Image.{vcRecords, onto, msRecord, paRecord}
 use Rattle.store.specs.Words.{field}
 use Rattle.store.specs.Meaning.{msrAt, msrsOf, vcpusOf}
@@ -63,7 +63,7 @@ pub record Put (s : List ℕ) (at : ℕ) (ms : List Msr) (out : List ℕ) (r : �
 -- ---- the tables of n vCPUs and `used` page words
 abbrev pub tables : ℕ → ℕ → ℕ → ℕ → List ℕ → List ℕ → Tables
 tables events ready n used w pages =
-    record { events = events; vcpus = vcpusOf ready w 0 n; msrs = msrsOf w 0 n; pages = pagesOf pages used }
+    withPages (withMsrs (withVcpus (withVmEvents (emptyTables n) events) (vcpusOf ready w 0 n)) (msrsOf w 0 n)) (pagesOf pages used)
 
 -- what an image states: no more vCPUs than there are blocks of words, and no more pages than words
 abbrev pub statedOf : ℕ → ℕ → ℕ → ℕ → List ℕ → List ℕ → Tables

@@ -5,14 +5,14 @@ use mathlib.Core.Bool.{cond, not}
 use lib.ListN.{length}
 use lib.Dec.{ltb, eqb}
 use Rattle.kvmi.specs.declared.Signal.the-variants.{Quiet}
-use Rattle.kvmi.specs.Tables.{Tables}
+use Rattle.kvmi.specs.Tables.{Tables, withVcpus, withMsrs, withPages}
 use Rattle.kvmi.specs.Image.{image}
 use Rattle.kvmi.specs.Call.{awaitsAny}
 use Rattle.store.specs.Meaning.{msrsOf, vcpusOf}
 use Rattle.page_words.specs.Meaning.{pagesOf}
 use Rattle.session.specs.State.{State}
 use Rattle.session.specs.Calls.{Told, toldSame, toldWritten}
-use Rattle.session.specs.Meaning.{awaitedOf}
+use Rattle.session.specs.Meaning.{awaitedOf, tablesOf}
 
 -- the vCPUs that an image states
 unfoldable pub statedVcpus : State → ℕ
@@ -21,12 +21,9 @@ statedVcpus st = min (st .session .settings .vcpus) 16
 -- the tables that an image states
 unfoldable pub statedTables : State → Tables
 statedTables st =
-    record {
-      events = st .session .tool .events;
-      vcpus = vcpusOf (st .session .shared .ready) (st .vcpus) 0 (statedVcpus st);
-      msrs = msrsOf (st .vcpus) 0 (statedVcpus st);
-      pages = pagesOf (st .pages) (min (st .session .tool .pages) (length (st .pages)));
-    }
+    withPages
+    (withMsrs (withVcpus (tablesOf st) (vcpusOf (st .session .shared .ready) (st .vcpus) 0 (statedVcpus st))) (msrsOf (st .vcpus) 0 (statedVcpus st)))
+    (pagesOf (st .pages) (min (st .session .tool .pages) (length (st .pages))))
 
 -- "image writer 2, 10, 3"
 unfoldable pub imageOf : State → List ℕ → Told
