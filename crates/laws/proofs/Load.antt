@@ -119,6 +119,23 @@ ms-early s n lo t f a h =
     let m = ms-numbers (t .vcpus) (msrOfRow f) (search (and-l, and-r) depth 8) in
     (leb-true lo (orderOf MS f) (search (and-l, and-r) depth 8), omega arith)
 
+-- what must be shown again behind each kind of record
+part-vm : (s : Settings) (n lo e : ℕ) → So (vmForm n e) → So (vmMay s n e) → Part s n lo (stated e)
+part-vm s n lo e vm may =
+    record {
+      vm = vm;
+      may = may;
+      vcFew = zero-le;
+      vcs = refl;
+      mss = refl;
+      msUp = refl;
+      msLo = none-yet refl;
+      pas = refl;
+      paUp = refl;
+      paFew = zero-le;
+      paLo = none-yet refl;
+    }
+
 part-vc : (s : Settings) (n lo : ℕ) (t : Tables) (f : Row (widths VC)) → So (fitsIn VC n lo t f) → So (mayOf VC s f) → t .msrs ≡ [] → t .pages ≡ [] → Part s n lo t
     → Part s n (suc (orderOf VC f)) (withRecord VC t f)
 part-vc s n lo t f h m e g a =
@@ -243,20 +260,7 @@ records-told s (whole VM f ∷ rs) u e =
     let same : whole VM f ≡ vmRecord (f .1 .0) (f .1 .1 .0) = ap (λ (x : ℕ). whole VM (x, f .1)) one in
     rw same
     (rest-told s (f .1 .0) (size VM) (suc (orderOf VM f)) (stated (f .1 .1 .0)) rs u
-    (record {
-      vm = and-r (eqb (f .0) 1) (vmForm (f .1 .0) (f .1 .1 .0)) (j .0);
-      may = j .1;
-      vcFew = zero-le;
-      vcs = refl;
-      mss = refl;
-      msUp = refl;
-      msLo = none-yet refl;
-      pas = refl;
-      paUp = refl;
-      paFew = zero-le;
-      paLo = none-yet refl;
-    })
-    (j .2))
+    (part-vm s (f .1 .0) (suc (orderOf VM f)) (f .1 .1 .0) (and-r (eqb (f .0) 1) (vmForm (f .1 .0) (f .1 .1 .0)) (j .0)) (j .1)) (j .2))
 
 -- an image that loads, written again, gives the same bytes
 pub load-write : (s : Settings) (l : List ℕ) (u : Tables) → So (areBytes l) → loadImage s l ≡ loaded u → image u ≡ l
