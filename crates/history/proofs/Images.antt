@@ -25,7 +25,7 @@ use Rattle.store.specs.Words.{field, cleared, SINGLESTEP, CRS, EVENTS, PAUSES, 
 use Rattle.store.specs.Meaning.{msrsOf, vcpuOfWords, vcpusOf}
 use Rattle.page_words.specs.Meaning.{pagesOf}
 use Rattle.kvmi.specs.Mode.{modeOfNumber}
-use Rattle.session.specs.State.{State, freshSession}
+use Rattle.session.specs.State.{State, freshTool, freshSession, withToolEvents}
 use Rattle.session.specs.Calls.{Told}
 use Rattle.session.specs.Meaning.{awaitedOf, tablesOf, modelOf, WordsGood, WellFormed}
 use Rattle.image_writer.specs.Write.{statedVcpus, statedTables, imageOf}
@@ -36,7 +36,7 @@ use Rattle.laws.proofs.Same.{count-is, vcpu-ext}
 use Rattle.refine.proofs.Msrs.{zeros-field, zeros-msrs, msrs-same}
 use Rattle.refine.proofs.Vcpus.{vcpus-length, vcpus-at}
 use Rattle.refine.proofs.Awaited.{awaited-same, awaited-none, awaited-at, awaited-length, zeros-awaited}
-use Rattle.refine.proofs.Words.{few-vcpus, tool-kept, shared-kept, vcpus-kept}
+use Rattle.refine.proofs.Words.{few-vcpus, tool-kept, pages-kept, shared-kept, vcpus-kept}
 use Rattle.refine.proofs.Simulate.{Simulates, both, same-simulates, zero-words}
 use Rattle.history.proofs.Loading.{AllIn, all-in, Holds, vcpus-loaded-length, vcpus-loaded-other, vcpus-loaded-past, vcpus-loaded-at, ready-loaded-at, ready-loaded-below, msrs-loaded-length, msrs-loaded-field, msrs-loaded-past, msrs-loaded, pages-mean, pages-length, pages-good}
 
@@ -196,7 +196,8 @@ module _ (s : Settings) (t : Tables) (ok : So (inRange s)) (a : Valid s t) (vcpu
       let switches = vcpus-kept _ none-set words words-length flag-small (λ i _. spare i AWAITED-SEQ (omega arith) (omega arith)) (λ i k g h. spare i k (omega arith) h)
       (λ j h. msrs-loaded-past (s .vcpus) fields (t .msrs) all j h ∙ fields-past j h) in
       let marks = shared-kept _ switches ready (ready-loaded-below (s .vcpus) 0 0 (t .vcpus) (pow-pos (s .vcpus)) (omega arith)) in
-      tool-kept _ marks (loadedSession s t .tool) _ (pages-length s t a pages plong) zero-le zero-le (pages-good s t a pages plong)
+      let own = tool-kept _ marks (withToolEvents freshTool (t .events)) refl zero-le zero-le in
+      pages-kept _ own (length (t .pages)) _ (pages-length s t a pages plong) (pages-good s t a pages plong)
 
   pub loaded-formed : WellFormed st
   unfolding loadedState

@@ -38,7 +38,7 @@ use Rattle.refine.proofs.Pages.{Means, run-entries}
 use Rattle.refine.proofs.Msrs.{field-set, field-set-other, field-length, set-msr, msrs-field, bit-field}
 use Rattle.refine.proofs.Vcpus.{vcpus-crs, vcpus-events, vcpus-pauses, vcpus-singlestep, vcpus-msr, vcpus-apart}
 use Rattle.refine.proofs.Awaited.{awaited-length, awaited-same, awaited-set, awaited-fields, awaited-none, awaited-some}
-use Rattle.refine.proofs.Words.{tool-kept, field-past, vcpu-means, block-inside, field-kept, msr-kept, awaited-kept}
+use Rattle.refine.proofs.Words.{tool-kept, pages-kept, field-past, vcpu-means, block-inside, field-kept, msr-kept, awaited-kept}
 
 -- what the words mean after a change is what the model's change gives
 pub record Meant (r : Changed) (a : Applied) : Type 0 where
@@ -169,7 +169,7 @@ module _ (st : State) (g : WordsGood st) (few : st .session .settings .vcpus ≤
         model = refl;
         guest = refl;
         code = refl;
-        words = tool-kept st g _ (st .pages) (g .pageWords) (g .closed) (g .mode) (g .pages);
+        words = tool-kept st g _ refl (g .closed) (g .mode);
       })
 
   pub replies-meant : (mode : ReplyMode) (now : Bool) → Meant (change st guest d (SetReplies now mode)) (apply (modelOf st) guest d (SetReplies now mode))
@@ -179,7 +179,7 @@ module _ (st : State) (g : WordsGood st) (few : st .session .settings .vcpus ≤
         model = ap (λ (x : ReplyMode). withMode (modelOf st) x) (mode-back mode);
         guest = refl;
         code = refl;
-        words = tool-kept st g _ (st .pages) (g .pageWords) (g .closed) (mode-small mode) (g .pages);
+        words = tool-kept st g _ refl (g .closed) (mode-small mode);
       }
 
   pub pages-meant : (view n : ℕ) → view < 8 → So (every (λ (e : Entry). isAccess (e .access)) (entriesOf n (drop 8 d)))
@@ -195,7 +195,7 @@ module _ (st : State) (g : WordsGood st) (few : st .session .settings .vcpus ≤
         model = ap (λ (r : Run). withTables (modelOf st) (withPages (tablesOf st) (r .pages))) (m .run);
         guest = refl;
         code = λ j. cond (m .run j .skipped) ENOMEM OK;
-        words = tool-kept st g _ (t .words) (m .long ∙ l) (g .closed) (g .mode) (m .good);
+        words = pages-kept st g (t .count) (t .words) (m .long ∙ l) (m .good);
       }
 
   -- the awaited event of a vCPU, and its seq

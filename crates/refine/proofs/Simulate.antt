@@ -208,7 +208,7 @@ written-simulates st st′ bytes sig out guest h e g = record { answer = refl; o
 
 -- the next event's seq is no part of the words
 seq-kept : (st : State) (x : ℕ) → WordsGood st → WordsGood (withSeqOf st x)
-seq-kept st x g = tool-kept st g _ (st .pages) (g .pageWords) (g .closed) (g .mode) (g .pages)
+seq-kept st x g = tool-kept st g _ refl (g .closed) (g .mode)
 
 answering-simulates : (st st′ : State) (mode : ReplyMode) (id seq : ℕ) (code : ℤ) (d : List ℕ) (sig : Signal) (out guest : List ℕ)
     → length (answerOf (layoutOf id .reply) mode (st′ .session .tool .seq) id seq code (replyData (st′ .session .settings) guest id d)) ≤ length out

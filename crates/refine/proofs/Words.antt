@@ -20,7 +20,7 @@ use Rattle.store.specs.Words.{field, setField, msrWord, msrSlot, setMsrBit, SIN
 use Rattle.store.specs.Meaning.{vcpuOfWords, vcpusOf}
 use Rattle.page_words.specs.Meaning.{PagesGood}
 use Rattle.session.specs.declared.Tool.{Tool}
-use Rattle.session.specs.State.{State, state, withTool, withReadyBits, withVcpuWords, withField}
+use Rattle.session.specs.State.{State, state, withTool, withToolPages, withReadyBits, withVcpuWords, withField}
 use Rattle.message.specs.Message.{factsIn}
 use Rattle.session.specs.Meaning.{awaitedIn, awaitedOf, tablesOf, modelOf, WordsGood, WellFormed}
 use Rattle.laws.proofs.Bool.{and-l, and-r, test}
@@ -40,15 +40,32 @@ module _ (st : State) (g : WordsGood st) where
   abbrev w : List ℕ
   w = st .vcpus
 
-  -- ---- what the tool owns and its pages may be others that are good
-  pub tool-kept : (t : Tool) (pages : List ℕ) → length pages ≡ 1024 → t .closed ≤ 1 → t .mode ≤ 2 → PagesGood pages (t .pages)
-      → WordsGood (state (withTool (st .session) t) w pages)
-  tool-kept t pages long closed mode good =
+  -- ---- what must be shown again where one part is another
+  -- the tool's numbers, but for the count of its pages
+  pub tool-kept : (t : Tool) → t .pages ≡ st .session .tool .pages → t .closed ≤ 1 → t .mode ≤ 2 → WordsGood (state (withTool (st .session) t) w (st .pages))
+  tool-kept t same closed mode =
+      record {
+        vcpuWords = g .vcpuWords;
+        pageWords = g .pageWords;
+        closed = closed;
+        mode = mode;
+        ready = g .ready;
+        pages = rw same (g .pages);
+        flag = g .flag;
+        waits = g .waits;
+        spare = g .spare;
+        past = g .past;
+      }
+
+  -- the page words and their count
+  pub pages-kept : (count : ℕ) (pages : List ℕ) → length pages ≡ 1024 → PagesGood pages count
+      → WordsGood (state (withTool (st .session) (withToolPages (st .session .tool) count)) w pages)
+  pages-kept count pages long good =
       record {
         vcpuWords = g .vcpuWords;
         pageWords = long;
-        closed = closed;
-        mode = mode;
+        closed = g .closed;
+        mode = g .mode;
         ready = g .ready;
         pages = good;
         flag = g .flag;
@@ -57,7 +74,7 @@ module _ (st : State) (g : WordsGood st) where
         past = g .past;
       }
 
-  -- ---- the ready marks may be others that name no vCPU past the count
+  -- the ready marks
   pub shared-kept : (ready : ℕ) → ready < 2 ^ n → WordsGood (state (withReadyBits (st .session) ready) w (st .pages))
   shared-kept ready below =
       record {
@@ -73,7 +90,7 @@ module _ (st : State) (g : WordsGood st) where
         past = g .past;
       }
 
-  -- ---- the vCPU words may be others that are good
+  -- the vCPU words
   pub vcpus-kept : (u : List ℕ) → length u ≡ 4352 → ((i : ℕ) → field u i SINGLESTEP ≤ 1) → ((i : ℕ) → field u i AWAITED ≡ 0 → field u i AWAITED-SEQ ≡ 0)
       → ((i k : ℕ) → 6 ≤ k → k < 16 → field u i k ≡ 0) → ((j : ℕ) → n * 272 ≤ j → getD u j 0 ≡ 0) → WordsGood (withVcpuWords st u)
   vcpus-kept u long flag waits spare past =
