@@ -6,6 +6,10 @@ use lib.ListN.{length, getD, set, take, drop}
 use lib.Dec.{leb, ltb, eqb}
 use Rattle.kvmi.specs.Message.{Entry}
 
+-- how many words are lent for the pages
+abbrev pub pageWordCount : ℕ
+pageWordCount = 1024
+
 -- a word's view and page together
 unfoldable pub wordKey : ℕ → ℕ
 wordKey w = w / 8

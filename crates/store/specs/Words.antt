@@ -13,6 +13,10 @@ use Rattle.store.specs.declared.words.Pending.{Pending}
 abbrev pub blockWords : ℕ
 blockWords = 272
 
+-- how many words are lent for the vCPUs: a block for each of 16
+abbrev pub vcpuWordCount : ℕ
+vcpuWordCount = 4352
+
 -- the plain fields; the others are spare and 0
 abbrev pub SINGLESTEP : ℕ
 SINGLESTEP = 0
