@@ -24,7 +24,7 @@ mode-number ErrorsOnly = refl
 abbrev pub paged : Session → List ℕ → List ℕ → PagesChanged → Applied
 paged s v guest x = effect s (x .effect) v (x .pages) guest
 
--- ---- a change keeps the settings, and the mark of a closed session
+-- ---- a change keeps the settings
 pub change-keeps : (st : State) (guest d : List ℕ) (c : Change) → change st guest d c .state .session .settings ≡ st .session .settings
 unfolding change
 change-keeps st guest d Nothing = refl

@@ -1,21 +1,23 @@
--- An entry keeps the settings. Assumes nothing.
+-- What can move of a session by an entry: the next event's seq. Assumes nothing.
 use mathlib.Core.Path.{refl}
 use Prim.Native.Nat.{ℕ}
 use mathlib.Core.List.{List}
 use mathlib.Core.Bool.{not}
 use lib.ListN.{length}
 use lib.Dec.{leb, ltb, eqb}
+use Rattle.kvmi.specs.Limits.{eventOut, stateBytes}
 use Rattle.store.specs.Words.{field, PAUSES, AWAITED}
-use Rattle.session.specs.State.{State}
-use Rattle.session.proofs.Kept.{Keeps, keeps, either, isClosed}
+use Rattle.session.specs.State.{State, withTool, withToolSeq}
+use Rattle.session.proofs.Kept.{Moves, moves, either, isClosed}
 use Rattle.entry.specs.Entry.{pausingOf, enterOf}
 
-pub enter-keeps : (st : State) (vcpu : ℕ) (block out : List ℕ) → Keeps st (enterOf st vcpu block out)
+pub enter-moves : (st : State) (vcpu : ℕ) (block out : List ℕ)
+    → Moves (λ s. withTool (st .session) (withToolSeq (st .session .tool) (s .tool .seq))) (enterOf st vcpu block out)
 unfolding enterOf pausingOf
-enter-keeps st vcpu block out =
-    either (isClosed st) (keeps refl)
-    (either (leb (st .session .settings .vcpus) vcpu) (keeps refl)
-    (either (not (eqb (length block) 536)) (keeps refl)
-    (either (ltb (length out) 552) (keeps refl)
-    (either (not (eqb (field (st .vcpus) vcpu AWAITED) 0)) (keeps refl)
-    (either (leb 1 (field (st .vcpus) vcpu PAUSES)) (keeps refl) (keeps refl))))))
+enter-moves st vcpu block out =
+    either (isClosed st) (moves refl)
+    (either (leb (st .session .settings .vcpus) vcpu) (moves refl)
+    (either (not (eqb (length block) stateBytes)) (moves refl)
+    (either (ltb (length out) eventOut) (moves refl)
+    (either (not (eqb (field (st .vcpus) vcpu AWAITED) 0)) (moves refl)
+    (either (leb 1 (field (st .vcpus) vcpu PAUSES)) (moves refl) (moves refl))))))

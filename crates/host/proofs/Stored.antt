@@ -14,7 +14,6 @@ use types.Kit.{Given, Item, ‵, raw, _⊛_, mean, _$_, _∵_, !, qed, move, use
 use types.Part.{Part}
 use denote.Laws.{Is}
 use denote.Struct.Laws as LL
-use Rattle.kvmi.specs.declared.Settings.{Settings}
 use Rattle.session.specs.declared.Session.{Session}
 use Rattle.host.specs.declared.Done.{Done}
 use Rattle.session.proofs.Tool as T
@@ -26,7 +25,7 @@ use Rattle.session.proofs.Session.Laws as S′
 use Rattle.host.proofs.Done as D
 use Rattle.host.proofs.Done.Laws as D′
 
--- the relations of the code, of the Session and of its fields, out of that of the callee's result
+-- the relations of the code, of the Session and of what is stored of it, out of that of the callee's result
 module _ (d : Done) (vs : List Val) (is : Is D.the-row d vs) where
   pub code-fits : d .code < 2 ^ 32
   code-fits = LL.owed D.the-type D′.the-laws d vs is .0 .1
@@ -34,19 +33,33 @@ module _ (d : Done) (vs : List Val) (is : Is D.the-row d vs) where
   pub session-is : Is S.the-row (d .session) (LL.vals S.the-type S′.the-laws (d .session))
   session-is = LL.owed D.the-type D′.the-laws d vs is .1 .0
 
-  pub tool-is : Is T.the-row (d .session .tool) (LL.vals T.the-type T′.the-laws (d .session .tool))
-  tool-is = LL.owed S.the-type S′.the-laws (d .session) _ session-is .1 .0
-
   pub shared-is : Is H′.the-row (d .session .shared) (LL.vals H′.the-type H″.the-laws (d .session .shared))
   shared-is = LL.owed S.the-type S′.the-laws (d .session) _ session-is .1 .1 .0
+
+  tool-is : Is T.the-row (d .session .tool) (LL.vals T.the-type T′.the-laws (d .session .tool))
+  tool-is = LL.owed S.the-type S′.the-laws (d .session) _ session-is .1 .0
+
+  pub events-fit : d .session .tool .events < 2 ^ 64
+  events-fit = LL.owed T.the-type T′.the-laws (d .session .tool) _ tool-is .0 .1
+
+  pub pages-fit : d .session .tool .pages < 2 ^ 64
+  pages-fit = LL.owed T.the-type T′.the-laws (d .session .tool) _ tool-is .1 .0 .1
+
+  pub closed-fits : d .session .tool .closed < 2 ^ 32
+  closed-fits = LL.owed T.the-type T′.the-laws (d .session .tool) _ tool-is .1 .1 .0 .1
+
+  pub mode-fits : d .session .tool .mode < 2 ^ 32
+  mode-fits = LL.owed T.the-type T′.the-laws (d .session .tool) _ tool-is .1 .1 .1 .0 .1
+
+  pub seq-fits : d .session .tool .seq < 2 ^ 32
+  seq-fits = LL.owed T.the-type T′.the-laws (d .session .tool) _ tool-is .1 .1 .1 .1 .0 .1
 
 abbrev mach : Session → Val
 mach s = LL.val S.the-type S′.the-laws s
 
--- where the settings stay, the fields that are stored make the Session after the call
-pub stored : (h : Session) (d : Done) → d .session .settings ≡ h .settings
-    → mach (record { settings = h .settings; tool = d .session .tool; shared = d .session .shared }) ≡ mach (d .session)
-stored h d e = ap (λ (x : Settings). mach (record { settings = x; tool = d .session .tool; shared = d .session .shared })) (sym e)
+-- where the Session that the stores leave is the one after the call, the cell holds that
+pub stored : (d : Done) (s : Session) → d .session ≡ s → mach s ≡ mach (d .session)
+stored d s e = ap mach (sym e)
 
 -- behind a reference a struct's fields stand at types without names, and code stores them at types with names: a cell at the one is a cell at the other
 module _ {M : Type 1} {𝓤 : URA M} {H : Heap 𝓤} {A : Atoms 𝓤} {K : Type 0} {W : Given 𝓤 H A} where

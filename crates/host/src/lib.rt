@@ -1,7 +1,7 @@
 // The filter as hosts in C and Rust call it (include/semblurick.h). The host owns a session, a small struct, and its two tables; each call is lent
 // them, moves them and gives the answer's number. What is done is a covered function on the session by value (`fresh`, `ready`, ..); the exported
-// function copies the session out of the reference, calls that function, and stores back what the call can change: a message, an entry
-// and a ready mark leave the settings.
+// function copies the session out of the reference, calls that function, and stores back what the call can change, number by number: a message leaves
+// the settings, a ready mark all but what the tools share, and an entry all but the next event's seq.
 use kvmi::Answer;
 use kvmi::Signal;
 use page_words::PageWords;

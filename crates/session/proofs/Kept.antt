@@ -1,25 +1,32 @@
--- A ready mark keeps the settings. Assumes nothing.
-use mathlib.Core.Path.{_≡_, refl}
+-- What can move of a session by a ready mark: what the tools share. Assumes nothing.
+use mathlib.Core.Path.{_≡_, refl, ap}
 use Prim.Native.Nat.{ℕ}
 use mathlib.Core.Bool.{Bool, true, false, cond, not}
 use lib.Dec.{leb, eqb}
-use Rattle.session.specs.State.{State}
+use Rattle.kvmi.specs.declared.Settings.{Settings}
+use Rattle.session.specs.declared.Session.{Session}
+use Rattle.session.specs.State.{State, withSettings, withShared}
 use Rattle.session.specs.Calls.{Told, readyOf}
 
-pub record Keeps (st : State) (t : Told) : Type 0 where
-  pub settings : t .state .session .settings ≡ st .session .settings
+-- of the session nothing moves but what `set` takes of the one after the call
+pub record Moves (set : Session → Session) (t : Told) : Type 0 where
+  pub session : t .state .session ≡ set (t .state .session)
 
-pub keeps : {st : State} {t : Told} → t .state .session .settings ≡ st .session .settings → Keeps st t
-keeps e = record { settings = e }
+pub moves : {set : Session → Session} {t : Told} → t .state .session ≡ set (t .state .session) → Moves set t
+moves e = record { session = e }
 
-pub either : {st : State} (b : Bool) {x y : Told} → Keeps st x → Keeps st y → Keeps st (cond b x y)
+pub either : {set : Session → Session} (b : Bool) {x y : Told} → Moves set x → Moves set y → Moves set (cond b x y)
 either true h g = h
 either false h g = g
+
+-- all but the settings
+pub kept : {s : Session} {x : Settings} → s .settings ≡ x → s ≡ withSettings s x
+kept {s} e = ap (λ (y : Settings). withSettings s y) e
 
 -- whether a session was closed
 abbrev pub isClosed : State → Bool
 isClosed st = not (eqb (st .session .tool .closed) 0)
 
-pub ready-keeps : (st : State) (vcpu : ℕ) → Keeps st (readyOf st vcpu)
+pub ready-moves : (st : State) (vcpu : ℕ) → Moves (λ s. withShared (st .session) (s .shared)) (readyOf st vcpu)
 unfolding readyOf
-ready-keeps st vcpu = either (isClosed st) (keeps refl) (either (leb (st .session .settings .vcpus) vcpu) (keeps refl) (keeps refl))
+ready-moves st vcpu = either (isClosed st) (moves refl) (either (leb (st .session .settings .vcpus) vcpu) (moves refl) (moves refl))

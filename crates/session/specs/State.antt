@@ -37,8 +37,14 @@ abbrev pub clearedState : Session → List ℕ → List ℕ → State
 clearedState s vcpus pages = state s (cleared vcpus) (cleared pages)
 
 -- ---- setters
+abbrev pub withSettings : Session → Settings → Session
+withSettings s x = record { settings = x; tool = s .tool; shared = s .shared }
+
 abbrev pub withTool : Session → Tool → Session
 withTool s t = record { settings = s .settings; tool = t; shared = s .shared }
+
+abbrev pub withShared : Session → Shared → Session
+withShared s x = record { settings = s .settings; tool = s .tool; shared = x }
 
 abbrev pub withReadyBits : Session → ℕ → Session
 withReadyBits s x = record { settings = s .settings; tool = s .tool; shared = record { ready = x } }
