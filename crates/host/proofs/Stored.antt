@@ -15,15 +15,15 @@ use types.Part.{Part}
 use denote.Laws.{Is}
 use denote.Struct.Laws as LL
 use Rattle.session.specs.declared.Session.{Session}
-use Rattle.host.specs.declared.Done.{Done}
+use Rattle.calls.specs.declared.Done.{Done}
 use Rattle.session.proofs.Tool as T
 use Rattle.session.proofs.Shared as H′
 use Rattle.session.proofs.Shared.Laws as H″
 use Rattle.session.proofs.Tool.Laws as T′
 use Rattle.session.proofs.Session as S
 use Rattle.session.proofs.Session.Laws as S′
-use Rattle.host.proofs.Done as D
-use Rattle.host.proofs.Done.Laws as D′
+use Rattle.calls.proofs.Done as D
+use Rattle.calls.proofs.Done.Laws as D′
 
 -- the relations of the code, of the Session and of what is stored of it, out of that of the callee's result
 module _ (d : Done) (vs : List Val) (is : Is D.the-row d vs) where

@@ -23,7 +23,7 @@ use denote.RattleType.{owns}
 use denote.Laws.{Is, shows}
 use denote.Memory.{mem, partAt}
 use denote.Plain.{uint-lawful}
-use denote.Builtin.{u64, usize, Array, ArrayOf}
+use denote.Builtin.{usize}
 use denote.Ref.{RefT, ShrRef, ptr-vals, shr-tells, shr-copy}
 use denote.Signature.{plain}
 use denote.Steps.{looks, shuts, owned, peeks, heard, nothing}
@@ -38,20 +38,21 @@ use denote.Triple.Table.{entered, cited}
 use denote.Triple.Walked.{says, Stays, stay-none-ref, walkOf, AllGo, goes-none-ref, Walks, ends-at, walked, walk-meets}
 use denote.Exit.{yes}
 use Rattle.session.specs.declared.Session.{Session}
-use Rattle.host.specs.Host.{sizeGiven}
+use Rattle.calls.specs.Given.{sizeGiven}
 use Rattle.session.proofs.Session as S
 use Rattle.session.proofs.Session.Laws as S′
-use Rattle.host.proofs.image_size as callee
-use Rattle.host.proofs.image_size.Symbol as callee-def
-use Rattle.host.proofs.image_size.Symbol.{name as #callee}
-use Rattle.host.proofs.image_size.Met as callee-thm
+use Rattle.host.proofs.Lent.{VcpuWords, VcpuSlot, PageWords, PageSlot}
+use Rattle.calls.proofs.image_size as callee
+use Rattle.calls.proofs.image_size.Symbol as callee-def
+use Rattle.calls.proofs.image_size.Symbol.{name as #callee}
+use Rattle.calls.proofs.image_size.Met as callee-thm
 use Rattle.host.proofs.semblurick_image_size.Key.{name as #self}
 use Rattle.host.proofs.semblurick_image_size as f
 use Rattle.host.proofs.semblurick_image_size.Statement as stated
 use Rattle.host.proofs.semblurick_image_size.Code as code
 
 abbrev stayed : Stays (f.ended .signature .params) (f.ended .kept)
-stayed = (stay-none-ref (0 ∷ []) tt (plain (λ _. S.the-row)) yes, (stay-none-ref (1 ∷ []) tt (ArrayOf (plain (λ _. u64)) (λ _. tt) 4352) yes, (stay-none-ref (2 ∷ []) tt (ArrayOf (plain (λ _. u64)) (λ _. tt) 1024) yes, tt)))
+stayed = (stay-none-ref (0 ∷ []) tt (plain (λ _. S.the-row)) yes, (stay-none-ref (1 ∷ []) tt VcpuSlot yes, (stay-none-ref (2 ∷ []) tt PageSlot yes, tt)))
 
 -- the contract that the proof cites
 abbrev Callee : {M : Type 1} (𝓤 : URA M) (H : Heap 𝓤) (A : Atoms 𝓤) (at-mem : Memory → SProp 𝓤) (run : Routine → Fun 𝓤) → Contract 𝓤
@@ -83,9 +84,9 @@ module _ {M : Type 1} (𝓤 : URA M) (H : Heap 𝓤) (A : Atoms 𝓤) (W : Given
   Post = walkOf 𝓤 H A f.ended stayed (f.clauses 𝓤 H A at-mem run) .post (((κ, (κ₁, (κ₂, tt))), (q, (q₁, (q₂, tt))), tt, x, at), tt)
 
   exits : (r : ℕ) (v : Val) → r ≡ did
-      → ent 𝓤 (⋆ 𝓤 H A (‵ (fres γ (S.the-row .coded .code h)) ∷ ‵ (fshr-bor κ (λ s. partAt S.the-row s h b o)) ∷ ‵ (flft κ q) ∷ Tokens ∷ ‵ (usize .own r (v ∷ [])) ∷ ‵ (ShrRef (named 1) κ₁ (Array u64 tt 4352) .own a-vcpus (vptr (a-vcpus .ptr .0) (a-vcpus .ptr .1) ∷ [])) ∷ ‵ (ShrRef (named 2) κ₂ (Array u64 tt 1024) .own a-pages (vptr (a-pages .ptr .0) (a-pages .ptr .1) ∷ [])) ∷ [])) (Post v)
+      → ent 𝓤 (⋆ 𝓤 H A (‵ (fres γ (S.the-row .coded .code h)) ∷ ‵ (fshr-bor κ (λ s. partAt S.the-row s h b o)) ∷ ‵ (flft κ q) ∷ Tokens ∷ ‵ (usize .own r (v ∷ [])) ∷ ‵ (ShrRef (named 1) κ₁ VcpuWords .own a-vcpus (vptr (a-vcpus .ptr .0) (a-vcpus .ptr .1) ∷ [])) ∷ ‵ (ShrRef (named 2) κ₂ PageWords .own a-pages (vptr (a-pages .ptr .0) (a-pages .ptr .1) ∷ [])) ∷ [])) (Post v)
   exits r v e =
-      qed W (‵ (fres γ (S.the-row .coded .code h)) ∷ ‵ (fshr-bor κ (λ s. partAt S.the-row s h b o)) ∷ ‵ (flft κ q) ∷ Tokens ∷ ‵ (usize .own r (v ∷ [])) ∷ ‵ (ShrRef (named 1) κ₁ (Array u64 tt 4352) .own a-vcpus (vptr (a-vcpus .ptr .0) (a-vcpus .ptr .1) ∷ [])) ∷ ‵ (ShrRef (named 2) κ₂ (Array u64 tt 1024) .own a-pages (vptr (a-pages .ptr .0) (a-pages .ptr .1) ∷ [])) ∷ []) ∵
+      qed W (‵ (fres γ (S.the-row .coded .code h)) ∷ ‵ (fshr-bor κ (λ s. partAt S.the-row s h b o)) ∷ ‵ (flft κ q) ∷ Tokens ∷ ‵ (usize .own r (v ∷ [])) ∷ ‵ (ShrRef (named 1) κ₁ VcpuWords .own a-vcpus (vptr (a-vcpus .ptr .0) (a-vcpus .ptr .1) ∷ [])) ∷ ‵ (ShrRef (named 2) κ₂ PageWords .own a-pages (vptr (a-pages .ptr .0) (a-pages .ptr .1) ∷ [])) ∷ []) ∵
       suffices ! _ (ends-at 𝓤 H A f.ended stayed (f.clauses 𝓤 H A at-mem run) W (((κ, (κ₁, (κ₂, tt))), (q, (q₁, (q₂, tt))), tt, x, at), tt) v r (tt, (tt, (tt, tt))) (tt, (tt, (tt, tt)))) $
       says ! e $ move ! (2 ∷ 3 ∷ []) $ join ! $ frame ! $ feqI ! (List Val) (vptr b o ∷ []) (vptr b o ∷ []) refl $ fjoin3 ! $ nothing ! $ move ! (4 ∷ 0 ∷ []) $ fjoin ! $ move ! (3 ∷ 0 ∷ []) $ fjoin ! $ move ! (1 ∷ 0 ∷ []) $ fjoin ! $ done !
 
@@ -93,7 +94,7 @@ module _ {M : Type 1} (𝓤 : URA M) (H : Heap 𝓤) (A : Atoms 𝓤) (W : Given
   to = (((κ₁, (κ₂, tt)), (q₁, (q₂, tt)), tt, (h, (a-vcpus, (a-pages, tt))), (mach h ∷ [], (vptr (a-vcpus .ptr .0) (a-vcpus .ptr .1) ∷ [], (vptr (a-pages .ptr .0) (a-pages .ptr .1) ∷ [], tt)))), tt)
 
   abbrev Passed : ItemOf 𝓤
-  Passed = ((Tokens ⊛ ‵ (ShrRef (named 1) κ₁ (Array u64 tt 4352) .own a-vcpus (vptr (a-vcpus .ptr .0) (a-vcpus .ptr .1) ∷ []))) ⊛ ‵ (ShrRef (named 2) κ₂ (Array u64 tt 1024) .own a-pages (vptr (a-pages .ptr .0) (a-pages .ptr .1) ∷ [])))
+  Passed = ((Tokens ⊛ ‵ (ShrRef (named 1) κ₁ VcpuWords .own a-vcpus (vptr (a-vcpus .ptr .0) (a-vcpus .ptr .1) ∷ []))) ⊛ ‵ (ShrRef (named 2) κ₂ PageWords .own a-pages (vptr (a-pages .ptr .0) (a-pages .ptr .1) ∷ [])))
 
   goes-to : Is S.the-row h (mach h ∷ []) → ent 𝓤 (⋆ 𝓤 H A (Passed ∷ [])) (Callee 𝓤 H A at-mem run .pre to)
   goes-to is = qed W (Passed ∷ []) ∵ split ! $ split ! $ nothing ! $ move ! (3 ∷ 0 ∷ []) $ fjoin ! $ move ! (2 ∷ 0 ∷ []) $ fjoin ! $ owned ! S.the-row (Is S.the-row) (LL.makes S.the-type S′.the-plain 𝓤 H A) h _ is $ fjoin ! $ move ! (1 ∷ 0 ∷ []) $ join ! $ frame ! $ done !
@@ -105,7 +106,7 @@ module _ {M : Type 1} (𝓤 : URA M) (H : Heap 𝓤) (A : Atoms 𝓤) (W : Given
 
     walk : ent 𝓤 (onEntry 𝓤 H A f.signature (κ, (κ₁, (κ₂, tt))) (q, (q₁, (q₂, tt))) x at) (WpFn 𝓤 H C Λ code.function (vptr b o ∷ vptr (a-vcpus .ptr .0) (a-vcpus .ptr .1) ∷ vptr (a-pages .ptr .0) (a-pages .ptr .1) ∷ []) Post)
     walk =
-        qed W ((‵ (flft κ q) ⊛ Tokens) ∷ ‵ (owns (ShrRef (named 0) κ S.the-row ∷ ShrRef (named 1) κ₁ (Array u64 tt 4352) ∷ ShrRef (named 2) κ₂ (Array u64 tt 1024) ∷ []) x at) ∷ []) ∵ split ! $ move ! (2 ∷ []) $ fsplit ! $ fsplit3 ! $ drop ! $ move ! (2 ∷ []) $ fsplit ! $ use1 W (‵ (ShrRef (named 1) κ₁ (Array u64 tt 4352) .own a-vcpus (vptr (a-vcpus .ptr .0) (a-vcpus .ptr .1) ∷ [])) ⊛ ‵ (ShrRef (named 1) κ₁ (Array u64 tt 4352) .own a-vcpus (vptr (a-vcpus .ptr .0) (a-vcpus .ptr .1) ∷ []))) (shr-copy 𝓤 H A W (named 1) κ₁ (Array u64 tt 4352) .twice a-vcpus _) $ split ! $ move ! (2 ∷ []) $ fsplit ! $ use1 W (‵ (ShrRef (named 2) κ₂ (Array u64 tt 1024) .own a-pages (vptr (a-pages .ptr .0) (a-pages .ptr .1) ∷ [])) ⊛ ‵ (ShrRef (named 2) κ₂ (Array u64 tt 1024) .own a-pages (vptr (a-pages .ptr .0) (a-pages .ptr .1) ∷ []))) (shr-copy 𝓤 H A W (named 2) κ₂ (Array u64 tt 1024) .twice a-pages _) $ split ! $ keep ! (5 ∷ 6 ∷ 7 ∷ 8 ∷ 3 ∷ 0 ∷ 4 ∷ 1 ∷ []) $
+        qed W ((‵ (flft κ q) ⊛ Tokens) ∷ ‵ (owns (ShrRef (named 0) κ S.the-row ∷ ShrRef (named 1) κ₁ VcpuWords ∷ ShrRef (named 2) κ₂ PageWords ∷ []) x at) ∷ []) ∵ split ! $ move ! (2 ∷ []) $ fsplit ! $ fsplit3 ! $ drop ! $ move ! (2 ∷ []) $ fsplit ! $ use1 W (‵ (ShrRef (named 1) κ₁ VcpuWords .own a-vcpus (vptr (a-vcpus .ptr .0) (a-vcpus .ptr .1) ∷ [])) ⊛ ‵ (ShrRef (named 1) κ₁ VcpuWords .own a-vcpus (vptr (a-vcpus .ptr .0) (a-vcpus .ptr .1) ∷ []))) (shr-copy 𝓤 H A W (named 1) κ₁ VcpuWords .twice a-vcpus _) $ split ! $ move ! (2 ∷ []) $ fsplit ! $ use1 W (‵ (ShrRef (named 2) κ₂ PageWords .own a-pages (vptr (a-pages .ptr .0) (a-pages .ptr .1) ∷ [])) ⊛ ‵ (ShrRef (named 2) κ₂ PageWords .own a-pages (vptr (a-pages .ptr .0) (a-pages .ptr .1) ∷ []))) (shr-copy 𝓤 H A W (named 2) κ₂ PageWords .twice a-pages _) $ split ! $ keep ! (5 ∷ 6 ∷ 7 ∷ 8 ∷ 3 ∷ 0 ∷ 4 ∷ 1 ∷ []) $
         enter ! C Λ code.function (vptr b o ∷ vptr (a-vcpus .ptr .0) (a-vcpus .ptr .1) ∷ vptr (a-pages .ptr .0) (a-pages .ptr .1) ∷ []) _ $
         alloc1 ! (λ l₀. alloc1 ! (λ l₁. alloc1 ! (λ l₂. alloc1 ! (λ l₃. alloc1 ! (λ l₄. alloc0 ! $ params1 ! $
         pass1 ! (init ! 6 refl (tt, tt)) $ pass1 ! (init ! 4 refl (tt, tt)) $ pass1 ! (init ! 2 refl (tt, tt)) $ pass0 ! $
@@ -134,11 +135,11 @@ module _ {M : Type 1} (𝓤 : URA M) (H : Heap 𝓤) (A : Atoms 𝓤) (W : Given
 module _ {M : Type 1} (𝓤 : URA M) (H : Heap 𝓤) (A : Atoms 𝓤) (W : Given 𝓤 H A) (at-mem : Memory → SProp 𝓤) (run : Routine → Fun 𝓤) where
   semblurick-image-size-walks : (C : Calls 𝓤 H) (Λ : Loops 𝓤 H) → FmC 𝓤 H (W .laws) C → Triple 𝓤 (C #callee) (Callee 𝓤 H A at-mem run) → Walks 𝓤 H A f.ended stayed (WpFn 𝓤 H C Λ code.function) (f.clauses 𝓤 H A at-mem run)
   semblurick-image-size-walks C Λ fm known = walked 𝓤 H A f.ended stayed (f.clauses 𝓤 H A at-mem run) (WpFn 𝓤 H C Λ code.function)
-      (λ κs. (ptr-vals, (ptr-vals, (ptr-vals, tt)))) (λ κs. (shr-tells (named 0) (κs .0) S.the-row, (shr-tells (named 1) (κs .1 .0) (Array u64 tt 4352), (shr-tells (named 2) (κs .1 .1 .0) (Array u64 tt 1024), tt))))
+      (λ κs. (ptr-vals, (ptr-vals, (ptr-vals, tt)))) (λ κs. (shr-tells (named 0) (κs .0) S.the-row, (shr-tells (named 1) (κs .1 .0) VcpuWords, (shr-tells (named 2) (κs .1 .1 .0) PageWords, tt))))
       (λ κs qs bounds a _ are. via 𝓤 _ (fst∗ 𝓤 _ (emp 𝓤)) (walk 𝓤 H A W at-mem run (κs .0) (κs .1 .0) (κs .1 .1 .0) (qs .0) (qs .1 .0) (qs .1 .1 .0) (a .0 .ptr .0) (a .0 .ptr .1) (a .0 .name) (a .0 .now) (a .1 .0) (a .1 .1 .0) C Λ fm known))
 
   goes : AllGo 𝓤 H A W 3 (f.signature .params) (f.ended .kept) stayed
-  goes = (goes-none-ref 𝓤 H A W 3 (0 ∷ []) tt (plain (λ _. S.the-row)) yes, (goes-none-ref 𝓤 H A W 3 (1 ∷ []) tt (ArrayOf (plain (λ _. u64)) (λ _. tt) 4352) yes, (goes-none-ref 𝓤 H A W 3 (2 ∷ []) tt (ArrayOf (plain (λ _. u64)) (λ _. tt) 1024) yes, tt)))
+  goes = (goes-none-ref 𝓤 H A W 3 (0 ∷ []) tt (plain (λ _. S.the-row)) yes, (goes-none-ref 𝓤 H A W 3 (1 ∷ []) tt VcpuSlot yes, (goes-none-ref 𝓤 H A W 3 (2 ∷ []) tt PageSlot yes, tt)))
 
 semblurick-image-size-meets : {M : Type 1} (𝓤 : URA M) (H : Heap 𝓤) (A : Atoms 𝓤) → Given 𝓤 H A → (at-mem : Memory → SProp 𝓤) (run : Routine → Fun 𝓤) (𝓣 : Tables 𝓤 H) → Triple 𝓤 (𝓣 .C #callee) (Callee 𝓤 H A at-mem run)
     → Meets 𝓤 H A f.signature (WpFn 𝓤 H (𝓣 .C) (𝓣 .Λ) code.function) (f.spec 𝓤 H A at-mem run)
@@ -152,4 +153,4 @@ semblurick-image-size-spec 𝓤 H 𝓜 𝓖 𝓡 =
     entered 𝓤 H (tripleOf 𝓤 H (𝓖 .A) f.signature (f.spec 𝓤 H (𝓖 .A) (𝓜 .mem) (𝓡 .run)))
     (tables 𝓤 H 𝓜 𝓡 code.env .C) (tables 𝓤 H 𝓜 𝓡 code.env .Λ) #self code.function (code.unfolded 𝓤 H 𝓜 𝓡)
     (semblurick-image-size-meets 𝓤 H (𝓖 .A) (givenOf 𝓤 H 𝓜 𝓖) (𝓜 .mem) (𝓡 .run) (tablesOf 𝓤 H 𝓜 (tables 𝓤 H 𝓜 𝓡 code.env))
-    (cited 𝓤 H (Callee 𝓤 H (𝓖 .A) (𝓜 .mem) (𝓡 .run)) 𝓜 𝓡 code.env #callee callee-def.routine code.calls-host·image-size (callee-thm.met 𝓤 H 𝓜 𝓖 𝓡)))
+    (cited 𝓤 H (Callee 𝓤 H (𝓖 .A) (𝓜 .mem) (𝓡 .run)) 𝓜 𝓡 code.env #callee callee-def.routine code.calls-calls·image-size (callee-thm.met 𝓤 H 𝓜 𝓖 𝓡)))

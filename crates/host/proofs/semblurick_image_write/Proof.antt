@@ -25,7 +25,7 @@ use denote.RattleType.{owns}
 use denote.Laws.{Is, shows}
 use denote.Memory.{mem, partAt}
 use denote.Plain.{uint-lawful}
-use denote.Builtin.{u8, u32, u64, Array, ArrayOf}
+use denote.Builtin.{u8, u32}
 use denote.Ref.{RefT, MutRef, ShrRef, ptr-vals, mut-tells, shr-tells, shr-copy}
 use denote.Slice.{sliceVal, MutSlice, Room, finally, slice-vals, mut-slice-tells}
 use denote.Signature.{plain}
@@ -41,20 +41,21 @@ use denote.Triple.Table.{entered, cited}
 use denote.Triple.Walked.{says, Stays, stay-none-ref, gave-slice, gave-ref, walkOf, AllGo, goes-none-ref, goes-gave-slice, goes-gave-ref, Walks, ends-at, walked, walk-meets}
 use denote.Exit.{yes}
 use Rattle.session.specs.declared.Session.{Session}
-use Rattle.host.specs.Host.{Given as Gives, writeGiven}
+use Rattle.calls.specs.Given.{Given as Gives, writeGiven}
 use Rattle.session.proofs.Session as S
 use Rattle.session.proofs.Session.Laws as S′
-use Rattle.host.proofs.image_write as callee
-use Rattle.host.proofs.image_write.Symbol as callee-def
-use Rattle.host.proofs.image_write.Symbol.{name as #callee}
-use Rattle.host.proofs.image_write.Met as callee-thm
+use Rattle.host.proofs.Lent.{VcpuWords, VcpuSlot, PageWords, PageSlot, ResultWords, ResultSlot}
+use Rattle.calls.proofs.image_write as callee
+use Rattle.calls.proofs.image_write.Symbol as callee-def
+use Rattle.calls.proofs.image_write.Symbol.{name as #callee}
+use Rattle.calls.proofs.image_write.Met as callee-thm
 use Rattle.host.proofs.semblurick_image_write.Key.{name as #self}
 use Rattle.host.proofs.semblurick_image_write as f
 use Rattle.host.proofs.semblurick_image_write.Statement as stated
 use Rattle.host.proofs.semblurick_image_write.Code as code
 
 abbrev stayed : Stays (f.ended .signature .params) (f.ended .kept)
-stayed = (stay-none-ref (0 ∷ []) tt (plain (λ _. S.the-row)) yes, (stay-none-ref (1 ∷ []) tt (ArrayOf (plain (λ _. u64)) (λ _. tt) 4352) yes, (stay-none-ref (2 ∷ []) tt (ArrayOf (plain (λ _. u64)) (λ _. tt) 1024) yes, (gave-slice (3 ∷ []) tt (plain (λ _. u8)), (gave-ref (4 ∷ []) tt (ArrayOf (plain (λ _. u64)) (λ _. tt) 5), tt)))))
+stayed = (stay-none-ref (0 ∷ []) tt (plain (λ _. S.the-row)) yes, (stay-none-ref (1 ∷ []) tt VcpuSlot yes, (stay-none-ref (2 ∷ []) tt PageSlot yes, (gave-slice (3 ∷ []) tt (plain (λ _. u8)), (gave-ref (4 ∷ []) tt ResultSlot, tt)))))
 
 -- the contract that the proof cites
 abbrev Callee : {M : Type 1} (𝓤 : URA M) (H : Heap 𝓤) (A : Atoms 𝓤) (at-mem : Memory → SProp 𝓤) (run : Routine → Fun 𝓤) → Contract 𝓤
@@ -86,9 +87,9 @@ module _ {M : Type 1} (𝓤 : URA M) (H : Heap 𝓤) (A : Atoms 𝓤) (W : Given
   Post = walkOf 𝓤 H A f.ended stayed (f.clauses 𝓤 H A at-mem run) .post (((κ, (κ₁, (κ₂, (κ₃, (κ₄, tt))))), (q, (q₁, (q₂, (q₃, (q₄, tt))))), tt, x, at), tt)
 
   exits : (r : ℕ) (v : Val) (l-out l-result : List ℕ) → length l-out ≡ length (a-out .now) → (r ≡ did .done .code) × (l-out ≡ did .out) × (l-result ≡ did .result)
-      → ent 𝓤 (⋆ 𝓤 H A (‵ (fres γ (S.the-row .coded .code h)) ∷ ‵ (fshr-bor κ (λ s. partAt S.the-row s h b o)) ∷ ‵ (flft κ q) ∷ Tokens ∷ ‵ (u32 .own r (v ∷ [])) ∷ ‵ (ShrRef (named 1) κ₁ (Array u64 tt 4352) .own a-vcpus (vptr (a-vcpus .ptr .0) (a-vcpus .ptr .1) ∷ [])) ∷ ‵ (ShrRef (named 2) κ₂ (Array u64 tt 1024) .own a-pages (vptr (a-pages .ptr .0) (a-pages .ptr .1) ∷ [])) ∷ ‵ (finally u8 (a-out .name) l-out) ∷ ‵ (fres (a-result .name) (Array u64 tt 5 .coded .code l-result)) ∷ [])) (Post v)
+      → ent 𝓤 (⋆ 𝓤 H A (‵ (fres γ (S.the-row .coded .code h)) ∷ ‵ (fshr-bor κ (λ s. partAt S.the-row s h b o)) ∷ ‵ (flft κ q) ∷ Tokens ∷ ‵ (u32 .own r (v ∷ [])) ∷ ‵ (ShrRef (named 1) κ₁ VcpuWords .own a-vcpus (vptr (a-vcpus .ptr .0) (a-vcpus .ptr .1) ∷ [])) ∷ ‵ (ShrRef (named 2) κ₂ PageWords .own a-pages (vptr (a-pages .ptr .0) (a-pages .ptr .1) ∷ [])) ∷ ‵ (finally u8 (a-out .name) l-out) ∷ ‵ (fres (a-result .name) (ResultWords .coded .code l-result)) ∷ [])) (Post v)
   exits r v l-out l-result len-out e =
-      qed W (‵ (fres γ (S.the-row .coded .code h)) ∷ ‵ (fshr-bor κ (λ s. partAt S.the-row s h b o)) ∷ ‵ (flft κ q) ∷ Tokens ∷ ‵ (u32 .own r (v ∷ [])) ∷ ‵ (ShrRef (named 1) κ₁ (Array u64 tt 4352) .own a-vcpus (vptr (a-vcpus .ptr .0) (a-vcpus .ptr .1) ∷ [])) ∷ ‵ (ShrRef (named 2) κ₂ (Array u64 tt 1024) .own a-pages (vptr (a-pages .ptr .0) (a-pages .ptr .1) ∷ [])) ∷ ‵ (finally u8 (a-out .name) l-out) ∷ ‵ (fres (a-result .name) (Array u64 tt 5 .coded .code l-result)) ∷ []) ∵
+      qed W (‵ (fres γ (S.the-row .coded .code h)) ∷ ‵ (fshr-bor κ (λ s. partAt S.the-row s h b o)) ∷ ‵ (flft κ q) ∷ Tokens ∷ ‵ (u32 .own r (v ∷ [])) ∷ ‵ (ShrRef (named 1) κ₁ VcpuWords .own a-vcpus (vptr (a-vcpus .ptr .0) (a-vcpus .ptr .1) ∷ [])) ∷ ‵ (ShrRef (named 2) κ₂ PageWords .own a-pages (vptr (a-pages .ptr .0) (a-pages .ptr .1) ∷ [])) ∷ ‵ (finally u8 (a-out .name) l-out) ∷ ‵ (fres (a-result .name) (ResultWords .coded .code l-result)) ∷ []) ∵
       suffices ! _ (ends-at 𝓤 H A f.ended stayed (f.clauses 𝓤 H A at-mem run) W (((κ, (κ₁, (κ₂, (κ₃, (κ₄, tt))))), (q, (q₁, (q₂, (q₃, (q₄, tt))))), tt, x, at), tt) v r (tt, (tt, (tt, (l-out, (l-result, tt))))) (tt, (tt, (tt, (len-out, (tt, tt)))))) $
       says ! e $ move ! (2 ∷ 3 ∷ []) $ join ! $ frame ! $ feqI ! (List Val) (vptr b o ∷ []) (vptr b o ∷ []) refl $ fjoin3 ! $ nothing ! $ move ! (6 ∷ 0 ∷ []) $ fjoin ! $ move ! (5 ∷ 0 ∷ []) $ fjoin ! $ move ! (4 ∷ 0 ∷ []) $ fjoin ! $ move ! (3 ∷ 0 ∷ []) $ fjoin ! $ move ! (1 ∷ 0 ∷ []) $ fjoin ! $ done !
 
@@ -96,7 +97,7 @@ module _ {M : Type 1} (𝓤 : URA M) (H : Heap 𝓤) (A : Atoms 𝓤) (W : Given
   to = (((κ₁, (κ₂, (κ₃, (κ₄, tt)))), (q₁, (q₂, (q₃, (q₄, tt)))), tt, (h, (a-vcpus, (a-pages, (a-out, (a-result, tt))))), (mach h ∷ [], (vptr (a-vcpus .ptr .0) (a-vcpus .ptr .1) ∷ [], (vptr (a-pages .ptr .0) (a-pages .ptr .1) ∷ [], (sliceVal (a-out .ptr) (length (a-out .now)) ∷ [], (vptr (a-result .ptr .0) (a-result .ptr .1) ∷ [], tt)))))), tt)
 
   abbrev Passed : ItemOf 𝓤
-  Passed = ((((Tokens ⊛ ‵ (ShrRef (named 1) κ₁ (Array u64 tt 4352) .own a-vcpus (vptr (a-vcpus .ptr .0) (a-vcpus .ptr .1) ∷ []))) ⊛ ‵ (ShrRef (named 2) κ₂ (Array u64 tt 1024) .own a-pages (vptr (a-pages .ptr .0) (a-pages .ptr .1) ∷ []))) ⊛ ‵ (MutSlice (named 3) κ₃ u8 .own a-out (sliceVal (a-out .ptr) (length (a-out .now)) ∷ []))) ⊛ ‵ (MutRef (named 4) κ₄ (Array u64 tt 5) .own a-result (vptr (a-result .ptr .0) (a-result .ptr .1) ∷ [])))
+  Passed = ((((Tokens ⊛ ‵ (ShrRef (named 1) κ₁ VcpuWords .own a-vcpus (vptr (a-vcpus .ptr .0) (a-vcpus .ptr .1) ∷ []))) ⊛ ‵ (ShrRef (named 2) κ₂ PageWords .own a-pages (vptr (a-pages .ptr .0) (a-pages .ptr .1) ∷ []))) ⊛ ‵ (MutSlice (named 3) κ₃ u8 .own a-out (sliceVal (a-out .ptr) (length (a-out .now)) ∷ []))) ⊛ ‵ (MutRef (named 4) κ₄ ResultWords .own a-result (vptr (a-result .ptr .0) (a-result .ptr .1) ∷ [])))
 
   goes-to : Is S.the-row h (mach h ∷ []) → ent 𝓤 (⋆ 𝓤 H A (Passed ∷ [])) (Callee 𝓤 H A at-mem run .pre to)
   goes-to is = qed W (Passed ∷ []) ∵ split ! $ split ! $ split ! $ split ! $ nothing ! $ move ! (5 ∷ 0 ∷ []) $ fjoin ! $ move ! (4 ∷ 0 ∷ []) $ fjoin ! $ move ! (3 ∷ 0 ∷ []) $ fjoin ! $ move ! (2 ∷ 0 ∷ []) $ fjoin ! $ owned ! S.the-row (Is S.the-row) (LL.makes S.the-type S′.the-plain 𝓤 H A) h _ is $ fjoin ! $ move ! (1 ∷ 0 ∷ []) $ join ! $ frame ! $ done !
@@ -108,7 +109,7 @@ module _ {M : Type 1} (𝓤 : URA M) (H : Heap 𝓤) (A : Atoms 𝓤) (W : Given
 
     walk : ent 𝓤 (onEntry 𝓤 H A f.signature (κ, (κ₁, (κ₂, (κ₃, (κ₄, tt))))) (q, (q₁, (q₂, (q₃, (q₄, tt))))) x at) (WpFn 𝓤 H C Λ code.function (vptr b o ∷ vptr (a-vcpus .ptr .0) (a-vcpus .ptr .1) ∷ vptr (a-pages .ptr .0) (a-pages .ptr .1) ∷ sliceVal (a-out .ptr) (length (a-out .now)) ∷ vptr (a-result .ptr .0) (a-result .ptr .1) ∷ []) Post)
     walk =
-        qed W ((‵ (flft κ q) ⊛ Tokens) ∷ ‵ (owns (ShrRef (named 0) κ S.the-row ∷ ShrRef (named 1) κ₁ (Array u64 tt 4352) ∷ ShrRef (named 2) κ₂ (Array u64 tt 1024) ∷ MutSlice (named 3) κ₃ u8 ∷ MutRef (named 4) κ₄ (Array u64 tt 5) ∷ []) x at) ∷ []) ∵ split ! $ move ! (2 ∷ []) $ fsplit ! $ fsplit3 ! $ drop ! $ move ! (2 ∷ []) $ fsplit ! $ use1 W (‵ (ShrRef (named 1) κ₁ (Array u64 tt 4352) .own a-vcpus (vptr (a-vcpus .ptr .0) (a-vcpus .ptr .1) ∷ [])) ⊛ ‵ (ShrRef (named 1) κ₁ (Array u64 tt 4352) .own a-vcpus (vptr (a-vcpus .ptr .0) (a-vcpus .ptr .1) ∷ []))) (shr-copy 𝓤 H A W (named 1) κ₁ (Array u64 tt 4352) .twice a-vcpus _) $ split ! $ move ! (2 ∷ []) $ fsplit ! $ use1 W (‵ (ShrRef (named 2) κ₂ (Array u64 tt 1024) .own a-pages (vptr (a-pages .ptr .0) (a-pages .ptr .1) ∷ [])) ⊛ ‵ (ShrRef (named 2) κ₂ (Array u64 tt 1024) .own a-pages (vptr (a-pages .ptr .0) (a-pages .ptr .1) ∷ []))) (shr-copy 𝓤 H A W (named 2) κ₂ (Array u64 tt 1024) .twice a-pages _) $ split ! $ move ! (2 ∷ []) $ fsplit ! $ move ! (1 ∷ []) $ fsplit ! $ keep ! (7 ∷ 8 ∷ 9 ∷ 10 ∷ 5 ∷ 3 ∷ 2 ∷ 0 ∷ 6 ∷ 4 ∷ []) $
+        qed W ((‵ (flft κ q) ⊛ Tokens) ∷ ‵ (owns (ShrRef (named 0) κ S.the-row ∷ ShrRef (named 1) κ₁ VcpuWords ∷ ShrRef (named 2) κ₂ PageWords ∷ MutSlice (named 3) κ₃ u8 ∷ MutRef (named 4) κ₄ ResultWords ∷ []) x at) ∷ []) ∵ split ! $ move ! (2 ∷ []) $ fsplit ! $ fsplit3 ! $ drop ! $ move ! (2 ∷ []) $ fsplit ! $ use1 W (‵ (ShrRef (named 1) κ₁ VcpuWords .own a-vcpus (vptr (a-vcpus .ptr .0) (a-vcpus .ptr .1) ∷ [])) ⊛ ‵ (ShrRef (named 1) κ₁ VcpuWords .own a-vcpus (vptr (a-vcpus .ptr .0) (a-vcpus .ptr .1) ∷ []))) (shr-copy 𝓤 H A W (named 1) κ₁ VcpuWords .twice a-vcpus _) $ split ! $ move ! (2 ∷ []) $ fsplit ! $ use1 W (‵ (ShrRef (named 2) κ₂ PageWords .own a-pages (vptr (a-pages .ptr .0) (a-pages .ptr .1) ∷ [])) ⊛ ‵ (ShrRef (named 2) κ₂ PageWords .own a-pages (vptr (a-pages .ptr .0) (a-pages .ptr .1) ∷ []))) (shr-copy 𝓤 H A W (named 2) κ₂ PageWords .twice a-pages _) $ split ! $ move ! (2 ∷ []) $ fsplit ! $ move ! (1 ∷ []) $ fsplit ! $ keep ! (7 ∷ 8 ∷ 9 ∷ 10 ∷ 5 ∷ 3 ∷ 2 ∷ 0 ∷ 6 ∷ 4 ∷ []) $
         enter ! C Λ code.function (vptr b o ∷ vptr (a-vcpus .ptr .0) (a-vcpus .ptr .1) ∷ vptr (a-pages .ptr .0) (a-pages .ptr .1) ∷ sliceVal (a-out .ptr) (length (a-out .now)) ∷ vptr (a-result .ptr .0) (a-result .ptr .1) ∷ []) _ $
         alloc1 ! (λ l₀. alloc1 ! (λ l₁. alloc1 ! (λ l₂. alloc1 ! (λ l₃. alloc1 ! (λ l₄. alloc1 ! (λ l₅. alloc1 ! (λ l₆. alloc1 ! (λ l₇. alloc1 ! (λ l₈. alloc1 ! (λ l₉. alloc0 ! $ params1 ! $
         pass1 ! (init ! 16 refl (tt, tt)) $ pass1 ! (init ! 14 refl (tt, tt)) $ pass1 ! (init ! 12 refl (tt, tt)) $ pass1 ! (init ! 10 refl (tt, (tt, (record { fits = a-out-room .0 }, tt)))) $ pass1 ! (init ! 8 refl (tt, tt)) $ pass0 ! $
@@ -142,11 +143,11 @@ module _ {M : Type 1} (𝓤 : URA M) (H : Heap 𝓤) (A : Atoms 𝓤) (W : Given
 module _ {M : Type 1} (𝓤 : URA M) (H : Heap 𝓤) (A : Atoms 𝓤) (W : Given 𝓤 H A) (at-mem : Memory → SProp 𝓤) (run : Routine → Fun 𝓤) where
   semblurick-image-write-walks : (C : Calls 𝓤 H) (Λ : Loops 𝓤 H) → FmC 𝓤 H (W .laws) C → Triple 𝓤 (C #callee) (Callee 𝓤 H A at-mem run) → Walks 𝓤 H A f.ended stayed (WpFn 𝓤 H C Λ code.function) (f.clauses 𝓤 H A at-mem run)
   semblurick-image-write-walks C Λ fm known = walked 𝓤 H A f.ended stayed (f.clauses 𝓤 H A at-mem run) (WpFn 𝓤 H C Λ code.function)
-      (λ κs. (ptr-vals, (ptr-vals, (ptr-vals, (slice-vals, (ptr-vals, tt)))))) (λ κs. (shr-tells (named 0) (κs .0) S.the-row, (shr-tells (named 1) (κs .1 .0) (Array u64 tt 4352), (shr-tells (named 2) (κs .1 .1 .0) (Array u64 tt 1024), (mut-slice-tells (named 3) (κs .1 .1 .1 .0) u8, (mut-tells (named 4) (κs .1 .1 .1 .1 .0) (Array u64 tt 5), tt))))))
+      (λ κs. (ptr-vals, (ptr-vals, (ptr-vals, (slice-vals, (ptr-vals, tt)))))) (λ κs. (shr-tells (named 0) (κs .0) S.the-row, (shr-tells (named 1) (κs .1 .0) VcpuWords, (shr-tells (named 2) (κs .1 .1 .0) PageWords, (mut-slice-tells (named 3) (κs .1 .1 .1 .0) u8, (mut-tells (named 4) (κs .1 .1 .1 .1 .0) ResultWords, tt))))))
       (λ κs qs bounds a _ are. via 𝓤 _ (fst∗ 𝓤 _ (emp 𝓤)) (walk 𝓤 H A W at-mem run (κs .0) (κs .1 .0) (κs .1 .1 .0) (κs .1 .1 .1 .0) (κs .1 .1 .1 .1 .0) (qs .0) (qs .1 .0) (qs .1 .1 .0) (qs .1 .1 .1 .0) (qs .1 .1 .1 .1 .0) (a .0 .ptr .0) (a .0 .ptr .1) (a .0 .name) (a .0 .now) (a .1 .0) (a .1 .1 .0) (a .1 .1 .1 .0) (a .1 .1 .1 .1 .0) (are .1 .1 .1 .0 .0 .1) C Λ fm known))
 
   goes : AllGo 𝓤 H A W 5 (f.signature .params) (f.ended .kept) stayed
-  goes = (goes-none-ref 𝓤 H A W 5 (0 ∷ []) tt (plain (λ _. S.the-row)) yes, (goes-none-ref 𝓤 H A W 5 (1 ∷ []) tt (ArrayOf (plain (λ _. u64)) (λ _. tt) 4352) yes, (goes-none-ref 𝓤 H A W 5 (2 ∷ []) tt (ArrayOf (plain (λ _. u64)) (λ _. tt) 1024) yes, (goes-gave-slice 𝓤 H A W 5 3 tt (plain (λ _. u8)), (goes-gave-ref 𝓤 H A W 5 4 tt (ArrayOf (plain (λ _. u64)) (λ _. tt) 5), tt)))))
+  goes = (goes-none-ref 𝓤 H A W 5 (0 ∷ []) tt (plain (λ _. S.the-row)) yes, (goes-none-ref 𝓤 H A W 5 (1 ∷ []) tt VcpuSlot yes, (goes-none-ref 𝓤 H A W 5 (2 ∷ []) tt PageSlot yes, (goes-gave-slice 𝓤 H A W 5 3 tt (plain (λ _. u8)), (goes-gave-ref 𝓤 H A W 5 4 tt ResultSlot, tt)))))
 
 semblurick-image-write-meets : {M : Type 1} (𝓤 : URA M) (H : Heap 𝓤) (A : Atoms 𝓤) → Given 𝓤 H A → (at-mem : Memory → SProp 𝓤) (run : Routine → Fun 𝓤) (𝓣 : Tables 𝓤 H) → Triple 𝓤 (𝓣 .C #callee) (Callee 𝓤 H A at-mem run)
     → Meets 𝓤 H A f.signature (WpFn 𝓤 H (𝓣 .C) (𝓣 .Λ) code.function) (f.spec 𝓤 H A at-mem run)
@@ -160,4 +161,4 @@ semblurick-image-write-spec 𝓤 H 𝓜 𝓖 𝓡 =
     entered 𝓤 H (tripleOf 𝓤 H (𝓖 .A) f.signature (f.spec 𝓤 H (𝓖 .A) (𝓜 .mem) (𝓡 .run)))
     (tables 𝓤 H 𝓜 𝓡 code.env .C) (tables 𝓤 H 𝓜 𝓡 code.env .Λ) #self code.function (code.unfolded 𝓤 H 𝓜 𝓡)
     (semblurick-image-write-meets 𝓤 H (𝓖 .A) (givenOf 𝓤 H 𝓜 𝓖) (𝓜 .mem) (𝓡 .run) (tablesOf 𝓤 H 𝓜 (tables 𝓤 H 𝓜 𝓡 code.env))
-    (cited 𝓤 H (Callee 𝓤 H (𝓖 .A) (𝓜 .mem) (𝓡 .run)) 𝓜 𝓡 code.env #callee callee-def.routine code.calls-host·image-write (callee-thm.met 𝓤 H 𝓜 𝓖 𝓡)))
+    (cited 𝓤 H (Callee 𝓤 H (𝓖 .A) (𝓜 .mem) (𝓡 .run)) 𝓜 𝓡 code.env #callee callee-def.routine code.calls-calls·image-write (callee-thm.met 𝓤 H 𝓜 𝓖 𝓡)))

@@ -27,7 +27,7 @@ use denote.RattleType.{owns}
 use denote.Laws.{Is, shows}
 use denote.Memory.{mem}
 use denote.Plain.{uint-vals, uint-tells, uint-makes}
-use denote.Builtin.{u32, u64, Array, ArrayOf}
+use denote.Builtin.{u32}
 use denote.Ref.{RefT, MutRef, ptr-vals, mut-tells}
 use denote.Signature.{plain}
 use denote.Steps.{only, opens, closes, owned, facts, heard, nothing}
@@ -43,27 +43,28 @@ use denote.Triple.Walked.{says, Stays, stay-ref, stay-none, gave-ref, walkOf, Al
 use denote.Exit.{yes}
 use Rattle.session.specs.declared.Session.{Session}
 use Rattle.session.specs.State.{state, withShared}
-use Rattle.host.specs.declared.Done.{Done}
-use Rattle.host.specs.Host.{Given as Gives, readyGiven}
 use Rattle.session.proofs.Kept.{ready-moves}
+use Rattle.calls.specs.declared.Done.{Done}
+use Rattle.calls.specs.Given.{Given as Gives, readyGiven}
 use Rattle.session.proofs.Shared as H′
 use Rattle.session.proofs.Shared.Laws as H″
 use Rattle.session.proofs.Session as S
 use Rattle.session.proofs.Session.Laws as S′
+use Rattle.host.proofs.Lent.{ResultWords, ResultSlot}
 use Rattle.host.proofs.Stored.{code-fits, session-is, shared-is, stored, unnamed}
-use Rattle.host.proofs.Done as D
-use Rattle.host.proofs.Done.Laws as D′
-use Rattle.host.proofs.ready as callee
-use Rattle.host.proofs.ready.Symbol as callee-def
-use Rattle.host.proofs.ready.Symbol.{name as #callee}
-use Rattle.host.proofs.ready.Met as callee-thm
+use Rattle.calls.proofs.Done as D
+use Rattle.calls.proofs.Done.Laws as D′
+use Rattle.calls.proofs.ready as callee
+use Rattle.calls.proofs.ready.Symbol as callee-def
+use Rattle.calls.proofs.ready.Symbol.{name as #callee}
+use Rattle.calls.proofs.ready.Met as callee-thm
 use Rattle.host.proofs.semblurick_ready.Key.{name as #self}
 use Rattle.host.proofs.semblurick_ready as f
 use Rattle.host.proofs.semblurick_ready.Statement as stated
 use Rattle.host.proofs.semblurick_ready.Code as code
 
 abbrev stayed : Stays (f.ended .signature .params) (f.ended .kept)
-stayed = (stay-ref (0 ∷ []) tt (plain (λ _. S.the-row)), (stay-none (λ _. u32) yes, (gave-ref (1 ∷ []) tt (ArrayOf (plain (λ _. u64)) (λ _. tt) 5), tt)))
+stayed = (stay-ref (0 ∷ []) tt (plain (λ _. S.the-row)), (stay-none (λ _. u32) yes, (gave-ref (1 ∷ []) tt ResultSlot, tt)))
 
 -- the contract that the proof cites
 abbrev Callee : {M : Type 1} (𝓤 : URA M) (H : Heap 𝓤) (A : Atoms 𝓤) (at-mem : Memory → SProp 𝓤) (run : Routine → Fun 𝓤) → Contract 𝓤
@@ -103,9 +104,9 @@ module _ {M : Type 1} (𝓤 : URA M) (H : Heap 𝓤) (A : Atoms 𝓤) (W : Given
   Post = walkOf 𝓤 H A f.ended stayed (f.clauses 𝓤 H A at-mem run) .post (((κ, (κ₁, tt)), (q, (q₁, tt)), tt, x, at), tt)
 
   exits : (d : Done) (l-result : List ℕ) → d .code < 2 ^ 32 → (d ≡ (did .done)) × (l-result ≡ did .result)
-      → ent 𝓤 (⋆ 𝓤 H A (‵ (fobs γ (S.the-row .coded .code (d .session))) ∷ ‵ (fbor κ (Body (mem S.the-row) b o γ)) ∷ ‵ (flft κ q) ∷ Tokens ∷ ‵ (fres (a-result .name) (Array u64 tt 5 .coded .code l-result)) ∷ [])) (Post (vint w32 (d .code)))
+      → ent 𝓤 (⋆ 𝓤 H A (‵ (fobs γ (S.the-row .coded .code (d .session))) ∷ ‵ (fbor κ (Body (mem S.the-row) b o γ)) ∷ ‵ (flft κ q) ∷ Tokens ∷ ‵ (fres (a-result .name) (ResultWords .coded .code l-result)) ∷ [])) (Post (vint w32 (d .code)))
   exits d l-result fits e =
-      qed W (‵ (fobs γ (S.the-row .coded .code (d .session))) ∷ ‵ (fbor κ (Body (mem S.the-row) b o γ)) ∷ ‵ (flft κ q) ∷ Tokens ∷ ‵ (fres (a-result .name) (Array u64 tt 5 .coded .code l-result)) ∷ []) ∵
+      qed W (‵ (fobs γ (S.the-row .coded .code (d .session))) ∷ ‵ (fbor κ (Body (mem S.the-row) b o γ)) ∷ ‵ (flft κ q) ∷ Tokens ∷ ‵ (fres (a-result .name) (ResultWords .coded .code l-result)) ∷ []) ∵
       suffices ! _ (ends-at 𝓤 H A f.ended stayed (f.clauses 𝓤 H A at-mem run) W (((κ, (κ₁, tt)), (q, (q₁, tt)), tt, x, at), tt) (vint w32 (d .code)) (d .code) (d .session, (tt, (l-result, tt))) (tt, (tt, (tt, tt)))) $
       says ! (ap (λ (c : Done). c .code) (e .0), ap (λ (c : Done). c .session) (e .0), e .1) $ move ! (2 ∷ 3 ∷ []) $ join ! $ frame ! $ feqI ! (List Val) (vptr b o ∷ []) (vptr b o ∷ []) refl $ fjoin3 ! $ nothing ! $ move ! (2 ∷ 0 ∷ []) $ fjoin ! $ owned ! u32 (Is u32) (uint-makes 𝓤 H A W w32) a-vcpu _ (refl, a-vcpu-fits) $ fjoin ! $ move ! (1 ∷ 0 ∷ []) $ fjoin ! $
       owned ! u32 (Is u32) (uint-makes 𝓤 H A W w32) (d .code) _ (refl, fits) $ move ! (1 ∷ 0 ∷ []) $ done !
@@ -114,7 +115,7 @@ module _ {M : Type 1} (𝓤 : URA M) (H : Heap 𝓤) (A : Atoms 𝓤) (W : Given
   to = (((κ₁, tt), (q₁, tt), tt, (h, (a-vcpu, (a-result, tt))), (mach h ∷ [], (vint w32 a-vcpu ∷ [], (vptr (a-result .ptr .0) (a-result .ptr .1) ∷ [], tt)))), tt)
 
   abbrev Passed : ItemOf 𝓤
-  Passed = (Tokens ⊛ ‵ (MutRef (named 1) κ₁ (Array u64 tt 5) .own a-result (vptr (a-result .ptr .0) (a-result .ptr .1) ∷ [])))
+  Passed = (Tokens ⊛ ‵ (MutRef (named 1) κ₁ ResultWords .own a-result (vptr (a-result .ptr .0) (a-result .ptr .1) ∷ [])))
 
   goes-to : Is S.the-row h (mach h ∷ []) → ent 𝓤 (⋆ 𝓤 H A (Passed ∷ [])) (Callee 𝓤 H A at-mem run .pre to)
   goes-to is = qed W (Passed ∷ []) ∵ split ! $ nothing ! $ move ! (2 ∷ 0 ∷ []) $ fjoin ! $ owned ! u32 (Is u32) (uint-makes 𝓤 H A W w32) a-vcpu _ (refl, a-vcpu-fits) $ fjoin ! $ owned ! S.the-row (Is S.the-row) (LL.makes S.the-type S′.the-plain 𝓤 H A) h _ is $ fjoin ! $ move ! (1 ∷ 0 ∷ []) $ join ! $ frame ! $ done !
@@ -126,7 +127,7 @@ module _ {M : Type 1} (𝓤 : URA M) (H : Heap 𝓤) (A : Atoms 𝓤) (W : Given
 
     walk : ent 𝓤 (onEntry 𝓤 H A f.signature (κ, (κ₁, tt)) (q, (q₁, tt)) x at) (WpFn 𝓤 H C Λ code.function (vptr b o ∷ vint w32 a-vcpu ∷ vptr (a-result .ptr .0) (a-result .ptr .1) ∷ []) Post)
     walk =
-        qed W ((‵ (flft κ q) ⊛ Tokens) ∷ ‵ (owns (MutRef (named 0) κ S.the-row ∷ u32 ∷ MutRef (named 1) κ₁ (Array u64 tt 5) ∷ []) x at) ∷ []) ∵ split ! $ move ! (2 ∷ []) $ fsplit ! $ fsplit3 ! $ drop ! $ move ! (2 ∷ []) $ fsplit ! $ drop ! $ fsplit ! $ keep ! (2 ∷ 3 ∷ 4 ∷ 5 ∷ 0 ∷ []) $
+        qed W ((‵ (flft κ q) ⊛ Tokens) ∷ ‵ (owns (MutRef (named 0) κ S.the-row ∷ u32 ∷ MutRef (named 1) κ₁ ResultWords ∷ []) x at) ∷ []) ∵ split ! $ move ! (2 ∷ []) $ fsplit ! $ fsplit3 ! $ drop ! $ move ! (2 ∷ []) $ fsplit ! $ drop ! $ fsplit ! $ keep ! (2 ∷ 3 ∷ 4 ∷ 5 ∷ 0 ∷ []) $
         enter ! C Λ code.function (vptr b o ∷ vint w32 a-vcpu ∷ vptr (a-result .ptr .0) (a-result .ptr .1) ∷ []) _ $
         alloc1 ! (λ l₀. alloc1 ! (λ l₁. alloc1 ! (λ l₂. alloc1 ! (λ l₃. alloc1 ! (λ l₄. alloc1 ! (λ l₅. alloc1 ! (λ l₆. alloc0 ! $ params1 ! $
         pass1 ! (init ! 10 refl (tt, tt)) $ pass1 ! (init ! 8 refl (tt, record { fits = a-vcpu-fits })) $ pass1 ! (init ! 6 refl (tt, tt)) $ pass0 ! $
@@ -163,11 +164,11 @@ module _ {M : Type 1} (𝓤 : URA M) (H : Heap 𝓤) (A : Atoms 𝓤) (W : Given
 module _ {M : Type 1} (𝓤 : URA M) (H : Heap 𝓤) (A : Atoms 𝓤) (W : Given 𝓤 H A) (at-mem : Memory → SProp 𝓤) (run : Routine → Fun 𝓤) where
   semblurick-ready-walks : (C : Calls 𝓤 H) (Λ : Loops 𝓤 H) → FmC 𝓤 H (W .laws) C → Triple 𝓤 (C #callee) (Callee 𝓤 H A at-mem run) → Walks 𝓤 H A f.ended stayed (WpFn 𝓤 H C Λ code.function) (f.clauses 𝓤 H A at-mem run)
   semblurick-ready-walks C Λ fm known = walked 𝓤 H A f.ended stayed (f.clauses 𝓤 H A at-mem run) (WpFn 𝓤 H C Λ code.function)
-      (λ κs. (ptr-vals, (uint-vals w32, (ptr-vals, tt)))) (λ κs. (mut-tells (named 0) (κs .0) S.the-row, (uint-tells w32, (mut-tells (named 1) (κs .1 .0) (Array u64 tt 5), tt))))
+      (λ κs. (ptr-vals, (uint-vals w32, (ptr-vals, tt)))) (λ κs. (mut-tells (named 0) (κs .0) S.the-row, (uint-tells w32, (mut-tells (named 1) (κs .1 .0) ResultWords, tt))))
       (λ κs qs bounds a _ are. via 𝓤 _ (fst∗ 𝓤 _ (emp 𝓤)) (walk 𝓤 H A W at-mem run (κs .0) (κs .1 .0) (qs .0) (qs .1 .0) (a .0 .ptr .0) (a .0 .ptr .1) (a .0 .name) (a .0 .now) (a .1 .0) (a .1 .1 .0) (are .1 .0 .1) C Λ fm known))
 
   goes : AllGo 𝓤 H A W 2 (f.signature .params) (f.ended .kept) stayed
-  goes = (goes-ref 𝓤 H A W 2 0 tt (plain (λ _. S.the-row)), (goes-none 𝓤 H A W 2 (λ _. u32) yes (λ κs x f. refl), (goes-gave-ref 𝓤 H A W 2 1 tt (ArrayOf (plain (λ _. u64)) (λ _. tt) 5), tt)))
+  goes = (goes-ref 𝓤 H A W 2 0 tt (plain (λ _. S.the-row)), (goes-none 𝓤 H A W 2 (λ _. u32) yes (λ κs x f. refl), (goes-gave-ref 𝓤 H A W 2 1 tt ResultSlot, tt)))
 
 semblurick-ready-meets : {M : Type 1} (𝓤 : URA M) (H : Heap 𝓤) (A : Atoms 𝓤) → Given 𝓤 H A → (at-mem : Memory → SProp 𝓤) (run : Routine → Fun 𝓤) (𝓣 : Tables 𝓤 H) → Triple 𝓤 (𝓣 .C #callee) (Callee 𝓤 H A at-mem run)
     → Meets 𝓤 H A f.signature (WpFn 𝓤 H (𝓣 .C) (𝓣 .Λ) code.function) (f.spec 𝓤 H A at-mem run)
@@ -181,4 +182,4 @@ semblurick-ready-spec 𝓤 H 𝓜 𝓖 𝓡 =
     entered 𝓤 H (tripleOf 𝓤 H (𝓖 .A) f.signature (f.spec 𝓤 H (𝓖 .A) (𝓜 .mem) (𝓡 .run)))
     (tables 𝓤 H 𝓜 𝓡 code.env .C) (tables 𝓤 H 𝓜 𝓡 code.env .Λ) #self code.function (code.unfolded 𝓤 H 𝓜 𝓡)
     (semblurick-ready-meets 𝓤 H (𝓖 .A) (givenOf 𝓤 H 𝓜 𝓖) (𝓜 .mem) (𝓡 .run) (tablesOf 𝓤 H 𝓜 (tables 𝓤 H 𝓜 𝓡 code.env))
-    (cited 𝓤 H (Callee 𝓤 H (𝓖 .A) (𝓜 .mem) (𝓡 .run)) 𝓜 𝓡 code.env #callee callee-def.routine code.calls-host·ready (callee-thm.met 𝓤 H 𝓜 𝓖 𝓡)))
+    (cited 𝓤 H (Callee 𝓤 H (𝓖 .A) (𝓜 .mem) (𝓡 .run)) 𝓜 𝓡 code.env #callee callee-def.routine code.calls-calls·ready (callee-thm.met 𝓤 H 𝓜 𝓖 𝓡)))

@@ -1,10 +1,10 @@
 -- What `begin` tells, as a host has it. Assumes nothing.
 use mathlib.Core.Path.{_∙_, ap}
 use Rattle.session.specs.Calls.{Told}
-use Rattle.host.specs.Host.{given, freshGiven}
+use Rattle.calls.specs.Given.{given, freshGiven}
 use borrow.Author.Needs.{needs}
-use Rattle.host.proofs.fresh.Statement.{statement}
-use Rattle.host.proofs.fresh.Tie as tie
+use Rattle.calls.proofs.fresh.Statement.{statement}
+use Rattle.calls.proofs.fresh.Tie as tie
 
 begin-requires : tie.Need-begin-requires
 begin-requires c κs = search needs

@@ -9,10 +9,12 @@ use Rattle.kvmi.specs.Bits.{bit}
 use Rattle.kvmi.specs.Image.{image}
 use Rattle.session.specs.declared.Session.{Session}
 use Rattle.session.specs.State.{state}
-use Rattle.session.specs.Calls.{Told, freshOf, readyOf, messageOf, enterOf}
+use Rattle.session.specs.Calls.{Told, freshOf, readyOf}
+use Rattle.message.specs.Message.{messageOf}
+use Rattle.entry.specs.Entry.{enterOf}
 use Rattle.image_writer.specs.Write.{statedTables, imageOf}
 use Rattle.image_reader.specs.Read.{readOf}
-use Rattle.host.specs.declared.Done.{Done}
+use Rattle.calls.specs.declared.Done.{Done}
 
 -- "signal: none, kick(vCPU, wait), crash(vCPU)"
 abbrev pub signalNumber : Signal → ℕ
@@ -29,6 +31,10 @@ abbrev pub signalWaits : Signal → ℕ
 signalWaits Quiet = 0
 signalWaits (Kick wait vcpu) = bit wait
 signalWaits (Crash vcpu) = 0
+
+-- how many words are lent for an answer's values
+abbrev pub resultWordCount : ℕ
+resultWordCount = 5
 
 -- an answer's values, as struct semblurick_result has them
 abbrev pub resultWords : Paper → List ℕ

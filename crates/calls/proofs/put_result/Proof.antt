@@ -1,8 +1,8 @@
 -- In each arm the answer is known, and with it its number and words. Assumes nothing.
 use mathlib.Core.Path.{refl}
 use borrow.Author.Needs.{needs}
-use Rattle.host.proofs.put_result.Statement.{statement}
-use Rattle.host.proofs.put_result.Tie as tie
+use Rattle.calls.proofs.put_result.Statement.{statement}
+use Rattle.calls.proofs.put_result.Tie as tie
 
 enum-known-a : tie.Need-enum-known-a
 enum-known-a c = search needs

@@ -1,10 +1,10 @@
 -- What the session tells of a message, as a host has it. Assumes nothing.
 use mathlib.Core.Path.{_∙_, ap}
 use Rattle.session.specs.Calls.{Told}
-use Rattle.host.specs.Host.{given, messageGiven}
+use Rattle.calls.specs.Given.{given, messageGiven}
 use borrow.Author.Needs.{needs}
-use Rattle.host.proofs.message.Statement.{statement}
-use Rattle.host.proofs.message.Tie as tie
+use Rattle.calls.proofs.message.Statement.{statement}
+use Rattle.calls.proofs.message.Tie as tie
 
 message-requires : tie.Need-message-requires
 message-requires c κs = search needs

@@ -1,11 +1,11 @@
 -- What the image writer tells, as a host has it. Assumes nothing.
 use mathlib.Core.Path.{_∙_, ap}
 use Rattle.session.specs.Calls.{Told}
-use Rattle.host.specs.declared.Done.{Done}
-use Rattle.host.specs.Host.{given, writeGiven}
+use Rattle.calls.specs.declared.Done.{Done}
+use Rattle.calls.specs.Given.{given, writeGiven}
 use borrow.Author.Needs.{needs}
-use Rattle.host.proofs.image_write.Statement.{statement}
-use Rattle.host.proofs.image_write.Tie as tie
+use Rattle.calls.proofs.image_write.Statement.{statement}
+use Rattle.calls.proofs.image_write.Tie as tie
 
 write-image-requires : tie.Need-write-image-requires
 write-image-requires c κs = search needs

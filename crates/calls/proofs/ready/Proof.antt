@@ -2,12 +2,12 @@
 use mathlib.Core.Path.{_∙_, ap}
 use Prim.Native.Nat.{ℕ}
 use mathlib.Core.List.{[]}
-use Rattle.session.specs.Calls.{Told, readyOf}
 use Rattle.session.specs.State.{state}
-use Rattle.host.specs.Host.{given, readyGiven}
+use Rattle.session.specs.Calls.{Told, readyOf}
+use Rattle.calls.specs.Given.{given, readyGiven}
 use borrow.Author.Needs.{needs}
-use Rattle.host.proofs.ready.Statement.{statement}
-use Rattle.host.proofs.ready.Tie as tie
+use Rattle.calls.proofs.ready.Statement.{statement}
+use Rattle.calls.proofs.ready.Tie as tie
 
 vcpu-number-requires : tie.Need-vcpu-number-requires
 vcpu-number-requires c κs = search needs

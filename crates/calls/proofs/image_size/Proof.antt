@@ -1,8 +1,8 @@
 -- The size that the image writer promises. Assumes nothing.
-use Rattle.host.specs.Host.{sizeGiven}
+use Rattle.calls.specs.Given.{sizeGiven}
 use borrow.Author.Needs.{needs}
-use Rattle.host.proofs.image_size.Statement.{statement}
-use Rattle.host.proofs.image_size.Tie as tie
+use Rattle.calls.proofs.image_size.Statement.{statement}
+use Rattle.calls.proofs.image_size.Tie as tie
 
 image-size-requires : tie.Need-image-size-requires
 image-size-requires c κs = search needs

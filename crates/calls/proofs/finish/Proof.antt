@@ -2,8 +2,8 @@
 use mathlib.Core.Path.{ap}
 use Prim.Native.Nat.{ℕ}
 use borrow.Author.Needs.{needs}
-use Rattle.host.proofs.finish.Statement.{statement}
-use Rattle.host.proofs.finish.Tie as tie
+use Rattle.calls.proofs.finish.Statement.{statement}
+use Rattle.calls.proofs.finish.Tie as tie
 
 put-result-requires : tie.Need-put-result-requires
 put-result-requires c κs = search needs

@@ -2,12 +2,13 @@
 use mathlib.Core.Path.{_∙_, ap}
 use Prim.Native.Nat.{ℕ}
 use mathlib.Core.List.{[]}
-use Rattle.session.specs.Calls.{Told, enterOf}
 use Rattle.session.specs.State.{state}
-use Rattle.host.specs.Host.{given, enterGiven}
+use Rattle.session.specs.Calls.{Told}
+use Rattle.entry.specs.Entry.{enterOf}
+use Rattle.calls.specs.Given.{given, enterGiven}
 use borrow.Author.Needs.{needs}
-use Rattle.host.proofs.enter.Statement.{statement}
-use Rattle.host.proofs.enter.Tie as tie
+use Rattle.calls.proofs.enter.Statement.{statement}
+use Rattle.calls.proofs.enter.Tie as tie
 
 vcpu-number-requires : tie.Need-vcpu-number-requires
 vcpu-number-requires c κs = search needs

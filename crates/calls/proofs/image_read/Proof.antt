@@ -1,10 +1,10 @@
 -- What the image reader tells, as a host has it. Assumes nothing.
 use mathlib.Core.Path.{_∙_, ap}
 use Rattle.session.specs.Calls.{Told}
-use Rattle.host.specs.Host.{given, readGiven}
+use Rattle.calls.specs.Given.{given, readGiven}
 use borrow.Author.Needs.{needs}
-use Rattle.host.proofs.image_read.Statement.{statement}
-use Rattle.host.proofs.image_read.Tie as tie
+use Rattle.calls.proofs.image_read.Statement.{statement}
+use Rattle.calls.proofs.image_read.Tie as tie
 
 read-image-requires : tie.Need-read-image-requires
 read-image-requires c κs = search needs

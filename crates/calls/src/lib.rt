@@ -1,0 +1,201 @@
+// The calls as a host has them: an answer is a number and a few words for its values, and a vCPU's number is a u32. Each is a function on the
+// session by value; `host` has them over a session behind a pointer.
+use kvmi::Answer;
+use kvmi::Signal;
+use page_words::PageWords;
+use session::Session;
+use store::words::VcpuWords;
+ghost use mathlib.Core.Path.{_≡_};
+ghost use Prim.Native.Nat.{min};
+ghost use mathlib.Core.List.{[]};
+ghost use Rattle.kvmi.specs.Answer.{paper, plain};
+ghost use Rattle.session.specs.Calls.{told};
+ghost use Rattle.calls.specs.Given.{resultWords, given, freshGiven, readyGiven, messageGiven, enterGiven, sizeGiven, writeGiven, readGiven};
+
+// How many words are lent for an answer's values.
+pub const RESULT_WORDS: usize = 5;
+
+pub type ResultWords = [u64; RESULT_WORDS];
+
+// What a call gives: the answer's number, and the session after it.
+pub struct Done {
+    pub code: u32,
+    pub session: Session,
+}
+
+// ---- an answer as numbers
+
+// An answer without values: zeros. Its number is given back.
+fn put_plain(result: &mut ResultWords, number: u32) -> u32
+    ensures { λ r. ⌜ (r ≡ number) × (now (result .exit) ≡ resultWords (plain number)) ⌝ }
+{
+    *result = [0; RESULT_WORDS];
+    number
+}
+
+// An answer's values, into the words lent for them; its number is given back.
+fn put_result(result: &mut ResultWords, a: Answer) -> u32
+    ensures { λ r. ⌜ (r ≡ paper a .number) × (now (result .exit) ≡ resultWords (paper a)) ⌝ }
+{
+    match a {
+        Answer::Handled(values) => {
+            let count = values.count;
+            let signal = values.signal;
+            match signal {
+                Signal::Quiet => {
+                    *result = [count as u64, 0, 0, 0, 0];
+                }
+                Signal::Kick { vcpu, wait } => {
+                    *result = [count as u64, 0, 1, vcpu as u64, wait as u64];
+                }
+                Signal::Crash { vcpu } => {
+                    *result = [count as u64, 0, 2, vcpu as u64, 0];
+                }
+            }
+            0
+        }
+        Answer::Closing => put_plain(result, 1),
+        Answer::Closed => put_plain(result, 2),
+        Answer::ShortOut => put_plain(result, 3),
+        Answer::BadVcpu => put_plain(result, 4),
+        Answer::BadState => put_plain(result, 5),
+        Answer::Waiting => put_plain(result, 6),
+        Answer::BadSettings => put_plain(result, 7),
+        Answer::BadForm { offset } => {
+            *result = [0, offset as u64, 0, 0, 0];
+            8
+        }
+        Answer::Forbidden { offset } => {
+            *result = [0, offset as u64, 0, 0, 0];
+            9
+        }
+        Answer::Busy => put_plain(result, 10),
+        Answer::NotApplicable => put_plain(result, 14),
+    }
+}
+
+// What a call of `session` gave, as a host has it.
+fn finish(done: session::Done, result: &mut ResultWords) -> Done
+    ensures { λ r. ⌜ (r ≡ given (told done [] [] [] []) .done) × (now (result .exit) ≡ given (told done [] [] [] []) .result) ⌝ }
+{
+    let answer = done.answer;
+    let session = done.session;
+    let code = put_result(result, answer);
+    Done { code, session }
+}
+
+// A vCPU number of a host, which may be any: past u16, the last u16, which no session has.
+fn vcpu_number(vcpu: u32) -> u16
+    ensures { λ r. ⌜ r ≡ min vcpu 65535 ⌝ }
+{
+    if vcpu < 65535 { vcpu as u16 } else { 65535 }
+}
+
+// ---- the calls
+
+// A session begins fresh, by the settings that stand in it: of the session nothing else is read.
+pub fn fresh(
+    s: Session,
+    vcpus: &mut VcpuWords,
+    pages: &mut PageWords,
+    result: &mut ResultWords,
+) -> Done
+    ensures { λ r. ⌜ (r ≡ freshGiven s (now (vcpus .entry)) (now (pages .entry)) .done)
+        × (now (vcpus .exit) ≡ freshGiven s (now (vcpus .entry)) (now (pages .entry)) .vcpus)
+        × (now (pages .exit) ≡ freshGiven s (now (vcpus .entry)) (now (pages .entry)) .pages)
+        × (now (result .exit) ≡ freshGiven s (now (vcpus .entry)) (now (pages .entry)) .result) ⌝ }
+{
+    let settings = s.settings;
+    let done = session::begin(settings, vcpus, pages);
+    finish(done, result)
+}
+
+// A vCPU can be introspected from now on.
+pub fn ready(s: Session, vcpu: u32, result: &mut ResultWords) -> Done
+    ensures { λ r. ⌜ (r ≡ readyGiven s vcpu .done)
+        × (now (result .exit) ≡ readyGiven s vcpu .result) ⌝ }
+{
+    let done = s.ready(vcpu_number(vcpu));
+    finish(done, result)
+}
+
+// One message of the tool.
+pub fn message(
+    s: Session,
+    vcpus: &mut VcpuWords,
+    pages: &mut PageWords,
+    msg: &[u8],
+    out: &mut [u8],
+    guest: &mut [u8],
+    result: &mut ResultWords,
+) -> Done
+    ensures { λ r. ⌜ (r ≡ messageGiven s (now (vcpus .entry)) (now (pages .entry)) (now (msg .entry)) (now (out .entry)) (now (guest .entry)) .done)
+        × (now (vcpus .exit) ≡ messageGiven s (now (vcpus .entry)) (now (pages .entry)) (now (msg .entry)) (now (out .entry)) (now (guest .entry)) .vcpus)
+        × (now (pages .exit) ≡ messageGiven s (now (vcpus .entry)) (now (pages .entry)) (now (msg .entry)) (now (out .entry)) (now (guest .entry)) .pages)
+        × (now (out .exit) ≡ messageGiven s (now (vcpus .entry)) (now (pages .entry)) (now (msg .entry)) (now (out .entry)) (now (guest .entry)) .out)
+        × (now (guest .exit) ≡ messageGiven s (now (vcpus .entry)) (now (pages .entry)) (now (msg .entry)) (now (out .entry)) (now (guest .entry)) .guest)
+        × (now (result .exit) ≡ messageGiven s (now (vcpus .entry)) (now (pages .entry)) (now (msg .entry)) (now (out .entry)) (now (guest .entry)) .result) ⌝ }
+{
+    let done = message::take(s, vcpus, pages, msg, out, guest);
+    finish(done, result)
+}
+
+// A vCPU enters the guest, with its register block.
+pub fn enter(
+    s: Session,
+    vcpus: &mut VcpuWords,
+    vcpu: u32,
+    block: &[u8],
+    out: &mut [u8],
+    result: &mut ResultWords,
+) -> Done
+    ensures { λ r. ⌜ (r ≡ enterGiven s (now (vcpus .entry)) vcpu (now (block .entry)) (now (out .entry)) .done)
+        × (now (vcpus .exit) ≡ enterGiven s (now (vcpus .entry)) vcpu (now (block .entry)) (now (out .entry)) .vcpus)
+        × (now (out .exit) ≡ enterGiven s (now (vcpus .entry)) vcpu (now (block .entry)) (now (out .entry)) .out)
+        × (now (result .exit) ≡ enterGiven s (now (vcpus .entry)) vcpu (now (block .entry)) (now (out .entry)) .result) ⌝ }
+{
+    let done = entry::enter(s, vcpus, vcpu_number(vcpu), block, out);
+    finish(done, result)
+}
+
+// A session begins with what an image states: of the session only its settings are read.
+pub fn image_read(
+    s: Session,
+    vcpus: &mut VcpuWords,
+    pages: &mut PageWords,
+    image: &[u8],
+    result: &mut ResultWords,
+) -> Done
+    ensures { λ r. ⌜ (r ≡ readGiven s (now (vcpus .entry)) (now (pages .entry)) (now (image .entry)) .done)
+        × (now (vcpus .exit) ≡ readGiven s (now (vcpus .entry)) (now (pages .entry)) (now (image .entry)) .vcpus)
+        × (now (pages .exit) ≡ readGiven s (now (vcpus .entry)) (now (pages .entry)) (now (image .entry)) .pages)
+        × (now (result .exit) ≡ readGiven s (now (vcpus .entry)) (now (pages .entry)) (now (image .entry)) .result) ⌝ }
+{
+    let settings = s.settings;
+    let done = image_reader::read_image(settings, image, vcpus, pages);
+    finish(done, result)
+}
+
+// The image of a session, which stays as it is.
+pub fn image_write(
+    s: Session,
+    vcpus: &VcpuWords,
+    pages: &PageWords,
+    out: &mut [u8],
+    result: &mut ResultWords,
+) -> u32
+    ensures { λ r. ⌜ (r ≡ writeGiven s (now (vcpus .entry)) (now (pages .entry)) (now (out .entry)) .done .code)
+        × (now (out .exit) ≡ writeGiven s (now (vcpus .entry)) (now (pages .entry)) (now (out .entry)) .out)
+        × (now (result .exit) ≡ writeGiven s (now (vcpus .entry)) (now (pages .entry)) (now (out .entry)) .result) ⌝ }
+{
+    let done = image_writer::write_image(s, vcpus, pages, out);
+    let d = finish(done, result);
+    d.code
+}
+
+// How many bytes the image of a session has.
+pub fn image_size(s: Session, vcpus: &VcpuWords, pages: &PageWords) -> usize
+    ensures { λ r. ⌜ r ≡ sizeGiven s (now (vcpus .entry)) (now (pages .entry)) ⌝ }
+{
+    image_writer::image_size(s, vcpus, pages)
+}
