@@ -4,8 +4,8 @@ use borrow.Author.Needs.{needs}
 use Rattle.replay.proofs.pass.Statement.{statement}
 use Rattle.replay.proofs.pass.Tie as tie
 
-message-requires : tie.Need-message-requires
-message-requires c κs = search needs
+take-requires : tie.Need-take-requires
+take-requires c κs = search needs
 
 describe-requires : tie.Need-describe-requires
 describe-requires c κs = search needs
@@ -21,9 +21,9 @@ same-length-2 c = search needs
 
 returns : tie.Need-returns
 unfolding passedOf
-returns c = rw (← c .before .before .before .before .before .before .before .before .message .ensures, c .before .describe .ensures, c .closes .ensures)
+returns c = rw (← c .before .before .before .before .before .before .before .before .take .ensures, c .before .describe .ensures, c .closes .ensures)
 
 pub pass-spec : {M : Type 1} → statement M
 pass-spec =
     tie.close
-    (tie.spec message-requires describe-requires closes-requires same-length same-length-2 returns)
+    (tie.spec take-requires describe-requires closes-requires same-length same-length-2 returns)
