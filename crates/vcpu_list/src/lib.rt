@@ -47,7 +47,7 @@ fn readied(mut v: Vcpu) -> Changed
 fn with_cr(mut v: Vcpu, cr: u32, on: bool) -> Changed
     ensures { λ r. ⌜ one r ≡ oneCr v cr on ⌝ }
 {
-    if verdict::tests::is_cr(cr) & (v.ready != 0) {
+    if tests::is_cr(cr) & (v.ready != 0) {
         v.crs = store::bits::put_cr(v.crs, cr, on);
         return handled(v);
     }

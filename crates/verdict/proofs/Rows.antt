@@ -23,7 +23,8 @@ use Rattle.kvmi.specs.Settings.{allowsCommand}
 use Rattle.kvmi.specs.Message.{sizeFits, carriesData, layoutOf, messages, unknown, namesVcpu, switchesAt, firstPadding, padding, firstOfRuns}
 use Rattle.kvmi.specs.Verdict.{repliesOn, verdict, commandVerdict, isInvalid, isUnready, isDenied, isUnsupported, isBusy, isAbsent, losesErrors, changeOf}
 use Rattle.laws.proofs.Bool.{test, and-l, and-r}
-use Rattle.verdict.specs.Handlers.{idOf, isKnown, handled, factsFor, passesRow, refusal}
+use Rattle.tests.specs.Known.{idOf, isKnown}
+use Rattle.verdict.specs.Handlers.{handled, factsFor, passesRow, refusal}
 use Rattle.verdict.specs.declared.Asked.{Asked}
 
 -- what a test says of each number below a bound

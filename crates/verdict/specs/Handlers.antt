@@ -1,4 +1,4 @@
--- The message of each handler, and the tests that come after those of the table.
+-- The parts of `verdict` as `judge` takes them: tests 2 to 4 by the table's row, what is refused there, the facts, and the tests after these.
 use Prim.Native.Nat.{ℕ}
 use mathlib.Core.List.{List}
 use mathlib.Core.Bool.{Bool, cond, not, _&&_}
@@ -6,7 +6,6 @@ use lib.Dec.{eqb}
 use Rattle.kvmi.specs.declared.Settings.{Settings}
 use Rattle.kvmi.specs.declared.Facts.{Facts}
 use Rattle.kvmi.specs.declared.Handler.{Handler}
-use Rattle.kvmi.specs.declared.Handler.the-variants.{GetVersion, VmCheckCommand, VmCheckEvent, VmGetInfo, VmControlEvents, VmReadPhysical, VmWritePhysical, VcpuGetInfo, VcpuPause, VcpuControlEvents, VcpuControlCr, VcpuControlMsr, VmSetPageAccess, VcpuControlSinglestep, VmControlCmdResponse, EventReply, Unknown}
 use Rattle.kvmi.specs.declared.Layout.{Layout}
 use Rattle.kvmi.specs.declared.Verdict.{Verdict}
 use Rattle.kvmi.specs.declared.Verdict.the-variants.{Closes}
@@ -16,30 +15,8 @@ use Rattle.kvmi.specs.Settings.{allowsCommand, allowsEvent}
 use Rattle.kvmi.specs.Message.{sizeFits, carriesData, vcpuOf}
 use Rattle.kvmi.specs.Verdict.{repliesOn, refuse, commandVerdict, eventReplyVerdict}
 use Rattle.store.specs.Words.{field, PAUSES, AWAITED, AWAITED-SEQ}
+use Rattle.tests.specs.Known.{isKnown}
 use Rattle.verdict.specs.declared.Asked.{Asked}
-
--- of a handler of no message, 0
-abbrev pub idOf : Handler → ℕ
-idOf GetVersion = 1
-idOf VmCheckCommand = 2
-idOf VmCheckEvent = 3
-idOf VmGetInfo = 4
-idOf VmControlEvents = 5
-idOf VmReadPhysical = 6
-idOf VmWritePhysical = 7
-idOf VcpuGetInfo = 8
-idOf VcpuPause = 9
-idOf VcpuControlEvents = 10
-idOf VcpuControlCr = 11
-idOf VcpuControlMsr = 12
-idOf VmSetPageAccess = 13
-idOf VcpuControlSinglestep = 14
-idOf VmControlCmdResponse = 15
-idOf EventReply = 16
-idOf Unknown = 0
-
-abbrev pub isKnown : Handler → Bool
-isKnown h = not (eqb (idOf h) 0)
 
 -- what `verdict` tests once the data's size is the table's
 unfoldable pub handled : Settings → Facts → ℕ → ℕ → List ℕ → Verdict

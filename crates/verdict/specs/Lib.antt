@@ -1,3 +1,1 @@
-pub mod Causes
 pub mod Handlers
-pub mod Entries

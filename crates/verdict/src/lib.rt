@@ -1,11 +1,5 @@
 // What document 01's tests say of a message whose header is whole: it closes the session, it fails with an error code, or it makes
 // one change. `judge` asks the table of messages once, and goes by its row.
-pub mod causes;
-pub mod commands;
-pub mod entries;
-pub mod padding;
-pub mod tests;
-
 use kvmi::Change;
 use kvmi::Facts;
 use kvmi::Handler;
@@ -14,9 +8,7 @@ use kvmi::ReplyMode;
 use kvmi::Settings;
 use kvmi::Verdict;
 ghost use mathlib.Core.Path.{_≡_};
-ghost use mathlib.Core.Bool.{cond, not};
-ghost use Rattle.kvmi.specs.Settings.{allowsEvent};
-ghost use Rattle.kvmi.specs.Verdict.{refuse, isAwaited, eventReplyVerdict, commandVerdict, verdict};
+ghost use Rattle.kvmi.specs.Verdict.{refuse, verdict};
 ghost use Rattle.verdict.specs.Handlers.{factsFor, passesRow, refusal};
 
 // What the tests ask of a session: its settings and reply mode, how many bytes of guest memory are lent, and the ready marks, bit i for vCPU i.
@@ -33,41 +25,6 @@ fn refuse(mode: ReplyMode, code: i32) -> Verdict
 {
     if tests::replies_on(mode) {
         return Verdict::Fails(code);
-    }
-    Verdict::Closes
-}
-
-// Whether a vCPU awaits a reply, and this is it.
-fn is_awaited(facts: Facts, seq: u32, event: u8) -> bool
-    ensures { λ r. ⌜ r ≡ isAwaited facts seq event ⌝ }
-{
-    let awaits = (facts.awaited != 0) & (facts.seq == seq as u64);
-    awaits & (facts.awaited == event as u64)
-}
-
-// EVENT_REPLY never fails: it closes the session unless all of it is as it should be.
-fn event_reply(facts: Facts, seq: u32, d: &[u8]) -> Verdict
-    ensures { λ r. ⌜ r ≡ eventReplyVerdict facts seq (now (d .entry)) ⌝ }
-{
-    let action = wire::byte(d, 8);
-    let clean = padding::of_event_reply(d) == 0;
-    let acts = (action == 0) | (action == 2);
-    if clean & is_awaited(facts, seq, wire::byte(d, 9)) & acts {
-        let change = Change::EndWait {
-            vcpu: wire::load16(d, 0),
-            crash: action == 2,
-        };
-        return Verdict::Does(change);
-    }
-    Verdict::Closes
-}
-
-// VCPU_PAUSE closes where its event is not allowed: nothing could tell that the vCPU paused.
-fn pause(settings: Settings, facts: Facts, d: &[u8]) -> Verdict
-    ensures { λ r. ⌜ r ≡ cond (not (allowsEvent settings 2)) Verdict.Closes (commandVerdict settings facts 9 (now (d .entry))) ⌝ }
-{
-    if tests::is_on(settings.events, 2) {
-        return commands::pause_vcpu(settings, facts, d);
     }
     Verdict::Closes
 }
@@ -136,12 +93,12 @@ pub fn judge(a: Asked, vcpus: &[u64], id: u16, seq: u32, d: &[u8]) -> Verdict
         }
         Handler::VmCheckCommand => {
             if passes(a, id, row, d) {
-                return commands::check_command(settings, facts_of(a, vcpus, d), &d[..8]);
+                return vm_commands::check_command(settings, facts_of(a, vcpus, d), &d[..8]);
             }
         }
         Handler::VmCheckEvent => {
             if passes(a, id, row, d) {
-                return commands::check_event(settings, facts_of(a, vcpus, d), &d[..8]);
+                return vm_commands::check_event(settings, facts_of(a, vcpus, d), &d[..8]);
             }
         }
         Handler::VmGetInfo => {
@@ -151,62 +108,66 @@ pub fn judge(a: Asked, vcpus: &[u64], id: u16, seq: u32, d: &[u8]) -> Verdict
         }
         Handler::VmControlEvents => {
             if passes(a, id, row, d) {
-                return commands::control_vm_events(settings, facts_of(a, vcpus, d), &d[..8]);
+                return vm_commands::control_vm_events(settings, facts_of(a, vcpus, d), &d[..8]);
             }
         }
         Handler::VmReadPhysical => {
             if passes(a, id, row, d) {
-                return commands::read_physical(settings, facts_of(a, vcpus, d), &d[..16]);
+                return vm_commands::read_physical(settings, facts_of(a, vcpus, d), &d[..16]);
             }
         }
         Handler::VmWritePhysical => {
             if passes(a, id, row, d) {
-                return commands::write_physical(settings, facts_of(a, vcpus, d), d);
+                return vm_commands::write_physical(settings, facts_of(a, vcpus, d), d);
             }
         }
         Handler::VcpuGetInfo => {
             if passes(a, id, row, d) {
-                return commands::get_vcpu_info(settings, facts_of(a, vcpus, d), &d[..8]);
+                return vcpu_commands::get_vcpu_info(settings, facts_of(a, vcpus, d), &d[..8]);
             }
         }
         Handler::VcpuPause => {
             if passes(a, id, row, d) {
-                return pause(settings, facts_of(a, vcpus, d), &d[..16]);
+                return vcpu_commands::pause(settings, facts_of(a, vcpus, d), &d[..16]);
             }
         }
         Handler::VcpuControlEvents => {
             if passes(a, id, row, d) {
-                return commands::control_vcpu_events(settings, facts_of(a, vcpus, d), &d[..16]);
+                return vcpu_commands::control_vcpu_events(
+                    settings,
+                    facts_of(a, vcpus, d),
+                    &d[..16],
+                );
             }
         }
         Handler::VcpuControlCr => {
             if passes(a, id, row, d) {
-                return commands::control_cr(settings, facts_of(a, vcpus, d), &d[..16]);
+                return vcpu_commands::control_cr(settings, facts_of(a, vcpus, d), &d[..16]);
             }
         }
         Handler::VcpuControlMsr => {
             if passes(a, id, row, d) {
-                return commands::control_msr(settings, facts_of(a, vcpus, d), &d[..16]);
+                return vcpu_commands::control_msr(settings, facts_of(a, vcpus, d), &d[..16]);
             }
         }
         Handler::VmSetPageAccess => {
             if passes(a, id, row, d) {
-                return commands::set_page_access(settings, facts_of(a, vcpus, d), d);
+                return vm_commands::set_page_access(settings, facts_of(a, vcpus, d), d);
             }
         }
         Handler::VcpuControlSinglestep => {
             if passes(a, id, row, d) {
-                return commands::control_singlestep(settings, facts_of(a, vcpus, d), &d[..16]);
+                return vcpu_commands::control_singlestep(settings, facts_of(a, vcpus, d), &d[..16]);
             }
         }
         Handler::VmControlCmdResponse => {
             if passes(a, id, row, d) {
-                return commands::control_replies(settings, facts_of(a, vcpus, d), &d[..8]);
+                return vm_commands::control_replies(settings, facts_of(a, vcpus, d), &d[..8]);
             }
         }
         Handler::EventReply => {
             if passes(a, id, row, d) {
-                return event_reply(facts_of(a, vcpus, d), seq, &d[..16]);
+                return event_reply::decide(facts_of(a, vcpus, d), seq, &d[..16]);
             }
         }
         Handler::Unknown => {}

@@ -1,0 +1,12 @@
+-- The test is the definition's. Assumes nothing.
+use mathlib.Core.Path.{refl}
+use Rattle.kvmi.specs.Tables.{isMsr}
+use Rattle.tests.proofs.is_msr.Statement.{statement}
+use Rattle.tests.proofs.is_msr.Tie as tie
+
+returns : tie.Need-returns
+unfolding isMsr
+returns c = refl
+
+pub is-msr-spec : {M : Type 1} → statement M
+is-msr-spec = tie.close (tie.spec returns)

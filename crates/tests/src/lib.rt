@@ -1,0 +1,185 @@
+// One test a function, on the numbers that it needs.
+use kvmi::Handler;
+use kvmi::ReplyKind;
+use kvmi::ReplyMode;
+use kvmi::SizeRule;
+ghost use mathlib.Core.Path.{_≡_};
+ghost use mathlib.Core.List.{[], _∷_};
+ghost use mathlib.Core.Bool.{not, _&&_, _||_};
+ghost use lib.Dec.{leb, eqb};
+ghost use Rattle.kvmi.specs.Bits.{isOn, among};
+ghost use Rattle.kvmi.specs.Settings.{isSet};
+ghost use Rattle.kvmi.specs.Tables.{isCr, isMsr};
+ghost use Rattle.kvmi.specs.Message.{sizeFits, carriesData, isVmEvent, isVcpuEvent};
+ghost use Rattle.kvmi.specs.Verdict.{repliesOn, isAccess, inOnePage, pageExists, modeOf};
+ghost use Rattle.tests.specs.Known.{isKnown};
+
+// ---- numbers
+
+// Whether k is in a set of bits.
+pub fn is_on(w: u32, k: u16) -> bool
+    ensures { λ r. ⌜ r ≡ isOn w k ⌝ }
+{
+    if k < 32 { (w >> k) % 2 == 1 } else { false }
+}
+
+// Whether a flag of the settings is set.
+pub fn is_set(flag: u8) -> bool
+    ensures { λ r. ⌜ r ≡ isSet flag ⌝ }
+{
+    flag != 0
+}
+
+// Whether a byte of a message is a switch, 0 or 1.
+pub fn is_switch(b: u8) -> bool
+    ensures { λ r. ⌜ r ≡ leb b 1 ⌝ }
+{
+    b <= 1
+}
+
+// Whether a command on a vCPU is malformed: padding that is not clean (its offset is not 0), a vCPU not below the count, or a
+// switch that is none.
+pub fn is_malformed(padding: usize, vcpus: u32, vcpu: u16, switch: u8) -> bool
+    ensures { λ r. ⌜ r ≡ (not (eqb padding 0) || leb vcpus vcpu || not (leb switch 1)) ⌝ }
+{
+    (padding != 0) | (vcpus <= vcpu as u32) | !is_switch(switch)
+}
+
+// Whether a command is allowed: 1, 2, 3 and 16 always.
+pub fn allows_command(commands: u32, id: u16) -> bool
+    ensures { λ r. ⌜ r ≡ (among id (1 ∷ 2 ∷ 3 ∷ 16 ∷ []) || isOn commands id) ⌝ }
+{
+    (id == 1) | (id == 2) | (id == 3) | (id == 16) | is_on(commands, id)
+}
+
+// Whether VM_CHECK_COMMAND takes a command.
+pub fn is_command(id: u16) -> bool
+    ensures { λ r. ⌜ r ≡ (leb 1 id && leb id 15) ⌝ }
+{
+    (1 <= id) & (id <= 15)
+}
+
+// Whether VM_CHECK_EVENT takes an event.
+pub fn is_event(e: u16) -> bool
+    ensures { λ r. ⌜ r ≡ (leb 1 e && leb e 14) ⌝ }
+{
+    (1 <= e) & (e <= 14)
+}
+
+// Whether VM_CONTROL_EVENTS takes an event.
+pub fn is_vm_event(e: u16) -> bool
+    ensures { λ r. ⌜ r ≡ isVmEvent e ⌝ }
+{
+    (e == 1) | (e == 12)
+}
+
+// Whether VCPU_CONTROL_EVENTS takes an event.
+pub fn is_vcpu_event(e: u16) -> bool
+    ensures { λ r. ⌜ r ≡ isVcpuEvent e ⌝ }
+{
+    let low = (e == 3) | (e == 4) | (e == 5) | (e == 7);
+    low | (e == 8) | (e == 9) | (e == 10) | (e == 11) | (e == 14)
+}
+
+pub fn is_cr(cr: u32) -> bool
+    ensures { λ r. ⌜ r ≡ isCr cr ⌝ }
+{
+    (cr == 0) | (cr == 3) | (cr == 4)
+}
+
+pub fn is_msr(msr: u32) -> bool
+    ensures { λ r. ⌜ r ≡ isMsr msr ⌝ }
+{
+    (msr <= 0x1FFF) | ((0xC0000000 <= msr) & (msr <= 0xC0001FFF))
+}
+
+// Whether a page can have an access: W needs R.
+pub fn is_access(a: u8) -> bool
+    ensures { λ r. ⌜ r ≡ isAccess a ⌝ }
+{
+    (a == 0) | (a == 1) | (a == 3) | (a == 4) | (a == 5) | (a == 7)
+}
+
+// ---- guest memory
+
+// Whether bytes of guest memory lie in one page, and there are some. The size is tested first, so that the sum does not wrap.
+pub fn in_one_page(gpa: u64, size: u64) -> bool
+    ensures { λ r. ⌜ r ≡ inOnePage gpa size ⌝ }
+{
+    if 4096 < size {
+        false
+    } else {
+        (1 <= size) & (gpa % 4096 + size <= 4096)
+    }
+}
+
+// Whether an address's page lies wholly inside the guest memory that is lent.
+pub fn page_exists(guest: usize, gpa: u64) -> bool
+    ensures { λ r. ⌜ r ≡ pageExists guest gpa ⌝ }
+{
+    gpa / 4096 < (guest as u64) / 4096
+}
+
+// ---- the reply mode
+
+pub fn replies_on(mode: ReplyMode) -> bool
+    ensures { λ r. ⌜ r ≡ repliesOn mode ⌝ }
+{
+    match mode {
+        ReplyMode::On => true,
+        ReplyMode::Off => false,
+        ReplyMode::ErrorsOnly => false,
+    }
+}
+
+// The mode that VM_CONTROL_CMD_RESPONSE sets. Its flag counts only where replies go off.
+pub fn mode_of(enable: bool, flag: bool) -> ReplyMode
+    ensures { λ r. ⌜ r ≡ modeOf enable flag ⌝ }
+{
+    if enable {
+        return ReplyMode::On;
+    }
+    if flag {
+        return ReplyMode::ErrorsOnly;
+    }
+    ReplyMode::Off
+}
+
+// ---- the table's row of a message
+
+pub fn is_known(handler: Handler) -> bool
+    ensures { λ r. ⌜ r ≡ isKnown handler ⌝ }
+{
+    match handler {
+        Handler::Unknown => false,
+        _ => true,
+    }
+}
+
+pub fn carries_data(reply: ReplyKind) -> bool
+    ensures { λ r. ⌜ r ≡ carriesData reply ⌝ }
+{
+    match reply {
+        ReplyKind::WithData => true,
+        ReplyKind::CodeOnly => false,
+        ReplyKind::Silent => false,
+    }
+}
+
+// Whether a message has as many data bytes as its row says. Its size field may be any number: nothing here wraps.
+pub fn size_fits(rule: SizeRule, d: &[u8]) -> bool
+    ensures { λ r. ⌜ r ≡ sizeFits rule (now (d .entry)) ⌝ }
+{
+    let n = d.len();
+    match rule {
+        SizeRule::Exactly { bytes } => n == bytes as usize,
+        SizeRule::SizeField => {
+            if n < 16 {
+                return false;
+            }
+            (n - 16) as u64 == wire::load64(d, 8)
+        }
+        SizeRule::Entries => 8 <= n,
+        SizeRule::Unruled => true,
+    }
+}

@@ -1,0 +1,52 @@
+-- At this message's number the definitions leave its own causes and change, on what the callees say. Assumes nothing.
+use mathlib.Core.Path.{_∙_}
+use mathlib.Core.Bool.{or-false, and-true}
+use borrow.Author.Needs.{needs}
+use Rattle.kvmi.specs.Message.{namesVcpu, switchesAt, vcpuOf, registerOf, enables, enableAt}
+use Rattle.kvmi.specs.Verdict.{isInvalid, isUnready, isDenied, isUnsupported, isBusy, isAbsent, losesErrors, changeOf, commandVerdict}
+use Rattle.causes.specs.Causes.{decided}
+use Rattle.vcpu_commands.proofs.control_cr.Statement.{statement}
+use Rattle.vcpu_commands.proofs.control_cr.Tie as tie
+
+load16-requires : tie.Need-load16-requires
+load16-requires c κs = search needs
+
+byte-requires : tie.Need-byte-requires
+byte-requires c κs = search needs
+
+load32-requires : tie.Need-load32-requires
+load32-requires c κs = search needs
+
+of-register-requires : tie.Need-of-register-requires
+of-register-requires c κs = search needs
+
+is-malformed-requires : tie.Need-is-malformed-requires
+is-malformed-requires c κs = search needs
+
+is-cr-requires : tie.Need-is-cr-requires
+is-cr-requires c κs = search needs
+
+new-requires : tie.Need-new-requires
+new-requires c κs = search needs
+
+decide-requires : tie.Need-decide-requires
+decide-requires c κs = search needs
+
+returns : tie.Need-returns
+unfolding commandVerdict isInvalid isUnready isDenied isUnsupported isBusy isAbsent losesErrors changeOf decided namesVcpu switchesAt vcpuOf registerOf enables enableAt
+returns c =
+    c .decide .ensures ∙ rw (c .before .new .ensures, ← c .before .before .before .before .before .before .before .before .load16 .ensures, ← c .before .before .before .before .before .before .before .byte .ensures, ← c .before .before .before .before .before .before .load32 .ensures, ← c .before .before .before .before .before .of-register .ensures, and-true, ← c .before .before .before .before .is-malformed .ensures, ← c .before .before .before .is-cr .ensures) (simp or-false)
+
+pub control-cr-spec : {M : Type 1} → statement M
+control-cr-spec =
+    tie.close
+    (tie.spec
+    load16-requires
+    byte-requires
+    load32-requires
+    of-register-requires
+    is-malformed-requires
+    is-cr-requires
+    new-requires
+    decide-requires
+    returns)

@@ -1,0 +1,111 @@
+// Tests 5 and 6 for each command on a vCPU: its causes of error, and its change. Every function takes any data.
+use causes::Causes;
+use kvmi::Change;
+use kvmi::Facts;
+use kvmi::Settings;
+use kvmi::Verdict;
+ghost use mathlib.Core.Path.{_≡_};
+ghost use mathlib.Core.Bool.{cond, not};
+ghost use Rattle.kvmi.specs.Settings.{allowsEvent};
+ghost use Rattle.kvmi.specs.Verdict.{commandVerdict};
+
+// VCPU_GET_INFO.
+pub fn get_vcpu_info(settings: Settings, facts: Facts, d: &[u8]) -> Verdict
+    ensures { λ r. ⌜ r ≡ commandVerdict settings facts 8 (now (d .entry)) ⌝ }
+{
+    let vcpu = wire::load16(d, 0);
+    let invalid = (padding::of_number(d) != 0) | (settings.vcpus <= vcpu as u32);
+    Causes::new(invalid, !facts.ready).decide(Change::Nothing)
+}
+
+// VCPU_PAUSE: at most 8 wait.
+fn pause_vcpu(settings: Settings, facts: Facts, d: &[u8]) -> Verdict
+    ensures { λ r. ⌜ r ≡ commandVerdict settings facts 9 (now (d .entry)) ⌝ }
+{
+    let vcpu = wire::load16(d, 0);
+    let wait = wire::byte(d, 8);
+    let malformed = tests::is_malformed(padding::of_vcpu_switch(d), settings.vcpus, vcpu, wait);
+    let mut c = Causes::new(malformed, !facts.ready);
+    c.busy = 8 <= facts.pauses;
+    c.decide(Change::QueuePause {
+        vcpu,
+        wait: wait == 1,
+    })
+}
+
+// VCPU_PAUSE closes where its event is not allowed: nothing could tell that the vCPU paused.
+pub fn pause(settings: Settings, facts: Facts, d: &[u8]) -> Verdict
+    ensures { λ r. ⌜ r ≡ cond (not (allowsEvent settings 2)) Verdict.Closes (commandVerdict settings facts 9 (now (d .entry))) ⌝ }
+{
+    if tests::is_on(settings.events, 2) {
+        return pause_vcpu(settings, facts, d);
+    }
+    Verdict::Closes
+}
+
+// VCPU_CONTROL_EVENTS. Only switching an event on can be unsupported, or busy.
+pub fn control_vcpu_events(settings: Settings, facts: Facts, d: &[u8]) -> Verdict
+    ensures { λ r. ⌜ r ≡ commandVerdict settings facts 10 (now (d .entry)) ⌝ }
+{
+    let vcpu = wire::load16(d, 0);
+    let event = wire::load16(d, 8);
+    let enable = wire::byte(d, 10);
+    let on = enable == 1;
+    let malformed = tests::is_malformed(padding::of_vcpu_event(d), settings.vcpus, vcpu, enable);
+    let mut c = Causes::new(malformed | !tests::is_vcpu_event(event), !facts.ready);
+    c.denied = !tests::is_on(settings.events, event);
+    c.unsupported = on & ((event == 8) & !tests::is_set(settings.descriptors));
+    c.busy = on & ((event == 4) & tests::is_set(settings.breakpoints));
+    c.decide(Change::SetVcpuEvent {
+        vcpu,
+        event: event as u32,
+        on,
+    })
+}
+
+// VCPU_CONTROL_CR.
+pub fn control_cr(settings: Settings, facts: Facts, d: &[u8]) -> Verdict
+    ensures { λ r. ⌜ r ≡ commandVerdict settings facts 11 (now (d .entry)) ⌝ }
+{
+    let vcpu = wire::load16(d, 0);
+    let enable = wire::byte(d, 8);
+    let cr = wire::load32(d, 12);
+    let malformed = tests::is_malformed(padding::of_register(d), settings.vcpus, vcpu, enable);
+    let c = Causes::new(malformed | !tests::is_cr(cr), !facts.ready);
+    c.decide(Change::SetCr {
+        vcpu,
+        cr,
+        on: enable == 1,
+    })
+}
+
+// VCPU_CONTROL_MSR.
+pub fn control_msr(settings: Settings, facts: Facts, d: &[u8]) -> Verdict
+    ensures { λ r. ⌜ r ≡ commandVerdict settings facts 12 (now (d .entry)) ⌝ }
+{
+    let vcpu = wire::load16(d, 0);
+    let enable = wire::byte(d, 8);
+    let msr = wire::load32(d, 12);
+    let malformed = tests::is_malformed(padding::of_register(d), settings.vcpus, vcpu, enable);
+    let c = Causes::new(malformed | !tests::is_msr(msr), !facts.ready);
+    c.decide(Change::SetMsr {
+        vcpu,
+        msr,
+        on: enable == 1,
+    })
+}
+
+// VCPU_CONTROL_SINGLESTEP.
+pub fn control_singlestep(settings: Settings, facts: Facts, d: &[u8]) -> Verdict
+    ensures { λ r. ⌜ r ≡ commandVerdict settings facts 14 (now (d .entry)) ⌝ }
+{
+    let vcpu = wire::load16(d, 0);
+    let enable = wire::byte(d, 8);
+    let malformed = tests::is_malformed(padding::of_vcpu_switch(d), settings.vcpus, vcpu, enable);
+    let mut c = Causes::new(malformed, !facts.ready);
+    c.unsupported = !tests::is_set(settings.singlestep);
+    c.decide(Change::SetSinglestep {
+        vcpu,
+        on: enable == 1,
+    })
+}

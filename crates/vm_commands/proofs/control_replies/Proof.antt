@@ -1,0 +1,65 @@
+-- At this message's number the definitions leave its own causes and change, on what the callees say. Assumes nothing.
+use mathlib.Core.Path.{_∙_}
+use mathlib.Core.Bool.{or-false, and-true}
+use borrow.Author.Needs.{needs}
+use Rattle.kvmi.specs.Message.{namesVcpu, switchesAt, enables, enableAt, firstPadding, padding}
+use Rattle.kvmi.specs.Settings.{allowsEvent}
+use Rattle.kvmi.specs.Verdict.{isInvalid, isUnready, isDenied, isUnsupported, isBusy, isAbsent, losesErrors, changeOf, commandVerdict}
+use Rattle.causes.specs.Causes.{decided}
+use Rattle.vm_commands.proofs.control_replies.Statement.{statement}
+use Rattle.vm_commands.proofs.control_replies.Tie as tie
+
+byte-requires : tie.Need-byte-requires
+byte-requires c κs = search needs
+
+byte-requires-2 : tie.Need-byte-requires-2
+byte-requires-2 c κs = search needs
+
+byte-requires-3 : tie.Need-byte-requires-3
+byte-requires-3 c κs = search needs
+
+is-switch-requires : tie.Need-is-switch-requires
+is-switch-requires c κs = search needs
+
+is-switch-requires-2 : tie.Need-is-switch-requires-2
+is-switch-requires-2 c κs = search needs
+
+is-switch-requires-3 : tie.Need-is-switch-requires-3
+is-switch-requires-3 c κs = search needs
+
+of-switch-requires : tie.Need-of-switch-requires
+of-switch-requires c κs = search needs
+
+new-requires : tie.Need-new-requires
+new-requires c κs = search needs
+
+is-on-requires : tie.Need-is-on-requires
+is-on-requires c κs = search needs
+
+mode-of-requires : tie.Need-mode-of-requires
+mode-of-requires c κs = search needs
+
+decide-requires : tie.Need-decide-requires
+decide-requires c κs = search needs
+
+returns : tie.Need-returns
+unfolding commandVerdict isInvalid isUnready isDenied isUnsupported isBusy isAbsent losesErrors changeOf decided namesVcpu switchesAt enables enableAt firstPadding padding allowsEvent
+returns c =
+    c .decide .ensures ∙ rw (c .before .before .before .new .ensures, ← c .before .before .before .before .before .before .before .before .before .before .byte .ensures, ← c .before .before .before .before .before .before .before .before .before .byte2 .ensures, ← c .before .before .before .before .before .before .before .before .byte3 .ensures, ← c .before .before .before .before .of-switch .ensures, ← c .before .before .before .before .before .before .before .is-switch .ensures, ← c .before .before .before .before .before .before .is-switch2 .ensures, ← c .before .before .before .before .before .is-switch3 .ensures, ← c .before .before .is-on .ensures, ← c .before .mode-of .ensures) (simp (or-false, and-true))
+
+pub control-replies-spec : {M : Type 1} → statement M
+control-replies-spec =
+    tie.close
+    (tie.spec
+    byte-requires
+    byte-requires-2
+    byte-requires-3
+    is-switch-requires
+    is-switch-requires-2
+    is-switch-requires-3
+    of-switch-requires
+    new-requires
+    is-on-requires
+    mode-of-requires
+    decide-requires
+    returns)

@@ -1,0 +1,53 @@
+-- At this message's number the definitions leave its own causes and change, on what the callees say. Assumes nothing.
+use mathlib.Core.Path.{_∙_}
+use mathlib.Core.Bool.{or-false, and-true}
+use borrow.Author.Needs.{needs}
+use Rattle.kvmi.specs.Message.{namesVcpu, switchesAt, eventOf, takesEvent, enables, enableAt}
+use Rattle.kvmi.specs.Settings.{allowsEvent}
+use Rattle.kvmi.specs.Verdict.{isInvalid, isUnready, isDenied, isUnsupported, isBusy, isAbsent, losesErrors, changeOf, commandVerdict}
+use Rattle.causes.specs.Causes.{decided}
+use Rattle.vm_commands.proofs.control_vm_events.Statement.{statement}
+use Rattle.vm_commands.proofs.control_vm_events.Tie as tie
+
+load16-requires : tie.Need-load16-requires
+load16-requires c κs = search needs
+
+byte-requires : tie.Need-byte-requires
+byte-requires c κs = search needs
+
+of-switch-requires : tie.Need-of-switch-requires
+of-switch-requires c κs = search needs
+
+is-switch-requires : tie.Need-is-switch-requires
+is-switch-requires c κs = search needs
+
+is-vm-event-requires : tie.Need-is-vm-event-requires
+is-vm-event-requires c κs = search needs
+
+new-requires : tie.Need-new-requires
+new-requires c κs = search needs
+
+is-on-requires : tie.Need-is-on-requires
+is-on-requires c κs = search needs
+
+decide-requires : tie.Need-decide-requires
+decide-requires c κs = search needs
+
+returns : tie.Need-returns
+unfolding commandVerdict isInvalid isUnready isDenied isUnsupported isBusy isAbsent losesErrors changeOf decided namesVcpu switchesAt eventOf takesEvent enables enableAt allowsEvent
+returns c =
+    c .decide .ensures ∙ rw (c .before .before .new .ensures, ← c .before .before .before .before .before .before .before .load16 .ensures, ← c .before .before .before .before .before .before .byte .ensures, ← c .before .before .before .before .before .of-switch .ensures, ← c .before .before .before .before .is-switch .ensures, ← c .before .before .before .is-vm-event .ensures, ← c .before .is-on .ensures) (simp (or-false, and-true))
+
+pub control-vm-events-spec : {M : Type 1} → statement M
+control-vm-events-spec =
+    tie.close
+    (tie.spec
+    load16-requires
+    byte-requires
+    of-switch-requires
+    is-switch-requires
+    is-vm-event-requires
+    new-requires
+    is-on-requires
+    decide-requires
+    returns)
