@@ -20,7 +20,7 @@ use Rattle.message.specs.Message.{answering, judgedOf, headedOf, messageOf}
 use Rattle.stream.specs.Cut.{totalOf, cutOf, extentOf}
 use Rattle.stream.specs.Signed.{signedOf}
 use Rattle.stream.specs.Line.{idOf, seqOf, isCommandError, errorAt, errorOf, lineOf}
-use Rattle.stream.specs.Text.{ascii, digits, decimal, signedText, numberText, codeText, lineText, endText}
+use Rattle.line_text.specs.Text.{ascii, digits, decimal, signedText, numberText, codeText, lineText, endText}
 use Rattle.replay.specs.Runner.{runnerSettings, startOf, passedOf, toldOf, turnBy, turnOf, runOf, printedOf}
 
 -- every word 0, every switch off, and the ready marks of vCPUs 0 and 1

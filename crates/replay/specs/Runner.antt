@@ -17,7 +17,7 @@ use Rattle.stream.specs.declared.Cut.{Cut}
 use Rattle.stream.specs.declared.Cut.the-variants.{End as cut-end, Tail, Long as cut-long, Message}
 use Rattle.stream.specs.Cut.{cutOf, extentOf}
 use Rattle.stream.specs.Line.{lineOf}
-use Rattle.stream.specs.Text.{lineText, endText}
+use Rattle.line_text.specs.Text.{lineText, endText}
 use Rattle.replay.specs.declared.Passed.{Passed}
 use Rattle.replay.specs.declared.Next.{Next}
 use Rattle.replay.specs.declared.Next.the-variants.{On, Over}

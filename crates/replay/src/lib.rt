@@ -9,7 +9,7 @@ use stream::End;
 use stream::Line;
 ghost use mathlib.Core.Path.{_≡_};
 ghost use Rattle.session.specs.State.{state};
-ghost use Rattle.stream.specs.Text.{Counts};
+ghost use Rattle.line_text.specs.Text.{Counts};
 ghost use Rattle.replay.specs.Runner.{runnerSettings, startOf, left, passedOf, after, toldOf, turnOf};
 
 // What a message leaves: the session for the next one, the facts of its line, and whether it closed the session.
@@ -102,7 +102,7 @@ fn tell(
     let passed = pass(s, vcpus, pages, msg, out, guest);
     let line = passed.line;
     let session = passed.session;
-    let count = stream::text::put_line(text, index, line);
+    let count = line_text::put_line(text, index, line);
     if passed.closes {
         return Turned {
             session,

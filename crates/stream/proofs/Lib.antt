@@ -1,4 +1,2 @@
 pub mod Codes
 pub mod Cuts
-pub mod Texts
-pub mod Lines

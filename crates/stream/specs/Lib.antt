@@ -1,4 +1,3 @@
 pub mod Cut
 pub mod Signed
 pub mod Line
-pub mod Text

@@ -1,11 +1,8 @@
-// A stream of messages, end to end: where the next one ends, and the line that tells what became of it, its facts and its text.
-// Reading and printing are the caller's.
-pub mod text;
-
+// A stream of messages, end to end: where the next one ends, and the facts of the line that tells what became of it. Reading and
+// printing are the caller's.
 use kvmi::Answer;
 ghost use mathlib.Core.Path.{_≡_};
 ghost use lib.Dec.{eqb};
-ghost use lib.IntN.{natAbs};
 ghost use Rattle.kvmi.specs.Answer.{paper};
 ghost use Rattle.stream.specs.Cut.{cutOf, extentOf};
 ghost use Rattle.stream.specs.Signed.{signedOf};
@@ -89,14 +86,6 @@ pub fn signed(n: u32) -> i32
     } else {
         ((n as i64) - 4294967296) as i32
     }
-}
-
-// How far from 0 a number is.
-pub fn magnitude(e: i32) -> u64
-    ensures { λ r. ⌜ r ≡ natAbs e ⌝ }
-{
-    let bits = wire::twos_complement(e) as u64;
-    if e < 0 { 4294967296 - bits } else { bits }
 }
 
 // Document 01's number of an answer.

@@ -1,10 +1,10 @@
 -- Each arm copies its text. Assumes nothing.
 use mathlib.Core.Path.{refl}
 use native.Mathlib.Omega.{arith}
-use Rattle.stream.specs.Text.{endText}
+use Rattle.line_text.specs.Text.{endText}
 use borrow.Author.Needs.{needs}
-use Rattle.stream.proofs.text.write_end.Statement.{statement}
-use Rattle.stream.proofs.text.write_end.Tie as tie
+use Rattle.line_text.proofs.write_end.Statement.{statement}
+use Rattle.line_text.proofs.write_end.Tie as tie
 
 enum-told : tie.Need-enum-told
 enum-told c = search needs

@@ -3,10 +3,10 @@ use mir.Facts.{toZ-ofZ}
 use mir.Syntax.{w32}
 use mir.Val.{SFits}
 use native.Mathlib.Omega.{arith}
-use Rattle.stream.specs.Text.{codeText}
+use Rattle.line_text.specs.Text.{codeText}
 use borrow.Author.Needs.{needs}
-use Rattle.stream.proofs.text.put_code.Statement.{statement}
-use Rattle.stream.proofs.text.put_code.Tie as tie
+use Rattle.line_text.proofs.put_code.Statement.{statement}
+use Rattle.line_text.proofs.put_code.Tie as tie
 
 enum-told : tie.Need-enum-told
 enum-told c = search needs

@@ -1,9 +1,9 @@
 -- The digits are copied from the end of the 20 bytes. Assumes nothing.
 use native.Mathlib.Omega.{arith}
-use Rattle.stream.proofs.Texts.{put-digits, length-decimal}
+use Rattle.line_text.proofs.Texts.{put-digits, length-decimal}
 use borrow.Author.Needs.{needs}
-use Rattle.stream.proofs.text.put_decimal.Statement.{statement}
-use Rattle.stream.proofs.text.put_decimal.Tie as tie
+use Rattle.line_text.proofs.put_decimal.Statement.{statement}
+use Rattle.line_text.proofs.put_decimal.Tie as tie
 
 slice-aggregate-spell : tie.Need-slice-aggregate-spell
 slice-aggregate-spell c = search needs

@@ -3,11 +3,11 @@ use mathlib.Core.Path.{refl}
 use mathlib.Core.List.{append-assoc}
 use native.Mathlib.Omega.{arith}
 use Rattle.wire.specs.Bytes.{le}
-use Rattle.stream.specs.Text.{lineText}
-use Rattle.stream.proofs.Texts.{put-then}
+use Rattle.line_text.specs.Text.{lineText}
+use Rattle.line_text.proofs.Texts.{put-then}
 use borrow.Author.Needs.{needs}
-use Rattle.stream.proofs.text.write_line.Statement.{statement}
-use Rattle.stream.proofs.text.write_line.Tie as tie
+use Rattle.line_text.proofs.write_line.Statement.{statement}
+use Rattle.line_text.proofs.write_line.Tie as tie
 
 put-decimal-requires : tie.Need-put-decimal-requires
 put-decimal-requires c κs = search needs

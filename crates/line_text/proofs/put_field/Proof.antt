@@ -2,10 +2,10 @@
 use mathlib.Core.Path.{refl}
 use native.Mathlib.Omega.{arith}
 use Rattle.wire.specs.Bytes.{le}
-use Rattle.stream.proofs.Texts.{put-then}
+use Rattle.line_text.proofs.Texts.{put-then}
 use borrow.Author.Needs.{needs}
-use Rattle.stream.proofs.text.put_field.Statement.{statement}
-use Rattle.stream.proofs.text.put_field.Tie as tie
+use Rattle.line_text.proofs.put_field.Statement.{statement}
+use Rattle.line_text.proofs.put_field.Tie as tie
 
 store8-requires : tie.Need-store8-requires
 store8-requires c κs = search needs

@@ -4,9 +4,9 @@ use Prim.Native.Nat.{_≤_, _<_}
 use native.Mathlib.Omega.{arith}
 use lib.ListN.{length, length-set}
 use borrow.Author.Needs.{needs}
-use Rattle.stream.proofs.Texts.{Spelt, spelt-none, spelt-room, spelt-more, spelt-all}
-use Rattle.stream.proofs.text.spell.Statement.{statement}
-use Rattle.stream.proofs.text.spell.Tie as tie
+use Rattle.line_text.proofs.Texts.{Spelt, spelt-none, spelt-room, spelt-more, spelt-all}
+use Rattle.line_text.proofs.spell.Statement.{statement}
+use Rattle.line_text.proofs.spell.Tie as tie
 
 abbrev Inv-loop : tie.InvT-loop
 Inv-loop space₀ n at₀ rest₀ space at rest = Spelt n space at rest

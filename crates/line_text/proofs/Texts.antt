@@ -13,7 +13,7 @@ use borrow.Author.Tests.{lt-ltb, le-ltb, ltb-true}
 use lib.Signed.{ltZ}
 use Rattle.wire.specs.Bytes.{store}
 use Rattle.wire.proofs.Laws.{store-join}
-use Rattle.stream.specs.Text.{ascii, digits, decimal, signedText, Put, Counts}
+use Rattle.line_text.specs.Text.{ascii, digits, decimal, signedText, Put, Counts}
 
 -- ---- digits
 

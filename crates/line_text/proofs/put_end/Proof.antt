@@ -1,9 +1,9 @@
 -- Assumes nothing.
 use native.Mathlib.Omega.{arith}
-use Rattle.stream.proofs.Texts.{counts}
+use Rattle.line_text.proofs.Texts.{counts}
 use borrow.Author.Needs.{needs}
-use Rattle.stream.proofs.text.put_end.Statement.{statement}
-use Rattle.stream.proofs.text.put_end.Tie as tie
+use Rattle.line_text.proofs.put_end.Statement.{statement}
+use Rattle.line_text.proofs.put_end.Tie as tie
 
 write-end-requires : tie.Need-write-end-requires
 write-end-requires c κs = search needs

@@ -1,9 +1,9 @@
 -- Assumes nothing.
 use native.Mathlib.Omega.{arith}
-use Rattle.stream.proofs.Texts.{counts}
+use Rattle.line_text.proofs.Texts.{counts}
 use borrow.Author.Needs.{needs}
-use Rattle.stream.proofs.text.put_line.Statement.{statement}
-use Rattle.stream.proofs.text.put_line.Tie as tie
+use Rattle.line_text.proofs.put_line.Statement.{statement}
+use Rattle.line_text.proofs.put_line.Tie as tie
 
 write-line-requires : tie.Need-write-line-requires
 write-line-requires c κs = search needs

@@ -11,8 +11,8 @@ use mir.Syntax.{w32}
 use mir.Val.{SFits, ofZ, toZ}
 use Rattle.wire.specs.Code.{twos}
 use Rattle.wire.proofs.Codes.{twos-same, twos-negative}
-use Rattle.stream.proofs.magnitude.Statement.{statement}
-use Rattle.stream.proofs.magnitude.Tie as tie
+use Rattle.line_text.proofs.magnitude.Statement.{statement}
+use Rattle.line_text.proofs.magnitude.Tie as tie
 
 far : (e : ℤ) → SFits w32 e → ltZ (toZ w32 (ofZ w32 e)) (pos 0) ≡ true → 4294967296 - twos e ≡ natAbs e
 far (pos n) f h = omega (arith, f .sfits, twos-negative (pos n) (simp (toZ-ofZ f) at h))

@@ -4,14 +4,14 @@ use mathlib.Core.List.{List, [], _∷_, map}
 use Prim.Native.Nat.{ℕ}
 use Prim.Native.String.{String}
 use lib.IntN.{ℤ, pos, negsuc}
 use Rattle.stream.specs.declared.Number.{Number}
 use Rattle.stream.specs.declared.Number.the-variants.{Missing, Shown}
 use Rattle.stream.specs.declared.Code.{Code}
 use Rattle.stream.specs.declared.Code.the-variants.{Unwritten, Written}
 use Rattle.stream.specs.declared.Line.{Line}
 use Rattle.stream.specs.declared.End.{End}
 use Rattle.stream.specs.declared.End.the-variants.{Open, Closed, Long}
-use Rattle.stream.specs.Text.{ascii, digits, decimal, signedText, numberText, codeText, lineText, endText}
+use Rattle.line_text.specs.Text.{ascii, digits, decimal, signedText, numberText, codeText, lineText, endText}
 
 record Row : Type 0 where
   index : ℕ

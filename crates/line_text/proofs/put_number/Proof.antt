@@ -1,9 +1,9 @@
 -- What is missing is a `-`. Assumes nothing.
 use native.Mathlib.Omega.{arith}
-use Rattle.stream.specs.Text.{numberText}
+use Rattle.line_text.specs.Text.{numberText}
 use borrow.Author.Needs.{needs}
-use Rattle.stream.proofs.text.put_number.Statement.{statement}
-use Rattle.stream.proofs.text.put_number.Tie as tie
+use Rattle.line_text.proofs.put_number.Statement.{statement}
+use Rattle.line_text.proofs.put_number.Tie as tie
 
 enum-told : tie.Need-enum-told
 enum-told c = search needs

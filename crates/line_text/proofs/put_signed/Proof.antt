@@ -2,10 +2,10 @@
 use mathlib.Core.Path.{sym, ap, _∙_}
 use native.Mathlib.Omega.{arith}
 use mir.Facts.{toZ-ofZ}
-use Rattle.stream.proofs.Texts.{put-then, signed-below, signed-above}
+use Rattle.line_text.proofs.Texts.{put-then, signed-below, signed-above}
 use borrow.Author.Needs.{needs}
-use Rattle.stream.proofs.text.put_signed.Statement.{statement}
-use Rattle.stream.proofs.text.put_signed.Tie as tie
+use Rattle.line_text.proofs.put_signed.Statement.{statement}
+use Rattle.line_text.proofs.put_signed.Tie as tie
 
 magnitude-requires : tie.Need-magnitude-requires
 magnitude-requires c κs = search needs

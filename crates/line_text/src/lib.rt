@@ -1,14 +1,15 @@
 // The text of a line, in a buffer that the caller lends.
-use crate::Code;
-use crate::End;
-use crate::Line;
-use crate::Number;
+use stream::Code;
+use stream::End;
+use stream::Line;
+use stream::Number;
 ghost use mathlib.Core.Path.{_≡_};
 ghost use mathlib.Core.List.{_++_};
 ghost use Prim.Native.Nat.{_+_, _≤_};
+ghost use lib.IntN.{natAbs};
 ghost use lib.ListN.{length, drop};
 ghost use Rattle.wire.specs.Bytes.{store};
-ghost use Rattle.stream.specs.Text.{ascii, decimal, signedText, numberText, codeText, lineText, endText, Put, Counts};
+ghost use Rattle.line_text.specs.Text.{ascii, decimal, signedText, numberText, codeText, lineText, endText, Put, Counts};
 
 // The digits of a number, at the end of 20 bytes; answers where they begin.
 fn spell(space: &mut [u8], n: u64) -> usize
@@ -71,13 +72,21 @@ fn put_number(text: &mut [u8], at: usize, n: Number) -> usize
     }
 }
 
+// How far from 0 a number is.
+fn magnitude(e: i32) -> u64
+    ensures { λ r. ⌜ r ≡ natAbs e ⌝ }
+{
+    let bits = wire::twos_complement(e) as u64;
+    if e < 0 { 4294967296 - bits } else { bits }
+}
+
 // A space, and an error with its sign.
 fn put_signed(text: &mut [u8], at: usize, e: i32) -> usize
     requires { ⌜ at + 22 ≤ length (now text) ⌝ }
     ensures { λ r. ⌜ Put (now (text .entry)) at (ascii " " ++ signedText e) (now (text .exit)) r ⌝ }
     ensures { λ r. ⌜ r ≤ at + 22 ⌝ }
 {
-    let n = crate::magnitude(e);
+    let n = magnitude(e);
     if e < 0 {
         let next = put_dash(text, at);
         put_decimal(text, next, n)
