@@ -16,6 +16,8 @@ use Rattle.kvmi.specs.Image.{image, Loaded, loaded, badForm, forbidden, loadIma
 use Rattle.kvmi.specs.Call.{Call, Step, Begin, beginning, noSession, beginFresh, beginFrom, beginLoaded, step}
 use Rattle.kvmi.specs.Case.{Start, anew, fromBytes, standing, Seen, Case, ended, lastStep, endFrom, endOf, seenAt, seen, cases}
 use Rattle.kvmi.proofs.Cases.{cases-right}
+use Rattle.store.specs.Words.{vcpuWordCount}
+use Rattle.page_words.specs.PageWords.{pageWordCount}
 use Rattle.session.specs.Calls.{Told, freshOf}
 use Rattle.image_writer.specs.Write.{statedTables}
 use Rattle.image_reader.specs.Read.{toldLoaded, readOf}
@@ -57,7 +59,7 @@ refused-seen r p cs a z =
 abbrev FreshSeen : Settings → List ℕ → List ℕ → List Call → Type 0
 FreshSeen s vcpus pages cs = seenFrom (freshOf s vcpus pages) cs ≡ seenAt (endFrom s (beginFresh s .answer) (beginFresh s .model) cs)
 
-fresh-seen : (s : Settings) (vcpus pages : List ℕ) → length vcpus ≡ 4352 → length pages ≡ 1024 → (cs : List Call) → FreshSeen s vcpus pages cs
+fresh-seen : (s : Settings) (vcpus pages : List ℕ) → length vcpus ≡ vcpuWordCount → length pages ≡ pageWordCount → (cs : List Call) → FreshSeen s vcpus pages cs
 unfolding freshOf beginFresh
 fresh-seen s vcpus pages v p cs = by (inRange s) refl
   where
@@ -73,7 +75,7 @@ fresh-seen s vcpus pages v p cs = by (inRange s) refl
 abbrev ReadSeen : Settings → List ℕ → List ℕ → List ℕ → List Call → Type 0
 ReadSeen s l vcpus pages cs = seenFrom (readOf s l vcpus pages) cs ≡ seenAt (endFrom s (beginFrom s l .answer) (beginFrom s l .model) cs)
 
-read-seen : (s : Settings) (l vcpus pages : List ℕ) → length vcpus ≡ 4352 → length pages ≡ 1024 → (cs : List Call) → ReadSeen s l vcpus pages cs
+read-seen : (s : Settings) (l vcpus pages : List ℕ) → length vcpus ≡ vcpuWordCount → length pages ≡ pageWordCount → (cs : List Call) → ReadSeen s l vcpus pages cs
 unfolding readOf beginFrom toldLoaded
 read-seen s l vcpus pages v p cs = by (inRange s) (loadImage s l) refl refl
   where
@@ -89,13 +91,13 @@ read-seen s l vcpus pages v p cs = by (inRange s) (loadImage s l) refl refl
         ∙ sym (model (beginning (begun t)) (rw (e, h)))
 
 -- ---- rows, and lists of them
-start-seen : (s : Settings) (b : Start) → So (isBegun b) → (vcpus pages : List ℕ) → length vcpus ≡ 4352 → length pages ≡ 1024 → (cs : List Call)
+start-seen : (s : Settings) (b : Start) → So (isBegun b) → (vcpus pages : List ℕ) → length vcpus ≡ vcpuWordCount → length pages ≡ pageWordCount → (cs : List Call)
     → seenFrom (begunOn s b vcpus pages) cs ≡ seenAt (endOf s b cs)
 start-seen s anew ok vcpus pages v p cs = fresh-seen s vcpus pages v p cs
 start-seen s (fromBytes l) ok vcpus pages v p cs = read-seen s l vcpus pages v p cs
 start-seen s (standing m) ok vcpus pages v p cs = clash {b = false} ok refl
 
-pub row-carried : (c : Case) → So (isBegun (c .start)) → (vcpus pages : List ℕ) → length vcpus ≡ 4352 → length pages ≡ 1024 → seenOn vcpus pages c ≡ seen c
+pub row-carried : (c : Case) → So (isBegun (c .start)) → (vcpus pages : List ℕ) → length vcpus ≡ vcpuWordCount → length pages ≡ pageWordCount → seenOn vcpus pages c ≡ seen c
 unfolding seenOn seen
 row-carried c ok vcpus pages v p = start-seen (c .settings) (c .start) ok vcpus pages v p (c .calls)
 
@@ -103,11 +105,11 @@ abbrev begins : List Case → Bool
 begins [] = true
 begins (c ∷ cs) = isBegun (c .start) && begins cs
 
-pub rows-carried : (cs : List Case) → So (begins cs) → (vcpus pages : List ℕ) → length vcpus ≡ 4352 → length pages ≡ 1024 → map (seenOn vcpus pages) cs ≡ map seen cs
+pub rows-carried : (cs : List Case) → So (begins cs) → (vcpus pages : List ℕ) → length vcpus ≡ vcpuWordCount → length pages ≡ pageWordCount → map (seenOn vcpus pages) cs ≡ map seen cs
 rows-carried [] ok vcpus pages v p = refl
 rows-carried (c ∷ cs) ok vcpus pages v p =
     λ j. row-carried c (and-l (isBegun (c .start)) (begins cs) ok) vcpus pages v p j ∷ rows-carried cs (and-r (isBegun (c .start)) (begins cs) ok) vcpus pages v p j
 
 -- P1 to P12, on whatever words were lent
-pub cases-carried : (vcpus pages : List ℕ) → length vcpus ≡ 4352 → length pages ≡ 1024 → map (seenOn vcpus pages) cases ≡ map (λ (c : Case). c .expected) cases
+pub cases-carried : (vcpus pages : List ℕ) → length vcpus ≡ vcpuWordCount → length pages ≡ pageWordCount → map (seenOn vcpus pages) cases ≡ map (λ (c : Case). c .expected) cases
 cases-carried vcpus pages v p = rows-carried cases refl vcpus pages v p ∙ cases-right

@@ -21,10 +21,11 @@ use Rattle.kvmi.specs.Model.{Model, begun, withTables, withAwaited}
 use Rattle.kvmi.specs.Image.{image, Loaded, loaded, loadImage}
 use Rattle.kvmi.specs.Valid.{Valid}
 use Rattle.kvmi.specs.Call as model
-use Rattle.store.specs.Words.{field, cleared, SINGLESTEP, CRS, EVENTS, PAUSES, AWAITED, AWAITED-SEQ}
+use Rattle.store.specs.Words.{field, cleared, SINGLESTEP, CRS, EVENTS, PAUSES, AWAITED, AWAITED-SEQ, vcpuWordCount}
 use Rattle.store.specs.Meaning.{msrsOf, vcpuOfWords, vcpusOf}
 use Rattle.page_words.specs.Meaning.{pagesOf}
 use Rattle.kvmi.specs.Mode.{modeOfNumber}
+use Rattle.page_words.specs.PageWords.{pageWordCount}
 use Rattle.session.specs.State.{State, freshTool, freshSession, withToolEvents}
 use Rattle.session.specs.Calls.{Told}
 use Rattle.session.specs.Meaning.{awaitedOf, tablesOf, modelOf, WordsGood, WellFormed}
@@ -79,7 +80,7 @@ bit-small : (b : Bool) → bit b ≤ 1
 bit-small true = omega arith
 bit-small false = omega arith
 
-module _ (s : Settings) (t : Tables) (ok : So (inRange s)) (a : Valid s t) (vcpus pages : List ℕ) (vlong : length vcpus ≡ 4352) (plong : length pages ≡ 1024) where
+module _ (s : Settings) (t : Tables) (ok : So (inRange s)) (a : Valid s t) (vcpus pages : List ℕ) (vlong : length vcpus ≡ vcpuWordCount) (plong : length pages ≡ pageWordCount) where
   abbrev st : State
   st = loadedState s t vcpus pages
 
@@ -101,14 +102,14 @@ module _ (s : Settings) (t : Tables) (ok : So (inRange s)) (a : Valid s t) (vcpu
   all : AllIn (s .vcpus) (t .msrs)
   all = subst (λ (n : ℕ). AllIn n (t .msrs)) count (all-in (t .vcpus) (t .msrs) (a .mss))
 
-  cleared-length : length (cleared vcpus) ≡ 4352
+  cleared-length : length (cleared vcpus) ≡ vcpuWordCount
   unfolding cleared
   cleared-length = length-replicate {A = ℕ} (length vcpus) 0 ∙ vlong
 
-  fields-length : length fields ≡ 4352
+  fields-length : length fields ≡ vcpuWordCount
   fields-length = vcpus-loaded-length (cleared vcpus) 0 (t .vcpus) ∙ cleared-length
 
-  words-length : length words ≡ 4352
+  words-length : length words ≡ vcpuWordCount
   words-length = msrs-loaded-length (s .vcpus) fields (t .msrs) ∙ fields-length
 
   zero-field : (i k : ℕ) → field (cleared vcpus) i k ≡ 0

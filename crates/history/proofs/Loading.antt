@@ -19,7 +19,7 @@ use Rattle.kvmi.specs.Image.{msForm, paForm, paMay}
 use Rattle.kvmi.specs.Change.{setMsr}
 use Rattle.kvmi.specs.Valid.{Valid, paGood}
 use Rattle.store.specs.Words.{field, setField, setMsrBit, msrWord, msrSlot, cleared, SINGLESTEP, CRS, EVENTS, PAUSES}
-use Rattle.page_words.specs.PageWords.{wordKey}
+use Rattle.page_words.specs.PageWords.{wordKey, pageWordCount}
 use Rattle.store.specs.Meaning.{msrsOf, vcpuOfWords, vcpusOf}
 use Rattle.page_words.specs.Meaning.{pageOfWord, pagesOf, goodWord, PagesGood}
 use Rattle.image_reader.specs.Read.{vcpuLoaded, vcpusLoaded, msrsLoaded, readyLoaded, pageWord, pagesLoaded}
@@ -271,7 +271,7 @@ drop-replicate (suc k) zero = rw zero-sub
 drop-replicate (suc k) (suc n) = let e : suc n - suc k ≡ n - k = omega arith in rw e (drop-replicate k n)
 
 -- the page words that a valid list of pages is loaded as
-module _ (s : Settings) (t : Tables) (a : Valid s t) (pages : List ℕ) (long : length pages ≡ 1024) where
+module _ (s : Settings) (t : Tables) (a : Valid s t) (pages : List ℕ) (long : length pages ≡ pageWordCount) where
   abbrev loadedPages : List ℕ
   loadedPages = pagesLoaded (cleared pages) 0 (t .pages)
 
@@ -292,7 +292,7 @@ module _ (s : Settings) (t : Tables) (a : Valid s t) (pages : List ℕ) (long : 
   unfolding pagesOf
   pages-mean = ap (map pageOfWord) taken ∙ pages-back s (t .pages) (a .pas)
 
-  pub pages-length : length loadedPages ≡ 1024
+  pub pages-length : length loadedPages ≡ pageWordCount
   pages-length =
       ap length split ∙ length-append (map pageWord (t .pages)) (drop (length (t .pages)) zeros)
       ∙ (let f = fits-in in let m = length-map (t .pages) pageWord in let d = length-drop (length (t .pages)) zeros in let z : length zeros ≡ length pages = length-replicate {A = ℕ} (length pages) 0 in omega arith)

@@ -15,6 +15,8 @@ use Rattle.kvmi.specs.Tables.{Tables, SameTables}
 use Rattle.kvmi.specs.Model.{Model}
 use Rattle.kvmi.specs.Image.{image, loaded, loadImage}
 use Rattle.kvmi.specs.Call.{Call, awaitsAny, after}
+use Rattle.store.specs.Words.{vcpuWordCount}
+use Rattle.page_words.specs.PageWords.{pageWordCount}
 use Rattle.session.specs.State.{State}
 use Rattle.image_writer.specs.Write.{imageOf}
 use Rattle.image_reader.specs.Read.{readOf}
@@ -42,5 +44,5 @@ pub record Demand3 : Type 0 where
   pub alike : (s : Settings) (st st′ : State) (m k : Model) → BeganOn s st m → BeganOn s st′ k → (cs ds : List Call) (out out′ bytes bytes′ : List ℕ) → Writable s m cs → Writable s k ds
       → Writes (afterOf st cs) out bytes → Writes (afterOf st′ ds) out′ bytes′ → (bytes ≡ bytes′) ↔ SameTables (after s m cs .tables) (after s k ds .tables)
   -- "An image that document 01's rules accept, loaded and written again, given room, gives the same bytes."
-  pub again : (s : Settings) (vcpus pages : List ℕ) → length vcpus ≡ 4352 → length pages ≡ 1024 → (l : List ℕ) (t : Tables) → So (areBytes l) → So (inRange s) → loadImage s l ≡ loaded t
+  pub again : (s : Settings) (vcpus pages : List ℕ) → length vcpus ≡ vcpuWordCount → length pages ≡ pageWordCount → (l : List ℕ) (t : Tables) → So (areBytes l) → So (inRange s) → loadImage s l ≡ loaded t
       → (readOf s l vcpus pages .answer .number ≡ 0) × ((out : List ℕ) → length l ≤ length out → Writes (readOf s l vcpus pages .state) out l)

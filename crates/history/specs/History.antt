@@ -10,6 +10,8 @@ use Rattle.kvmi.specs.Tables.{Tables}
 use Rattle.kvmi.specs.Model.{Model, fresh, begun}
 use Rattle.kvmi.specs.Image.{loaded, loadImage}
 use Rattle.kvmi.specs.Call.{Call, message, ready, enter, writeImage}
+use Rattle.store.specs.Words.{vcpuWordCount}
+use Rattle.page_words.specs.PageWords.{pageWordCount}
 use Rattle.session.specs.State.{State}
 use Rattle.session.specs.Calls.{Told, freshOf, readyOf}
 use Rattle.message.specs.Message.{messageOf}
@@ -31,6 +33,6 @@ afterOf st (c ∷ cs) = afterOf (stepOf st c .state) cs
 -- how a session began, on whatever words were lent (4,352 and 1,024 of them): fresh under settings in range, or from an image that the rules
 -- accept; and the model that began with it, which is given by the settings and the image alone
 pub data BeganOn (s : Settings) : State → Model → Type 0 where
-  anew : (vcpus pages : List ℕ) → length vcpus ≡ 4352 → length pages ≡ 1024 → So (inRange s) → BeganOn s (freshOf s vcpus pages .state) (fresh s)
-  fromImage : (vcpus pages : List ℕ) → length vcpus ≡ 4352 → length pages ≡ 1024 → (l : List ℕ) (t : Tables) → So (inRange s) → loadImage s l ≡ loaded t
+  anew : (vcpus pages : List ℕ) → length vcpus ≡ vcpuWordCount → length pages ≡ pageWordCount → So (inRange s) → BeganOn s (freshOf s vcpus pages .state) (fresh s)
+  fromImage : (vcpus pages : List ℕ) → length vcpus ≡ vcpuWordCount → length pages ≡ pageWordCount → (l : List ℕ) (t : Tables) → So (inRange s) → loadImage s l ≡ loaded t
       → BeganOn s (readOf s l vcpus pages .state) (begun t)

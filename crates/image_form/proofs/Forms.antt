@@ -19,6 +19,7 @@ use Rattle.kvmi.specs.Bits.{bitsHave, isOn, bitOf, among}
 use Rattle.kvmi.specs.Message.{isVmEvent, isVcpuEvent}
 use Rattle.kvmi.specs.Row.{Row}
 use Rattle.kvmi.specs.Record.{Kind, VM, VC, MS, PA, EN, kindIn, kinds, widths, size, held, kindAt}
+use Rattle.kvmi.specs.Limits.{pageLimit}
 use Rattle.image_form.specs.declared.Mark.{Mark}
 use Rattle.image_form.specs.declared.Mark.the-variants.{Vm, Vc, Ms, Pa, En, Cut}
 use Rattle.image_form.specs.Form.{named, markOf, heldIn, markIn, markAt, paFits}
@@ -97,9 +98,9 @@ access-high x h =
     rw (ne-eqb x 0 (λ e. omega arith), ne-eqb x 1 (λ e. omega arith), ne-eqb x 3 (λ e. omega arith), ne-eqb x 4 (λ e. omega arith), ne-eqb x 5 (λ e. omega arith))
 
 -- ---- room for one page more
-pub page-room : (n : ℕ) (f : Row (widths PA)) → So (paFits n f) → n < 1024
+pub page-room : (n : ℕ) (f : Row (widths PA)) → So (paFits n f) → n < pageLimit
 unfolding paFits
-page-room n f h = ltb-true n 1024 (search (and-l, and-r) depth 8)
+page-room n f h = ltb-true n pageLimit (search (and-l, and-r) depth 8)
 
 -- ---- flags
 pub flag-off : (x : ℕ) → eqb x 0 ≡ (not (isSet x) && true)

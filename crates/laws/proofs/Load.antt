@@ -19,6 +19,7 @@ use Rattle.kvmi.specs.Image.{vmRecord, vcRecord, msRecord, paRecord, enRecord, 
 use Rattle.laws.proofs.Bool.{and-l, and-r, and-i, every-snoc, length-snoc}
 use Rattle.laws.proofs.Ascending.{above, above-snoc, rising-snoc}
 use Rattle.kvmi.specs.Valid.{Valid, vcGood, paGood}
+use Rattle.kvmi.specs.Limits.{pageLimit}
 use Rattle.laws.proofs.Valid.{vm-few, ms-numbers, pa-numbers}
 use Rattle.laws.proofs.Record.{write-parse}
 
@@ -102,7 +103,7 @@ record Part (s : Settings) (n lo : ℕ) (t : Tables) : Type 0 where
   msLo : Behind msrKey (place 2 0 0) lo (t .msrs)
   pas : So (every (paGood s) (t .pages))
   paUp : So (rising pageKey 0 (t .pages))
-  paFew : length (t .pages) ≤ 1024
+  paFew : length (t .pages) ≤ pageLimit
   paLo : Behind pageKey (place 3 0 0) lo (t .pages)
 
 -- a VC comes before every MS and PA, an MS before every PA
@@ -177,7 +178,7 @@ part-pa : (s : Settings) (n lo : ℕ) (t : Tables) (f : Row (widths PA)) → So 
     → Part s n (suc (orderOf PA f)) (withRecord PA t f)
 part-pa s n lo t f h m a =
     let low : lo ≤ orderOf PA f = leb-true lo (orderOf PA f) (search (and-l, and-r) depth 8) in
-    let room : length (t .pages) < 1024 = ltb-true (length (t .pages)) 1024 (search (and-l, and-r) depth 8) in
+    let room : length (t .pages) < pageLimit = ltb-true (length (t .pages)) pageLimit (search (and-l, and-r) depth 8) in
     record {
       vm = a .vm;
       may = a .may;

@@ -44,7 +44,7 @@ use Rattle.laws.proofs.Kept.{empty-valid, vcpu-good, vcpu-valid, ready-
 record Pages (s : Settings) (ps : List Page) : Type 0 where
   good : So (every (paGood s) ps)
   up : So (rising pageKey 0 ps)
-  few : length ps ≤ 1024
+  few : length ps ≤ pageLimit
 
 -- an entry that message 13 takes
 abbrev entryGood : Entry → Bool
@@ -63,12 +63,12 @@ page-good s view e ok v h n =
     (lt-ltb view (s .views) v)
 
 -- a page that is put finds room, or takes the place of its own record
-room : (p : Page) (ps : List Page) → isSkipped pageLimit p ps ≡ false → eqb (p .access) 7 ≡ false → length ps ≤ 1024 → length (put pageKey p ps) ≤ 1024
+room : (p : Page) (ps : List Page) → isSkipped pageLimit p ps ≡ false → eqb (p .access) 7 ≡ false → length ps ≤ pageLimit → length (put pageKey p ps) ≤ pageLimit
 unfolding isSkipped
 room p ps h n few =
     test (has pageKey (pageKey p) ps) (λ e. rw (length-put-found pageKey p ps e) few)
-    (λ e. let full : leb 1024 (length ps) ≡ false = rw (e, n) at h in
-    let less = leb-false 1024 (length ps) full in
+    (λ e. let full : leb pageLimit (length ps) ≡ false = rw (e, n) at h in
+    let less = leb-false pageLimit (length ps) full in
     rw (length-put-new pageKey p ps e) (omega arith))
 
 entry-pages : (s : Settings) (view : ℕ) (e : Entry) (r : Run) → So (inRange s) → view < s .views → So (entryGood e) → Pages s (r .pages) → Pages s (takeEntry pageLimit view e r .pages)

@@ -18,6 +18,7 @@ use Rattle.kvmi.specs.Image.{vcRow, msRow, paRow, vmRecord, vcRecord, msRecord,
 use Rattle.laws.proofs.Bool.{and-l, and-r, and-i, every-head, every-tail, length-snoc}
 use Rattle.laws.proofs.Ascending.{rising-low, rising-rest}
 use Rattle.kvmi.specs.Valid.{Valid, vcGood, paGood}
+use Rattle.kvmi.specs.Limits.{pageLimit}
 use Rattle.laws.proofs.Valid.{vm-few, vm-bits, ms-numbers, pa-numbers, vc-numbers, count-small}
 use Rattle.laws.proofs.Record.{sound, parse-write}
 
@@ -35,7 +36,7 @@ abbrev made : ℕ → List Vcpu → List Msr → List Page → Tables
 made e vs ms ps = withPages (withMsrs (withVcpus (stated e) vs) ms) ps
 
 load-pages : (s : Settings) (n off lo up e : ℕ) (vs : List Vcpu) (ms : List Msr) (qs ps : List Page) (u : Tables) → length vs ≡ n → lo ≤ place 3 0 up → up ≤ 2 ^ 80
-    → made e vs ms (qs ++ ps) ≡ u → So (rising pageKey up ps) → So (every (paGood s) ps) → length qs + length ps ≤ 1024
+    → made e vs ms (qs ++ ps) ≡ u → So (rising pageKey up ps) → So (every (paGood s) ps) → length qs + length ps ≤ pageLimit
     → loadRest s n off lo (made e vs ms qs) (onto paRecord ps (enRecord (recordCount u) ∷ [])) ≡ loaded u
 load-pages s n off lo up e vs ms qs [] u q l b r g h w =
     let same : made e vs ms qs ≡ u = ap (λ (x : List Page). made e vs ms x) (sym (append-nil qs)) ∙ r in
@@ -48,14 +49,14 @@ load-pages s n off lo up e vs ms qs (p ∷ ps) u q l b r g h w =
     let nums = pa-numbers p form in
     let low = rising-low pageKey up p ps g in
     passed _ _ off _
-    (fitted PA n lo (made e vs ms qs) (paRow p) (omega arith) (eq-eqb _ _ q) (and-i _ _ (and-i _ _ refl form) (lt-ltb (length qs) 1024 (omega arith))))
+    (fitted PA n lo (made e vs ms qs) (paRow p) (omega arith) (eq-eqb _ _ q) (and-i _ _ (and-i _ _ refl form) (lt-ltb (length qs) pageLimit (omega arith))))
     (and-r (paForm p) (paMay s p) own)
     ∙ load-pages s n (off + size PA) (suc (orderOf PA (paRow p))) (suc (pageKey p)) e vs ms (qs ++ (p ∷ [])) ps u q (omega arith) (omega arith)
     (ap (λ (x : List Page). made e vs ms x) (append-assoc qs (p ∷ []) ps) ∙ r) (rising-rest pageKey up p ps g) (every-tail (paGood s) p ps h)
     (rw length-snoc (omega arith))
 
 load-msrs : (s : Settings) (n off lo up e : ℕ) (vs : List Vcpu) (ns ms : List Msr) (ps : List Page) (u : Tables) → length vs ≡ n → n ≤ 16 → lo ≤ place 2 0 up → up ≤ 2 ^ 80
-    → made e vs (ns ++ ms) ps ≡ u → So (rising msrKey up ms) → So (every (msForm vs) ms) → So (rising pageKey 0 ps) → So (every (paGood s) ps) → length ps ≤ 1024
+    → made e vs (ns ++ ms) ps ≡ u → So (rising msrKey up ms) → So (every (msForm vs) ms) → So (rising pageKey 0 ps) → So (every (paGood s) ps) → length ps ≤ pageLimit
     → loadRest s n off lo (made e vs ns []) (onto msRecord ms (onto paRecord ps (enRecord (recordCount u) ∷ []))) ≡ loaded u
 load-msrs s n off lo up e vs ns [] ps u q c l b r g h g′ h′ w =
     load-pages s n off lo 0 e vs ns [] ps u q (omega arith) zero-le (ap (λ (x : List Msr). made e vs x ps) (sym (append-nil ns)) ∙ r) g′ h′ (omega arith)
@@ -80,7 +81,7 @@ vcpu-of-row i v =
 
 load-vcs : (s : Settings) (n off lo e i : ℕ) (vs ws : List Vcpu) (ms : List Msr) (ps : List Page) (u : Tables) → length vs ≡ i → i + length ws ≡ n → n ≤ 16 → lo ≤ place 1 i 0
     → made e (vs ++ ws) ms ps ≡ u → So (every (vcGood s) ws) → So (rising msrKey 0 ms) → So (every (msForm (vs ++ ws)) ms) → So (rising pageKey 0 ps)
-    → So (every (paGood s) ps) → length ps ≤ 1024
+    → So (every (paGood s) ps) → length ps ≤ pageLimit
     → loadRest s n off lo (made e vs [] []) (vcRecords i ws (onto msRecord ms (onto paRecord ps (enRecord (recordCount u) ∷ [])))) ≡ loaded u
 load-vcs s n off lo e i vs [] ms ps u p q c l r k g h g′ h′ w =
     load-msrs s n off lo 0 e vs [] ms ps u (omega arith) c (omega arith) zero-le (ap (λ (x : List Vcpu). made e x ms ps) (sym (append-nil vs)) ∙ r) g (rw append-nil at h) g′ h′ w

@@ -25,7 +25,7 @@ use Rattle.kvmi.specs.Message.{layoutOf, sizeFits, namesVcpu, vcpuOf, enableAt,
 use Rattle.kvmi.specs.Verdict.{isInvalid, isUnready, isDenied, isUnsupported, isBusy, isAbsent, changeOf, losesErrors, commandVerdict, verdict}
 use Rattle.kvmi.specs.Reply.{messageBytes}
 use Rattle.kvmi.specs.Case.{registerData}
-use Rattle.store.specs.Words.{field, setField, putBit64, CRS}
+use Rattle.store.specs.Words.{field, setField, putBit64, CRS, vcpuWordCount}
 use Rattle.session.specs.State.{State}
 use Rattle.session.specs.Calls.{Told, readyOf}
 use Rattle.change.specs.Change.{change}
@@ -130,7 +130,7 @@ module _ (vcpu cr : ℕ) (on : Bool) (v : vcpu < 2 ^ 16) (c : cr < 2 ^ 32) where
   cr-data seq = refl
 
 -- ---- the CR switch: its change, or its error, is what the list's form answers and leaves
-module _ (st : State) (ok : So (inRange (st .session .settings))) (words : length (st .vcpus) ≡ 4352) (vcpu cr : ℕ) (on : Bool) where
+module _ (st : State) (ok : So (inRange (st .session .settings))) (words : length (st .vcpus) ≡ vcpuWordCount) (vcpu cr : ℕ) (on : Bool) where
   abbrev listForm : Listed
   listForm = crSet (recordsOf st) vcpu cr on
 
@@ -183,7 +183,7 @@ module _ (st : State) (ok : So (inRange (st .session .settings))) (words : lengt
     agreed = test (ltb vcpu size) (λ t. there (ltb-true vcpu size t) (isCr cr) mark refl refl) (λ t. past (ltb-false vcpu size t))
 
 -- an open session with settings in range, that allows command 11, and an output that a message can have
-module _ (st : State) (ok : So (inRange (st .session .settings))) (words : length (st .vcpus) ≡ 4352) (lives : st .session .tool .closed ≡ 0)
+module _ (st : State) (ok : So (inRange (st .session .settings))) (words : length (st .vcpus) ≡ vcpuWordCount) (lives : st .session .tool .closed ≡ 0)
     (allowed : allowsCommand (st .session .settings) 11 ≡ true) (seq vcpu cr : ℕ) (on : Bool) (s : seq < 2 ^ 32) (v : vcpu < 2 ^ 16) (c : cr < 2 ^ 32)
     (out guest : List ℕ) (long : 4112 ≤ length out) where
   as-judged : messageOf st (crMessage seq vcpu cr on) out guest

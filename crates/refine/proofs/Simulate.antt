@@ -40,11 +40,12 @@ use Rattle.kvmi.specs.Change.{Applied, applied, apply, signalOf, modeFor}
 use Rattle.kvmi.specs.Reply.{replyBytes, replyData, commandErrorEvent, pauseEvent, answerBytes, answerOf, answerSeq}
 use Rattle.kvmi.specs.Valid.{Valid}
 use Rattle.kvmi.specs.Call as model
-use Rattle.store.specs.Words.{field, setField, putBit64, cleared, SINGLESTEP, PAUSES, AWAITED, AWAITED-SEQ}
+use Rattle.store.specs.Words.{field, setField, putBit64, cleared, SINGLESTEP, PAUSES, AWAITED, AWAITED-SEQ, vcpuWordCount}
 use Rattle.store.specs.Meaning.{msrsOf, vcpusOf, vcpuOfWords}
 use Rattle.page_words.specs.Meaning.{pagesOf, PagesGood}
 use Rattle.session.specs.declared.Session.{Session}
 use Rattle.kvmi.specs.Mode.{modeOfNumber}
+use Rattle.page_words.specs.PageWords.{pageWordCount}
 use Rattle.session.specs.State.{State, state, freshSession, closedSession, clearedState, withReadyBits, withSeqOf, withField}
 use Rattle.session.specs.Calls.{Told, toldSame, toldWritten, toldClosing, freshOf, readyOf}
 use Rattle.change.specs.Change.{Changed, changed, change}
@@ -157,7 +158,7 @@ pub same-simulates : (k : ℕ) (st : State) (out guest : List ℕ) → WordsGood
 same-simulates k st out guest g = record { answer = refl; out = refl; guest = refl; model = refl; settings = refl; words = g }
 
 -- all words 0
-pub zero-words : (s : Settings) (x : Session) (vcpus pages : List ℕ) → length vcpus ≡ 4352 → length pages ≡ 1024 → x .tool .closed ≤ 1 → x .tool .mode ≤ 2 → x .shared .ready ≡ 0 → x .tool .pages ≡ 0
+pub zero-words : (s : Settings) (x : Session) (vcpus pages : List ℕ) → length vcpus ≡ vcpuWordCount → length pages ≡ pageWordCount → x .tool .closed ≤ 1 → x .tool .mode ≤ 2 → x .shared .ready ≡ 0 → x .tool .pages ≡ 0
     → WordsGood (clearedState x vcpus pages)
 unfolding cleared field
 zero-words s x vcpus pages v p c m r k =

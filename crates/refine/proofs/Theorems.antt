@@ -34,8 +34,8 @@ use Rattle.kvmi.specs.Verdict.{changeOf, modeOf, verdict}
 use Rattle.kvmi.specs.Reply.{answerSeq, answerOf}
 use Rattle.kvmi.specs.Valid.{Valid}
 use Rattle.kvmi.specs.Call as model
-use Rattle.store.specs.Words.{field, setField, setMsrBit, cleared, SINGLESTEP, CRS, EVENTS, PAUSES, AWAITED, AWAITED-SEQ}
-use Rattle.page_words.specs.PageWords.{runEntries}
+use Rattle.store.specs.Words.{field, setField, setMsrBit, cleared, SINGLESTEP, CRS, EVENTS, PAUSES, AWAITED, AWAITED-SEQ, vcpuWordCount}
+use Rattle.page_words.specs.PageWords.{runEntries, pageWordCount}
 use Rattle.kvmi.specs.Mode.{modeOfNumber}
 use Rattle.session.specs.State.{State, state, freshSession, clearedState, withField, withSeqOf}
 use Rattle.session.specs.Calls.{Told, toldSame, freshOf, readyOf}
@@ -62,7 +62,7 @@ fresh-model s vcpus pages =
     (withTables (fresh s) (withPages (withMsrs (withVcpus (emptyTables n) (zeros-vcpus k n j)) (zeros-msrs k n j)) (no-pages (cleared pages) j)))
     (waits j)
 
-pub fresh-formed : (s : Settings) (vcpus pages : List ℕ) → length vcpus ≡ 4352 → length pages ≡ 1024 → So (inRange s) → WellFormed (clearedState (freshSession s) vcpus pages)
+pub fresh-formed : (s : Settings) (vcpus pages : List ℕ) → length vcpus ≡ vcpuWordCount → length pages ≡ pageWordCount → So (inRange s) → WellFormed (clearedState (freshSession s) vcpus pages)
 fresh-formed s vcpus pages v p ok =
     record {
       settings = ok;

@@ -16,9 +16,10 @@ use Rattle.kvmi.specs.Settings.{inRange}
 use Rattle.kvmi.specs.Tables.{Vcpu, resting, vcpuAt, isMsr}
 use Rattle.kvmi.specs.Model.{Awaited, awaitedBy}
 use Rattle.kvmi.specs.Verdict.{awaitedEvent, awaitedSeq, factsOf}
-use Rattle.store.specs.Words.{field, setField, msrWord, msrSlot, setMsrBit, SINGLESTEP, CRS, EVENTS, PAUSES, AWAITED, AWAITED-SEQ}
+use Rattle.store.specs.Words.{field, setField, msrWord, msrSlot, setMsrBit, SINGLESTEP, CRS, EVENTS, PAUSES, AWAITED, AWAITED-SEQ, vcpuWordCount}
 use Rattle.store.specs.Meaning.{vcpuOfWords, vcpusOf}
 use Rattle.page_words.specs.Meaning.{PagesGood}
+use Rattle.page_words.specs.PageWords.{pageWordCount}
 use Rattle.session.specs.declared.Tool.{Tool}
 use Rattle.session.specs.State.{State, state, withTool, withToolPages, withReadyBits, withVcpuWords, withField}
 use Rattle.message.specs.Message.{factsIn}
@@ -58,7 +59,7 @@ module _ (st : State) (g : WordsGood st) where
       }
 
   -- the page words and their count
-  pub pages-kept : (count : ℕ) (pages : List ℕ) → length pages ≡ 1024 → PagesGood pages count
+  pub pages-kept : (count : ℕ) (pages : List ℕ) → length pages ≡ pageWordCount → PagesGood pages count
       → WordsGood (state (withTool (st .session) (withToolPages (st .session .tool) count)) w pages)
   pages-kept count pages long good =
       record {
@@ -91,7 +92,7 @@ module _ (st : State) (g : WordsGood st) where
       }
 
   -- the vCPU words
-  pub vcpus-kept : (u : List ℕ) → length u ≡ 4352 → ((i : ℕ) → field u i SINGLESTEP ≤ 1) → ((i : ℕ) → field u i AWAITED ≡ 0 → field u i AWAITED-SEQ ≡ 0)
+  pub vcpus-kept : (u : List ℕ) → length u ≡ vcpuWordCount → ((i : ℕ) → field u i SINGLESTEP ≤ 1) → ((i : ℕ) → field u i AWAITED ≡ 0 → field u i AWAITED-SEQ ≡ 0)
       → ((i k : ℕ) → 6 ≤ k → k < 16 → field u i k ≡ 0) → ((j : ℕ) → n * 272 ≤ j → getD u j 0 ≡ 0) → WordsGood (withVcpuWords st u)
   vcpus-kept u long flag waits spare past =
       record {

@@ -10,6 +10,8 @@ use Rattle.session.specs.State.{State, state}
 use Rattle.session.specs.Calls.{Told, freshOf, readyOf}
 use Rattle.message.specs.Message.{messageOf}
 use Rattle.wire.specs.Bytes.{store}
+use Rattle.store.specs.Words.{vcpuWordCount}
+use Rattle.page_words.specs.PageWords.{pageWordCount}
 use Rattle.stream.specs.declared.Line.{Line}
 use Rattle.stream.specs.declared.End.{End}
 use Rattle.stream.specs.declared.End.the-variants.{Open, Closed, Long}
@@ -137,4 +139,4 @@ runOf (suc k) index st out guest input =
 -- of a whole input, of which each turn but the last takes a byte at least; the output has room for every answer, and there are "4 zero pages"
 unfoldable pub printedOf : List ℕ → List ℕ
 printedOf input =
-    runOf (length input + 1) 0 (startOf (replicate 4352 0) (replicate 1024 0)) (replicate 4112 0) (replicate 16384 0) input
+    runOf (length input + 1) 0 (startOf (replicate vcpuWordCount 0) (replicate pageWordCount 0)) (replicate 4112 0) (replicate 16384 0) input

@@ -11,9 +11,10 @@ use Rattle.kvmi.specs.Mode.{modeOfNumber}
 use Rattle.kvmi.specs.Tables.{Tables}
 use Rattle.kvmi.specs.Model.{Awaited, awaiting, Model}
 use Rattle.kvmi.specs.Valid.{Valid}
-use Rattle.store.specs.Words.{field, SINGLESTEP, AWAITED, AWAITED-SEQ}
+use Rattle.store.specs.Words.{field, SINGLESTEP, AWAITED, AWAITED-SEQ, vcpuWordCount}
 use Rattle.store.specs.Meaning.{msrsOf, vcpusOf}
 use Rattle.page_words.specs.Meaning.{pagesOf, PagesGood}
+use Rattle.page_words.specs.PageWords.{pageWordCount}
 use Rattle.session.specs.State.{State}
 
 -- the event that a vCPU awaits a reply to; 0 stands for none
@@ -46,8 +47,8 @@ modelOf st =
 
 -- words that are determined by the model that they stand for
 pub record WordsGood (st : State) : Type 0 where
-  pub vcpuWords : length (st .vcpus) ≡ 4352
-  pub pageWords : length (st .pages) ≡ 1024
+  pub vcpuWords : length (st .vcpus) ≡ vcpuWordCount
+  pub pageWords : length (st .pages) ≡ pageWordCount
   pub closed : st .session .tool .closed ≤ 1
   pub mode : st .session .tool .mode ≤ 2
   pub ready : st .session .shared .ready < 2 ^ st .session .settings .vcpus
