@@ -13,17 +13,17 @@ enum-told c = search needs
 enum-known-signal : tie.Need-enum-known-signal
 enum-known-signal c = search needs
 
-cast-t13 : tie.Need-cast-t13
-cast-t13 c = search needs
-
 cast-t14 : tie.Need-cast-t14
 cast-t14 c = search needs
+
+cast-t15 : tie.Need-cast-t15
+cast-t15 c = search needs
 
 enum-known-signal-2 : tie.Need-enum-known-signal-2
 enum-known-signal-2 c = search needs
 
-cast-t16 : tie.Need-cast-t16
-cast-t16 c = search needs
+cast-t17 : tie.Need-cast-t17
+cast-t17 c = search needs
 
 enum-told-2 : tie.Need-enum-told-2
 enum-told-2 c = search needs
@@ -134,10 +134,10 @@ put-result-spec =
     enum-known-a
     enum-told
     enum-known-signal
-    cast-t13
     cast-t14
+    cast-t15
     enum-known-signal-2
-    cast-t16
+    cast-t17
     enum-told-2
     put-plain-requires
     enum-told-3
