@@ -30,7 +30,8 @@ use Rattle.session.specs.State.{State, freshTool, freshSession, withToolEvents}
 use Rattle.session.specs.Calls.{Told}
 use Rattle.session.specs.Meaning.{awaitedOf, tablesOf, modelOf, WordsGood, WellFormed}
 use Rattle.image_writer.specs.Write.{statedVcpus, statedTables, imageOf}
-use Rattle.image_reader.specs.Read.{vcpusLoaded, msrsLoaded, readyLoaded, pagesLoaded, loadedSession, loadedState}
+use Rattle.image_test.specs.Test.{readyLoaded}
+use Rattle.image_reader.specs.Read.{vcpusLoaded, msrsLoaded, pagesLoaded, loadedSession, loadedState}
 use Rattle.laws.proofs.Bool.{test}
 use Rattle.laws.proofs.Valid.{vm-few}
 use Rattle.laws.proofs.Same.{count-is, vcpu-ext}

@@ -22,7 +22,8 @@ use Rattle.store.specs.Words.{field, setField, setMsrBit, msrWord, msrSlot, cle
 use Rattle.page_words.specs.PageWords.{wordKey, pageWordCount}
 use Rattle.store.specs.Meaning.{msrsOf, vcpuOfWords, vcpusOf}
 use Rattle.page_words.specs.Meaning.{pageOfWord, pagesOf, goodWord, PagesGood}
-use Rattle.image_reader.specs.Read.{vcpuLoaded, vcpusLoaded, msrsLoaded, readyLoaded, pageWord, pagesLoaded}
+use Rattle.image_test.specs.Test.{readyLoaded}
+use Rattle.image_reader.specs.Read.{vcpuLoaded, vcpusLoaded, msrsLoaded, pageWord, pagesLoaded}
 use Rattle.laws.proofs.Bool.{and-l, and-r, and-i, every-head, every-tail, test, length-snoc}
 use Rattle.laws.proofs.Bits.{on-put, on-put-other, put-below, on-none}
 use Rattle.laws.proofs.Ascending.{Side, below, level, over, side, above, above-snoc, rising-snoc, rising-low, rising-rest, rising-cons, put-cases}

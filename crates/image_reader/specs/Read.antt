@@ -6,7 +6,7 @@ use lib.ListN.{length, set}
 use Rattle.kvmi.specs.declared.Settings.{Settings}
 use Rattle.kvmi.specs.declared.Signal.the-variants.{Quiet}
 use Rattle.kvmi.specs.Answer.{Paper, handled, plain, plainAt}
-use Rattle.kvmi.specs.Bits.{bit, putBit}
+use Rattle.kvmi.specs.Bits.{bit}
 use Rattle.kvmi.specs.Settings.{inRange}
 use Rattle.kvmi.specs.Tables.{Vcpu, Msr, Page, Tables}
 use Rattle.kvmi.specs.Image.{Loaded, loaded, badForm, forbidden, loadImage}
@@ -14,6 +14,7 @@ use Rattle.store.specs.Words.{setField, setMsrBit, cleared, SINGLESTEP, CRS, EV
 use Rattle.session.specs.declared.Session.{Session}
 use Rattle.session.specs.State.{State, state, closedSession}
 use Rattle.session.specs.Calls.{Told}
+use Rattle.image_test.specs.Test.{readyLoaded}
 
 -- ---- the words that tables are loaded as
 -- a vCPU's plain fields
@@ -29,11 +30,6 @@ vcpusLoaded w i (v ∷ vs) = vcpusLoaded (vcpuLoaded w i v) (suc i) vs
 unfoldable pub msrsLoaded : List ℕ → List Msr → List ℕ
 msrsLoaded w [] = w
 msrsLoaded w (m ∷ ms) = msrsLoaded (setMsrBit w (m .vcpu) (m .msr) true) ms
-
--- the ready marks, of the vCPUs from i on
-unfoldable pub readyLoaded : ℕ → ℕ → List Vcpu → ℕ
-readyLoaded r i [] = r
-readyLoaded r i (v ∷ vs) = readyLoaded (putBit r i (v .ready)) (suc i) vs
 
 -- a page's word
 unfoldable pub pageWord : Page → ℕ

@@ -1,8 +1,6 @@
 // The image reader: one pass tests every record and changes nothing, and one loads what an accepted image states.
 use image_form::Mark;
 use image_step::Outcome;
-use image_step::Progress;
-use image_step::Step;
 use kvmi::Answer;
 use kvmi::Settings;
 use page_words::PageWords;
@@ -26,42 +24,9 @@ ghost use mathlib.Core.List.{[]};
 ghost use Rattle.session.specs.Calls.{told};
 ghost use Rattle.image_reader.specs.Load.{openedSession, sizeBy, pageBy, wordOf, vcpusBy, pagesBy};
 ghost use Rattle.image_form.specs.Form.{markAt, rowAt};
-ghost use Rattle.image_reader.specs.Test.{outcome, Rest};
 
 // How many pages a view has, 2^52.
 const PAGES: u64 = 4503599627370496;
-
-// The test of the records from one on.
-fn test_rest(s: Settings, l: &[u8], first: Progress) -> Outcome
-    requires { ⌜ Rest s (now l) first 1 (outcome (loadImage s (now l))) ⌝ }
-    ensures { λ r. ⌜ r ≡ outcome (loadImage s (now (l .entry))) ⌝ }
-{
-    let mut p = first;
-    let mut records: usize = 1;
-    loop {
-        let step = image_step::next_step(s, l, p, records);
-        match step {
-            Step::Stop { outcome } => {
-                return outcome;
-            }
-            Step::Next { progress } => {
-                p = progress;
-                records += 1;
-            }
-        }
-    }
-}
-
-// The test of a whole image.
-fn test(s: Settings, l: &[u8]) -> Outcome
-    ensures { λ r. ⌜ r ≡ outcome (loadImage s (now (l .entry))) ⌝ }
-{
-    let first = image_step::first_step(s, l);
-    match first {
-        Step::Stop { outcome } => outcome,
-        Step::Next { progress } => test_rest(s, l, progress),
-    }
-}
 
 // The bytes of a record that loads words.
 fn size_of(mark: Mark) -> usize
@@ -211,7 +176,7 @@ pub fn read_image(
             session: Session::shut(settings),
         };
     }
-    let tested = test(settings, l);
+    let tested = image_test::test(settings, l);
     match tested {
         Outcome::BadForm { offset } => Done {
             answer: Answer::BadForm { offset },

@@ -5,10 +5,10 @@ use native.Mathlib.Omega.{arith}
 use denote.Ref.{now}
 use borrow.Author.Needs.{needs}
 use Rattle.kvmi.specs.Image.{loadImage}
-use Rattle.image_reader.specs.Test.{outcome, Rest}
-use Rattle.image_reader.proofs.Steps.{next-goes, stopped, went}
-use Rattle.image_reader.proofs.test_rest.Statement.{statement}
-use Rattle.image_reader.proofs.test_rest.Tie as tie
+use Rattle.image_test.specs.Test.{outcome, Rest}
+use Rattle.image_test.proofs.Steps.{next-goes, stopped, went}
+use Rattle.image_test.proofs.test_rest.Statement.{statement}
+use Rattle.image_test.proofs.test_rest.Tie as tie
 
 abbrev Inv-loop : tie.InvT-loop
 Inv-loop s l p₀ records₀ p records = Rest s l p records (outcome (loadImage s l))

@@ -1,11 +1,11 @@
 -- By the first record. Assumes nothing.
 use denote.Ref.{now}
 use Rattle.kvmi.specs.Image.{loadImage}
-use Rattle.image_reader.specs.Test.{outcome}
-use Rattle.image_reader.proofs.Steps.{first-goes, stopped, went}
+use Rattle.image_test.specs.Test.{outcome}
+use Rattle.image_test.proofs.Steps.{first-goes, stopped, went}
 use borrow.Author.Needs.{needs}
-use Rattle.image_reader.proofs.test.Statement.{statement}
-use Rattle.image_reader.proofs.test.Tie as tie
+use Rattle.image_test.proofs.test.Statement.{statement}
+use Rattle.image_test.proofs.test.Tie as tie
 
 first-step-requires : tie.Need-first-step-requires
 first-step-requires c κs = search needs

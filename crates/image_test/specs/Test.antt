@@ -1,18 +1,23 @@
 -- The test of all of an image: what it says, and what stands before each of its records.
 use mathlib.Core.Path.{_≡_}
 use Prim.Native.Nat.{ℕ, suc, _≤_}
-use mathlib.Core.List.{List}
+use mathlib.Core.List.{List, [], _∷_}
 use lib.ListN.{length, drop}
 use Rattle.kvmi.specs.declared.Settings.{Settings}
+use Rattle.kvmi.specs.Bits.{putBit}
 use Rattle.kvmi.specs.Record.{Rec, place, parse}
-use Rattle.kvmi.specs.Tables.{Tables}
+use Rattle.kvmi.specs.Tables.{Vcpu, Tables}
 use Rattle.kvmi.specs.Image.{recordCount, Loaded, loaded, badForm, forbidden, loadRest}
 use Rattle.image_step.specs.declared.Progress.{Progress}
 use Rattle.image_step.specs.declared.Outcome.{Outcome}
 use Rattle.image_step.specs.declared.Outcome.the-variants.{Accepted, BadForm, Forbidden}
-use Rattle.image_reader.specs.Read.{readyLoaded}
 
 -- ---- all of an image
+-- the ready marks, of the vCPUs from i on
+unfoldable pub readyLoaded : ℕ → ℕ → List Vcpu → ℕ
+readyLoaded r i [] = r
+readyLoaded r i (v ∷ vs) = readyLoaded (putBit r i (v .ready)) (suc i) vs
+
 unfoldable pub outcome : Loaded → Outcome
 outcome (loaded t) = Accepted (t .events) (length (t .pages)) (readyLoaded 0 0 (t .vcpus))
 outcome (badForm off) = BadForm off

@@ -31,8 +31,7 @@ use Rattle.image_step.specs.declared.Outcome.{Outcome}
 use Rattle.image_step.specs.declared.Step.{Step}
 use Rattle.image_step.specs.declared.Step.the-variants.{Next, Stop}
 use Rattle.image_step.specs.Step.{judgeStep, isAfter, firstProgress, pastVc, pastMs, pastPa, vmStep, vcStep, msStep, paStep, endStep, enStep, stepBy, stepOf, firstBy}
-use Rattle.image_reader.specs.Read.{readyLoaded}
-use Rattle.image_reader.specs.Test.{outcome, Stands, recordsAt, Rest}
+use Rattle.image_test.specs.Test.{readyLoaded, outcome, Stands, recordsAt, Rest}
 
 -- ---- the numbers of a record
 pub row-there : (k : Kind) (l : List ℕ) (at : ℕ) → at + size k ≤ length l → readRow (2 ∷ widths k) (drop at l) .1 ≡ rowAt k l at
