@@ -21,13 +21,13 @@ use Rattle.kvmi.specs.Answer.{handled, plainAt}
 use Rattle.session.specs.State.{state}
 use Rattle.session.specs.Calls.{Told}
 use Rattle.image_step.specs.declared.Outcome.the-variants.{Accepted, BadForm, Forbidden}
-use Rattle.image_reader.specs.Read.{vcpuLoaded, vcpusLoaded, msrsLoaded, pageWord, pagesLoaded, loadedState, toldRefused, toldLoaded}
+use Rattle.image_reader.specs.Read.{vcpuLoaded, vcpusLoaded, msrsLoaded, pageWord, pagesLoaded, loadedState, toldRefused, toldLoaded, openedSession}
 use Rattle.image_form.specs.declared.Mark.{Mark}
 use Rattle.image_form.specs.declared.Mark.the-variants.{Vm, Vc, Ms, Pa, En, Cut}
 use Rattle.image_form.specs.Form.{markAt, rowAt}
 use Rattle.image_form.proofs.Forms.{mark-cut, mark-room}
 use Rattle.image_test.specs.Test.{readyLoaded, recordsAt, outcome}
-use Rattle.image_reader.specs.Load.{sizeBy, pageBy, wordOf, vcpusBy, pagesBy, openedSession}
+use Rattle.image_reader.specs.Load.{sizeBy, pageBy, wordOf, vcpusBy, pagesBy}
 use Rattle.image_test.proofs.Steps.{rest-whole, cut-none, first-none}
 
 -- ---- one element more

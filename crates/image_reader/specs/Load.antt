@@ -5,8 +5,6 @@ use mathlib.Core.Bool.{true}
 use lib.ListN.{set}
 use Rattle.kvmi.specs.Record.{VC, MS, PA}
 use Rattle.kvmi.specs.Image.{vcpuOfRow}
-use Rattle.kvmi.specs.declared.Settings.{Settings}
-use Rattle.session.specs.declared.Session.{Session}
 use Rattle.store.specs.Words.{setMsrBit}
 use Rattle.image_form.specs.Form.{rowAt}
 use Rattle.image_reader.specs.Read.{vcpuLoaded}
@@ -48,6 +46,3 @@ pagesBy Ms l at i w = w
 pagesBy Pa l at i w = set w i (wordOf (rowAt PA l at .0) (rowAt PA l at .1 .1 .1 .0) (rowAt PA l at .1 .0))
 pagesBy En l at i w = w
 pagesBy Cut l at i w = w
-
-abbrev pub openedSession : Settings → ℕ → ℕ → ℕ → Session
-openedSession s events pages ready = record { settings = s; tool = record { events = events; pages = pages; closed = 0; mode = 0; seq = 0 }; shared = record { ready = ready } }

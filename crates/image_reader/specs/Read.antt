@@ -12,7 +12,7 @@ use Rattle.kvmi.specs.Tables.{Vcpu, Msr, Page, Tables}
 use Rattle.kvmi.specs.Image.{Loaded, loaded, badForm, forbidden, loadImage}
 use Rattle.store.specs.Words.{setField, setMsrBit, cleared, SINGLESTEP, CRS, EVENTS, PAUSES}
 use Rattle.session.specs.declared.Session.{Session}
-use Rattle.session.specs.State.{State, state, closedSession}
+use Rattle.session.specs.State.{State, state, freshSession, closedSession, withTool, withToolEvents, withToolPages, withReadyBits}
 use Rattle.session.specs.Calls.{Told}
 use Rattle.image_test.specs.Test.{readyLoaded}
 
@@ -40,14 +40,13 @@ unfoldable pub pagesLoaded : List ℕ → ℕ → List Page → List ℕ
 pagesLoaded ws i [] = ws
 pagesLoaded ws i (p ∷ ps) = pagesLoaded (set ws i (pageWord p)) (suc i) ps
 
+-- open, with VM event switches, a number of pages and ready marks
+abbrev pub openedSession : Settings → ℕ → ℕ → ℕ → Session
+openedSession s events pages ready = withReadyBits (withTool (freshSession s) (withToolPages (withToolEvents (freshSession s .tool) events) pages)) ready
+
 -- "Loaded sessions have replies on, seq 0."
 abbrev pub loadedSession : Settings → Tables → Session
-loadedSession s t =
-    record {
-      settings = s;
-      tool = record { events = t .events; pages = length (t .pages); closed = 0; mode = 0; seq = 0 };
-      shared = record { ready = readyLoaded 0 0 (t .vcpus) };
-    }
+loadedSession s t = openedSession s (t .events) (length (t .pages)) (readyLoaded 0 0 (t .vcpus))
 
 -- on words that are cleared first
 unfoldable pub loadedState : Settings → Tables → List ℕ → List ℕ → State

@@ -19,10 +19,10 @@ ghost use Rattle.kvmi.specs.Tables.{Tables};
 ghost use Rattle.kvmi.specs.Image.{vcpuOfRow, loadImage, loaded};
 ghost use Rattle.kvmi.specs.declared.Settings.{Settings};
 ghost use Rattle.store.specs.Words.{setMsrBit};
-ghost use Rattle.image_reader.specs.Read.{vcpuLoaded, vcpusLoaded, msrsLoaded, pagesLoaded, readOf};
+ghost use Rattle.image_reader.specs.Read.{vcpuLoaded, vcpusLoaded, msrsLoaded, pagesLoaded, readOf, openedSession};
 ghost use mathlib.Core.List.{[]};
 ghost use Rattle.session.specs.Calls.{told};
-ghost use Rattle.image_reader.specs.Load.{openedSession, sizeBy, pageBy, wordOf, vcpusBy, pagesBy};
+ghost use Rattle.image_reader.specs.Load.{sizeBy, pageBy, wordOf, vcpusBy, pagesBy};
 ghost use Rattle.image_form.specs.Form.{markAt, rowAt};
 
 // How many pages a view has, 2^52.
