@@ -1,12 +1,13 @@
 //! The proved filter against the plain implementation of document 01.
 //!
-//! SEMBLURICK_SEED fixes a run; SEMBLURICK_REPLAY names a file of calls to be made again.
+//! A run is fixed by its seed, SEED or the number in SEMBLURICK_SEED; SEMBLURICK_REPLAY names a file of calls to be made again.
 
 use differential::drive::{drive, Quota};
 use differential::{parse, run, Plain, Proved, Runner};
 use std::io::Write;
-use std::time::{Instant, SystemTime, UNIX_EPOCH};
+use std::time::Instant;
 
+const SEED: u64 = 1;
 /// The least that a run does.
 const MESSAGES: u64 = 3_000_000;
 const IMAGES: u64 = 300_000;
@@ -22,7 +23,19 @@ fn say(text: &str) {
 fn seed() -> u64 {
     match std::env::var("SEMBLURICK_SEED") {
         Ok(text) => text.trim().parse().expect("SEMBLURICK_SEED is a number"),
-        Err(_) => SystemTime::now().duration_since(UNIX_EPOCH).expect("a clock").as_nanos() as u64,
+        Err(_) => SEED,
+    }
+}
+
+/// Where the run fails, in whatever way, says how to make it again.
+struct Again(u64);
+
+impl Drop for Again {
+    fn drop(&mut self) {
+        if std::thread::panicking() {
+            let test = "cargo test --release --offline -p differential --test differential both_sides_agree";
+            eprintln!("\nTo run this again, in the repository's folder:\n    (cd rust && SEMBLURICK_SEED={} {test})", self.0);
+        }
     }
 }
 
@@ -30,6 +43,7 @@ fn seed() -> u64 {
 fn both_sides_agree() {
     let seed = seed();
     say(&format!("differential: seed {seed} (SEMBLURICK_SEED={seed})"));
+    let _again = Again(seed);
     let begun = Instant::now();
     let quota = Quota { messages: MESSAGES.div_ceil(WORKERS), images: IMAGES.div_ceil(WORKERS) };
     let counts = drive::<Proved, Plain>(seed, WORKERS, quota)
