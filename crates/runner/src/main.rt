@@ -60,11 +60,20 @@ fn read_message(msg: &mut [u8]) -> usize
     read_part(msg, head, whole)
 }
 
+// Writes a line, and answers whether it could be written: where not, that is told.
+fn print(text: &[u8]) -> bool {
+    if io::write_all(STDOUT_FILENO, text) {
+        return true;
+    }
+    io::write_all(STDERR_FILENO, b"write error\n");
+    false
+}
+
 // The last line.
 fn print_end(end: End) {
     let mut text = [0u8; 128];
     let n = line_text::put_end(&mut text, end);
-    io::write_all(STDOUT_FILENO, &text[..n]);
+    print(&text[..n]);
 }
 
 // Reads the next message, passes it on and prints its line.
@@ -85,7 +94,7 @@ fn take_turn(
     let count = turned.count;
     let session = turned.session;
     let next = turned.next;
-    if !io::write_all(STDOUT_FILENO, &text[..count]) {
+    if !print(&text[..count]) {
         return Turn::Mute;
     }
     match next {
@@ -119,7 +128,6 @@ fn serve(
                 return;
             }
             Turn::Mute => {
-                io::write_all(STDERR_FILENO, b"write error\n");
                 return;
             }
         }

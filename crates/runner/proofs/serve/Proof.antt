@@ -7,11 +7,11 @@ use Rattle.runner.proofs.serve.Statement.{statement}
 use Rattle.runner.proofs.serve.Tie as tie
 
 abbrev Inv-loop : tie.InvT-loop
-Inv-loop vcpus₀ pages₀ msg₀ out₀ guest₀ s₀ index₀ t12 vcpus pages msg out guest s index =
+Inv-loop vcpus₀ pages₀ msg₀ out₀ guest₀ s₀ index₀ vcpus pages msg out guest s index =
     (length msg ≡ length msg₀) × (length out ≡ length out₀) × (length guest ≡ length guest₀)
 
 abbrev μ-loop : tie.MeasureT-loop
-μ-loop vcpus₀ pages₀ msg₀ out₀ guest₀ s₀ index₀ t12 vcpus pages msg out guest s index = 18446744073709551615 - index
+μ-loop vcpus₀ pages₀ msg₀ out₀ guest₀ s₀ index₀ vcpus pages msg out guest s index = 18446744073709551615 - index
 
 loop-holds : tie.Need-loop-holds Inv-loop μ-loop
 loop-holds c = search needs
@@ -42,12 +42,6 @@ returns c = search needs
 
 enum-told : tie.Need-enum-told Inv-loop μ-loop
 enum-told c = search needs
-
-slice-aggregate-write-all : tie.Need-slice-aggregate-write-all Inv-loop μ-loop
-slice-aggregate-write-all c = search needs
-
-write-all-requires : tie.Need-write-all-requires Inv-loop μ-loop
-write-all-requires c κs = search needs
 
 same-length-4 : tie.Need-same-length-4 Inv-loop μ-loop
 same-length-4 c = search needs
@@ -101,8 +95,6 @@ serve-spec =
     same-length-3
     returns
     enum-told
-    slice-aggregate-write-all
-    write-all-requires
     same-length-4
     same-length-5
     same-length-6
