@@ -1,32 +1,22 @@
--- Laws of the image writer: the image is the bytes of its parts, switches are found along one row of places, and records are stored one behind
--- the other. Assumes nothing.
+-- Laws of the image writer: the image is the bytes of its parts, each stored at its place. Assumes nothing.
 use mathlib.Core.Path.{_≡_, refl, sym, ap, _∙_}
-use mathlib.Core.Logic.{⊎-elim}
 use mathlib.Core.List.{List, [], _∷_, _++_, map, append-assoc, append-nil}
-use mathlib.Core.Bool.{true, false}
-use Prim.Native.Nat.{ℕ, zero, suc, _+_, _-_, _*_, _/_, _%_, _^_, _≤_, _<_, min}
-use native.Mathlib.Nat.{add-zero, zero-add, add-suc, suc-add, pow-suc, pow-succ', div-one, div-div-eq-div-mul}
+use Prim.Native.Nat.{ℕ, zero, suc, _+_, _-_, _*_, _≤_, _<_, min}
 use native.Mathlib.Numerals.{add-one}
 use native.Mathlib.Omega.{arith}
-use lib.Dec.{eqb}
-use lib.ListN.{length, getD, take, drop, length-append, length-take, length-drop, length-map}
-use lib.Bits.{bitOr, and-le-l, and-le-r, or-add-and}
-use lib.Count.{ones, onesIn, ones-step, trailingZeros, under}
-use lib.Seq.{drop-cons, drop-drop, drop-length, getD-take}
-use borrow.Author.Tests.{eqb-true, eqb-false}
+use lib.ListN.{length, getD, take, drop, length-append, length-take, length-drop, length-map, take-append-drop}
+use lib.Seq.{drop-cons, getD-take, take-append-le, drop-append-le, length-take-le}
 use Rattle.wire.specs.Bytes.{store}
-use Rattle.wire.proofs.Laws.{le-or-lt, length-store, store-join, store-none, store-start, store-whole}
-use Rattle.kvmi.specs.Bits.{bitOf, isOn}
-use Rattle.kvmi.specs.Record.{VM, VC, MS, PA, EN, Rec, write, writeAll}
+use Rattle.wire.proofs.Laws.{length-store, store-join, store-past, store-start, store-whole, drop-stored}
+use Rattle.kvmi.specs.Record.{VM, VC, PA, EN, Rec, write, writeAll}
 use Rattle.kvmi.specs.Tables.{Vcpu, Msr, Page, Tables}
 use Rattle.kvmi.specs.Image.{vmRecord, vcRecord, msRecord, paRecord, enRecord, vcRecords, onto, recordCount, image}
-use Rattle.laws.proofs.Bool.{test}
-use Rattle.laws.proofs.Bits.{on-none}
 use Rattle.laws.proofs.Record.{length-write}
-use Rattle.store.specs.Words.{field}
-use Rattle.store.specs.Meaning.{switchesOn, msrsOf, vcpuOfWords, vcpusOf}
+use Rattle.store.specs.Meaning.{msrsOf, vcpuOfWords, vcpusOf}
 use Rattle.page_words.specs.Meaning.{pageOfWord, pagesOf}
-use Rattle.image_bytes.specs.Parts.{vcBytes, msBytes, paBytes, switchAt, msrOfPlace, switchesFrom, bitsFrom, Blank, Put, tables, statedOf}
+use Rattle.image_msrs.specs.Switches.{msBytes}
+use Rattle.image_msrs.proofs.Switches.{length-ms}
+use Rattle.image_bytes.specs.Parts.{vcBytes, paBytes, frontBytes, backBytes, tables, statedOf}
 
 -- ---- an image is its parts
 vc-onto : (i : ℕ) (vs : List Vcpu) (rs : List Rec) → writeAll (vcRecords i vs rs) ≡ vcBytes i vs ++ writeAll rs
@@ -53,11 +43,6 @@ unfolding vcBytes
 length-vc i [] = refl
 length-vc i (v ∷ vs) = rw (length-append, length-write VC, length-vc (suc i) vs) (omega arith)
 
-pub length-ms : (ms : List Msr) → length (msBytes ms) ≡ 8 * length ms
-unfolding msBytes
-length-ms [] = refl
-length-ms (m ∷ ms) = rw (length-append, length-write MS, length-ms ms) (omega arith)
-
 pub length-pa : (ps : List Page) → length (paBytes ps) ≡ 14 * length ps
 unfolding paBytes
 length-pa [] = refl
@@ -66,207 +51,6 @@ length-pa (p ∷ ps) = rw (length-append, length-write PA, length-pa ps) (omega 
 pub length-image : (t : Tables) → length (image t) ≡ 14 + 10 * length (t .vcpus) + 8 * length (t .msrs) + 14 * length (t .pages)
 length-image t =
     rw image-parts (simp (length-append, length-vc, length-ms, length-pa, length-write VM, length-write EN) (omega arith))
-
--- ---- switches along one row of places
-module _ (w : List ℕ) where
-  -- those of one vCPU
-  from-vcpu : (v slot m k : ℕ) → slot + m ≤ 16384 → switchesOn w v slot m (switchesFrom w (v * 16384 + (slot + m)) k) ≡ switchesFrom w (v * 16384 + slot) (m + k)
-  unfolding switchesOn switchesFrom switchAt msrOfPlace field
-  from-vcpu v slot zero k h = rw (add-zero, zero-add)
-  from-vcpu v slot (suc m) k h =
-      let vcpu : (v * 16384 + slot) / 16384 ≡ v = omega arith in
-      let place : (v * 16384 + slot) % 16384 ≡ slot = omega arith in
-      let next : slot + suc m ≡ suc slot + m = omega arith in
-      let word : v * 272 + 16 + slot / 64 ≡ v * 272 + (16 + slot / 64) = omega arith in
-      rw (suc-add, vcpu, place, word, next, from-vcpu v (suc slot) m k (omega arith), add-suc (v * 16384) slot)
-
-  from-nil : (g : ℕ) → switchesFrom w g 0 ≡ []
-  unfolding switchesFrom
-  from-nil g = refl
-
-  pub msrs-from : (v n : ℕ) → msrsOf w v n ≡ switchesFrom w (v * 16384) (n * 16384)
-  unfolding msrsOf
-  msrs-from v zero = sym (from-nil (v * 16384))
-  msrs-from v (suc n) =
-      let next : suc v * 16384 ≡ v * 16384 + (0 + 16384) = omega arith in
-      let all : suc n * 16384 ≡ 16384 + n * 16384 = omega arith in
-      rw (msrs-from (suc v) n, next, from-vcpu v 0 16384 (n * 16384) (omega arith), add-zero, all)
-
-  -- places that are off are skipped
-  from-off : (g m n : ℕ) → ((k : ℕ) → g ≤ k → k < g + m → switchAt w k ≡ false) → switchesFrom w g (m + n) ≡ switchesFrom w (g + m) n
-  unfolding switchesFrom
-  from-off g zero n off = rw (zero-add, add-zero)
-  from-off g (suc m) n off =
-      let next : g + suc m ≡ suc g + m = omega arith in
-      rw (suc-add, off g (omega arith) (omega arith), next) (from-off (suc g) m n (λ k a b. off k (omega arith) (omega arith)))
-
-  -- a row is its parts
-  from-split : (g m n : ℕ) → switchesFrom w g (m + n) ≡ switchesFrom w g m ++ switchesFrom w (g + m) n
-  unfolding switchesFrom
-  from-split g zero n = rw (zero-add, add-zero)
-  from-split g (suc m) n =
-      let next : g + suc m ≡ suc g + m = omega arith in
-      rw (suc-add, next) (test (switchAt w g) (λ e. rw (e, from-split (suc g) m n)) (λ e. rw (e, from-split (suc g) m n)))
-
-  -- the places of a word, from its bit k on
-  from-word : (v j k m : ℕ) → j < 256 → k + m ≤ 64
-      → switchesFrom w (v * 16384 + j * 64 + k) m ≡ bitsFrom (getD w (v * 272 + (16 + j)) 0 / 2 ^ k) (v * 16384 + j * 64 + k) m
-  unfolding switchesFrom bitsFrom switchAt field isOn bitOf
-  from-word v j k zero h g = refl
-  from-word v j k (suc m) h g =
-      let vcpu : (v * 16384 + j * 64 + k) / 16384 ≡ v = omega arith in
-      let word : (v * 16384 + j * 64 + k) % 16384 / 64 ≡ j = omega arith in
-      let place : (v * 16384 + j * 64 + k) % 16384 % 64 ≡ k = omega arith in
-      let rest = from-word v j (suc k) m h (omega arith) in
-      rw (vcpu, word, place, div-div-eq-div-mul, ← pow-suc, ← add-suc (v * 16384 + j * 64) k, rest)
-
-  pub from-bound : (g n : ℕ) → length (switchesFrom w g n) ≤ n
-  unfolding switchesFrom
-  from-bound g zero = omega arith
-  from-bound g (suc n) = let more = from-bound (suc g) n in test (switchAt w g) (λ e. rw e (omega arith)) (λ e. rw e (omega arith))
-
--- ---- words that are 0
-pub blank-none : (w : List ℕ) (i : ℕ) → Blank w i i
-blank-none w i = record { zeros = λ j a b. absurd (omega arith) }
-
-pub blank-join : (w : List ℕ) (i j k : ℕ) → Blank w i j → Blank w j k → Blank w i k
-blank-join w i j k f g = record { zeros = λ m a b. ⊎-elim (λ h. g .zeros m h b) (λ h. f .zeros m a h) (le-or-lt j m) }
-
-pub blank-one : (w : List ℕ) (i : ℕ) → getD w i 0 ≡ 0 → Blank w i (i + 1)
-blank-one w i e = record { zeros = λ j a b. let same : j ≡ i = omega arith in rw same e }
-
--- and the next
-blank-next : (w : List ℕ) (i j k : ℕ) → Blank w i j → getD w j 0 ≡ 0 → k ≡ j + 1 → Blank w i k
-blank-next w i j k f e h = rw h (blank-join w i j (j + 1) f (blank-one w j e))
-
-or-zero : (a b : ℕ) → bitOr a b ≡ 0 → (a ≡ 0) × (b ≡ 0)
-or-zero a b h =
-    (omega (arith, h, or-add-and a b, and-le-r a b), omega (arith, h, or-add-and a b, and-le-l a b))
-
-pub blank-four : (w : List ℕ) (i : ℕ) → bitOr (bitOr (bitOr (getD w i 0) (getD w (i + 1) 0)) (getD w (i + 2) 0)) (getD w (i + 3) 0) ≡ 0 → Blank w i (i + 4)
-blank-four w i h =
-    let p = or-zero _ (getD w (i + 3) 0) h in
-    let q = or-zero _ (getD w (i + 2) 0) (p .0) in
-    let r = or-zero (getD w i 0) (getD w (i + 1) 0) (q .0) in
-    let two = blank-next w i (i + 1) (i + 2) (blank-one w i (r .0)) (r .1) (omega arith) in
-    blank-next w i (i + 3) (i + 4) (blank-next w i (i + 2) (i + 3) two (q .1) (omega arith)) (p .1) (omega arith)
-
--- ---- what is left of a vCPU's switches, from word i on
-unfoldable pub restFrom : List ℕ → ℕ → ℕ → List Msr
-restFrom w v i = switchesFrom w (v * 16384 + (i - (v * 272 + 16)) * 64) ((v * 272 + 272 - i) * 64)
-
-module _ (w : List ℕ) (v : ℕ) where
-  pub rest-start : restFrom w v (v * 272 + 16) ≡ switchesFrom w (v * 16384) 16384
-  unfolding restFrom
-  rest-start =
-      let first : v * 16384 + (v * 272 + 16 - (v * 272 + 16)) * 64 ≡ v * 16384 = omega arith in
-      let all : (v * 272 + 272 - (v * 272 + 16)) * 64 ≡ 16384 = omega arith in
-      rw (first, all)
-
-  pub rest-none : (i : ℕ) → v * 272 + 272 ≤ i → restFrom w v i ≡ []
-  unfolding restFrom switchesFrom
-  rest-none i h = let e : (v * 272 + 272 - i) * 64 ≡ 0 = omega arith in rw e
-
-  -- words that are 0 have no switch that is on
-  pub rest-skip : (i r : ℕ) → v * 272 + 16 ≤ i → i ≤ r → r ≤ v * 272 + 272 → Blank w i r → restFrom w v i ≡ restFrom w v r
-  unfolding restFrom switchAt field
-  rest-skip i r h g l blank =
-      let many : (v * 272 + 272 - i) * 64 ≡ (r - i) * 64 + (v * 272 + 272 - r) * 64 = omega arith in
-      let next : v * 16384 + (r - (v * 272 + 16)) * 64 ≡ v * 16384 + (i - (v * 272 + 16)) * 64 + (r - i) * 64 = omega arith in
-      rw (many, next) (from-off w _ ((r - i) * 64) _ (λ k a b.
-      let vcpu : k / 16384 ≡ v = omega arith in
-      rw (vcpu, blank .zeros (v * 272 + (16 + k % 16384 / 64)) (omega arith) (omega arith)) (on-none (k % 16384 % 64))))
-
-  -- one word, and then the next
-  pub rest-word : (i : ℕ) → v * 272 + 16 ≤ i → i < v * 272 + 272
-      → restFrom w v i ≡ bitsFrom (getD w i 0) (v * 16384 + (i - (v * 272 + 16)) * 64) 64 ++ restFrom w v (i + 1)
-  unfolding restFrom
-  rest-word i h g =
-      let many : (v * 272 + 272 - i) * 64 ≡ 64 + (v * 272 + 272 - (i + 1)) * 64 = omega arith in
-      let next : v * 16384 + (i + 1 - (v * 272 + 16)) * 64 ≡ v * 16384 + (i - (v * 272 + 16)) * 64 + 64 = omega arith in
-      let word : v * 272 + (16 + (i - (v * 272 + 16))) ≡ i = omega arith in
-      let bits = from-word w v (i - (v * 272 + 16)) 0 64 (omega arith) (omega arith) in
-      rw (many, next, from-split w (v * 16384 + (i - (v * 272 + 16)) * 64) 64 ((v * 272 + 272 - (i + 1)) * 64)) (rw (add-zero, word, div-one) at (ap (λ (ms : List Msr). ms ++ switchesFrom w (v * 16384 + (i - (v * 272 + 16)) * 64 + 64) ((v * 272 + 272 - (i + 1)) * 64)) bits))
-
--- the first of the vCPUs that are left, and then the others
-pub vcpu-from : (w : List ℕ) (v n : ℕ) → v < n
-    → switchesFrom w (v * 16384) ((n - v) * 16384) ≡ switchesFrom w (v * 16384) 16384 ++ switchesFrom w ((v + 1) * 16384) ((n - (v + 1)) * 16384)
-vcpu-from w v n h =
-    let many : (n - v) * 16384 ≡ 16384 + (n - (v + 1)) * 16384 = omega arith in
-    let next : (v + 1) * 16384 ≡ v * 16384 + 16384 = omega arith in
-    rw (many, next) (from-split w (v * 16384) 16384 ((n - (v + 1)) * 16384))
-
-pub vcpus-none : (w : List ℕ) (v n : ℕ) → n ≤ v → switchesFrom w (v * 16384) ((n - v) * 16384) ≡ []
-unfolding switchesFrom
-vcpus-none w v n h = let e : (n - v) * 16384 ≡ 0 = omega arith in rw e
-
--- ---- the bits of a word
-pub bits-none : (g n : ℕ) → bitsFrom 0 g n ≡ []
-unfolding bitsFrom
-bits-none g zero = refl
-bits-none g (suc n) = bits-none (suc g) n
-
--- they are as many as its ones
-pub bits-count : (x g n : ℕ) → x < 2 ^ n → length (bitsFrom x g n) ≡ ones x
-unfolding bitsFrom ones onesIn
-bits-count x g zero h = let e : x ≡ 0 = omega arith in rw e
-bits-count x g (suc n) h =
-    let less : x / 2 < 2 ^ n = omega (arith, rw pow-suc at h) in
-    let rest = bits-count (x / 2) (suc g) n less in
-    let all = ones-step x in
-    test (eqb (x % 2) 1) (λ e. rw e (omega (arith, eqb-true (x % 2) 1 e))) (λ e. rw e (omega (arith, eqb-false (x % 2) 1 e)))
-
-pub rest-count : (w : List ℕ) (v i : ℕ) → v * 272 + 16 ≤ i → i < v * 272 + 272 → getD w i 0 < 2 ^ 64
-    → length (restFrom w v i) ≡ ones (getD w i 0) + length (restFrom w v (i + 1))
-rest-count w v i h g f = rw (rest-word w v i h g, length-append, bits-count (getD w i 0) (v * 16384 + (i - (v * 272 + 16)) * 64) 64 f)
-
--- the lowest of them, and what is left above it
-pub record Lowest (x g n k : ℕ) : Type 0 where
-  pub inside : k < n
-  pub first : bitsFrom x g n ≡ msrOfPlace (g + k) ∷ bitsFrom (x / 2 ^ k / 2) (g + (k + 1)) (n - (k + 1))
-  pub less : x / 2 ^ k / 2 < 2 ^ (n - (k + 1))
-
-pub lowest : (x g n m : ℕ) → (x ≡ 0 → ⊥) → x < 2 ^ n → n ≤ m → Lowest x g n (trailingZeros m x)
-unfolding bitsFrom trailingZeros
-lowest x g zero m d h l = absurd (d (omega arith))
-lowest x g (suc n) zero d h l = absurd (omega arith)
-lowest x g (suc n) (suc m) d h l = test (eqb (x % 2) 1) odd (even (λ q. lowest (x / 2) (suc g) n m q less (omega arith)))
-  where
-    less : x / 2 < 2 ^ n
-    less = omega (arith, rw pow-suc at h)
-
-    odd : eqb (x % 2) 1 ≡ true → Lowest x g (suc n) (under (x % 2) (trailingZeros m (x / 2)))
-    odd e =
-        let many : suc n - (0 + 1) ≡ n = omega arith in
-        rw (eqb-true (x % 2) 1 e) record { inside = omega arith; first = rw (e, many, add-zero, div-one, add-one); less = rw (many, div-one) less }
-
-    even : ((x / 2 ≡ 0 → ⊥) → Lowest (x / 2) (suc g) n (trailingZeros m (x / 2))) → eqb (x % 2) 1 ≡ false → Lowest x g (suc n) (under (x % 2) (trailingZeros m (x / 2)))
-    even rest e =
-        let zeroth : x % 2 ≡ 0 = omega (arith, eqb-false (x % 2) 1 e) in
-        let k = trailingZeros m (x / 2) in
-        let r = rest (λ z. d (omega arith)) in
-        let half : x / 2 ^ suc k ≡ x / 2 / 2 ^ k = rw (pow-succ', ← div-div-eq-div-mul) in
-        let place : g + suc k ≡ suc g + k = omega arith in
-        let next : g + (suc k + 1) ≡ suc g + (k + 1) = omega arith in
-        let many : suc n - (suc k + 1) ≡ n - (k + 1) = omega arith in
-        rw zeroth record { inside = omega (arith, r .inside); first = rw (e, half, place, next, many) (r .first); less = rw (half, many) (r .less) }
-
--- ---- the bytes of MS records
-pub ms-append : (a b : List Msr) → msBytes (a ++ b) ≡ msBytes a ++ msBytes b
-unfolding msBytes
-ms-append [] b = refl
-ms-append (m ∷ a) b = rw (ms-append a b, append-assoc)
-
-pub ms-nil : msBytes [] ≡ []
-unfolding msBytes
-ms-nil = refl
-
-pub ms-first : (m : Msr) (ms : List Msr) → msBytes (m ∷ ms) ≡ write (msRecord m) ++ msBytes ms
-unfolding msBytes
-ms-first m ms = refl
-
-pub ms-room : {x g n k : ℕ} → Lowest x g n k → 8 ≤ length (msBytes (bitsFrom x g n))
-ms-room low = rw (low .first, length-ms) (omega arith)
 
 pub vc-next : (ready : ℕ) (w : List ℕ) (i n : ℕ) → i < n
     → vcBytes i (vcpusOf ready w i (n - i)) ≡ write (vcRecord i (vcpuOfWords ready w i)) ++ vcBytes (i + 1) (vcpusOf ready w (i + 1) (n - (i + 1)))
@@ -313,79 +97,131 @@ pub pa-none : (ws : List ℕ) (used i : ℕ) → used ≤ length ws → used ≤
 unfolding paBytes
 pa-none ws used i g h = let e : length (pagesFrom ws used i) ≡ 0 = length-from ws used i g ∙ omega arith in rw (empty (pagesFrom ws used i) e)
 
--- ---- records one behind the other
--- `left` is still to be stored at p, and then what was s has b at `at`
-pub record Going (s : List ℕ) (at : ℕ) (b out : List ℕ) (p : ℕ) (left : List ℕ) : Type 0 where
-  pub kept : length out ≡ length s
-  pub room : p + length left ≤ length s
-  pub place : p + length left ≡ at + length b
-  pub there : store out p left ≡ store s at b
+-- ---- bytes side by side
+store-behind : (s : List ℕ) (at k : ℕ) (u v : List ℕ) → k ≡ at + length u → at + (length u + length v) ≤ length s → store (store s at u) k v ≡ store s at (u ++ v)
+store-behind s at k u v e h = rw e (store-join s at u v h)
 
-pub going-start : (s : List ℕ) (at : ℕ) (b : List ℕ) → at + length b ≤ length s → Going s at b s at b
-going-start s at b h = record { kept = refl; room = h; place = refl; there = refl }
+-- bytes stored into a part at the front that was lent
+store-left : (a b : List ℕ) (at : ℕ) (v : List ℕ) → at + length v ≤ length a → store a at v ++ b ≡ store (a ++ b) at v
+store-left a b at v h =
+    rw (
+      store-whole a at v h,
+      store-whole (a ++ b) at v (rw length-append (omega arith)),
+      take-append-le at a b (omega arith),
+      drop-append-le (at + length v) a b h,
+    )
+    (simp append-assoc)
 
-module _ {s : List ℕ} {at : ℕ} {b out : List ℕ} {p : ℕ} {left : List ℕ} where
-  pub going-step : (u v : List ℕ) {next : List ℕ} {q : ℕ} → Going s at b out p left → left ≡ u ++ v → next ≡ store out p u → q ≡ p + length u → Going s at b next q v
-  going-step u v {next} {q} g e f h =
-      let room : p + (length u + length v) ≤ length out = omega (arith, rw (e, length-append) at (g .room), g .kept) in
-      record {
-        kept = rw (f, length-store) (g .kept);
-        room = omega arith;
-        place = omega (arith, rw (e, length-append) at (g .place));
-        there = rw (f, h) (store-join out p u v room) ∙ ap (store out p) (sym e) ∙ g .there;
-      }
+store-lent : (s : List ℕ) (room at : ℕ) (v : List ℕ) → at + length v ≤ room → room ≤ length s → store (take room s) at v ++ drop room s ≡ store s at v
+store-lent s room at v h g =
+    let size : length (take room s) ≡ room = length-take-le room s g in
+    store-left (take room s) (drop room s) at v (omega arith) ∙ ap (λ (l : List ℕ). store l at v) (take-append-drop room s)
 
-  pub going-same : {v : List ℕ} {q : ℕ} → Going s at b out p left → left ≡ v → q ≡ p → Going s at b out q v
-  going-same g e f = record { kept = g .kept; room = rw (f, ← e) (g .room); place = rw (f, ← e) (g .place); there = rw (f, ← e) (g .there) }
-
-  pub going-end : Going s at b out p left → left ≡ [] → out ≡ store s at b
-  going-end g e = sym (store-none out p) ∙ ap (store out p) (sym e) ∙ g .there
-
-pub going-put : {s : List ℕ} {at : ℕ} {ms : List Msr} {out : List ℕ} {p : ℕ} {left : List ℕ} → Going s at (msBytes ms) out p left → left ≡ [] → Put s at ms out p
-going-put {ms = ms} g e = record { there = going-end g e; next = omega (arith, rw e at (g .place), length-ms ms) }
-
--- a part that was lent, with all of it written, is a store
-pub part-written : (s : List ℕ) (at k : ℕ) (b m : List ℕ) → m ≡ store (take (at + k - at) (drop at s)) 0 b → length b ≡ k → at + k ≤ length s
-    → take at s ++ (m ++ drop (at + k - at) (drop at s)) ≡ store s at b
-part-written s at k b m e h g =
-    let size : at + k - at ≡ length b = omega arith in
-    let all : length (take (length b) (drop at s)) ≡ length b = rw (length-take, length-drop) (omega arith) in
-    let none : drop (length b) (take (length b) (drop at s)) ≡ [] = ap (λ (n : ℕ). drop n (take (length b) (drop at s))) (sym all) ∙ drop-length (take (length b) (drop at s)) in
-    rw (e, size, store-start (take (length b) (drop at s)) b (omega arith), none, append-nil, store-whole s at b (omega arith), drop-drop, append-assoc)
+-- those in front stored last
+store-front : (s f u : List ℕ) → length f + length u ≤ length s → store (store s (length f) u) 0 f ≡ store s 0 (f ++ u)
+store-front s f u h =
+    rw (
+      store-start (store s (length f) u) f (rw length-store (omega arith)),
+      drop-stored s (length f) u h,
+      store-start s (f ++ u) (rw length-append (omega arith)),
+      length-append,
+      append-assoc,
+    )
 
 -- ---- the whole image
-module _ (events ready n on used : ℕ) (w pages : List ℕ) (e : on ≡ length (switchesFrom w 0 (n * 16384))) (h : used ≤ length pages) where
-  pub length-tables : length (image (tables events ready n used w pages)) ≡ 14 + 10 * n + 8 * on + 14 * used
-  length-tables =
-      length-image (tables events ready n used w pages) ∙ rw (length-vcpus ready w 0 n, msrs-from w 0 n, length-pages pages used h, ← e)
+module _ (events ready n on used : ℕ) (w pages : List ℕ) (h : used ≤ length pages) where
+  length-front : length (frontBytes events ready n w) ≡ 8 + 10 * n
+  unfolding frontBytes
+  length-front = rw (length-append, length-write VM, length-vc, length-vcpus)
 
-  tables-parts : image (tables events ready n used w pages)
-      ≡ write (vmRecord n events) ++ (vcBytes 0 (vcpusOf ready w 0 n) ++ (msBytes (switchesFrom w 0 (n * 16384)) ++ (paBytes (pagesOf pages used) ++ write (enRecord (1 + n + on + used)))))
-  tables-parts =
-      image-parts (tables events ready n used w pages) ∙ rw (length-vcpus ready w 0 n, msrs-from w 0 n, length-pages pages used h, ← e)
+  length-back : length (backBytes (1 + n + on + used) used pages) ≡ 14 * used + 6
+  unfolding backBytes
+  length-back = rw (length-append, length-pa, length-pages pages used h, length-write EN)
 
-  pub image-written : (s a b c d out : List ℕ) → 14 + 10 * n + 8 * on + 14 * used ≤ length s
+  -- all records but the MS records, as they are stored
+  pub frame-written : (s a b d out : List ℕ) → 14 + 10 * n + 8 * on + 14 * used ≤ length s
       → a ≡ store s 0 (write (vmRecord n events))
       → b ≡ store a 8 (vcBytes 0 (vcpusOf ready w 0 n))
-      → c ≡ store b (8 + 10 * n) (msBytes (switchesFrom w 0 (n * 16384)))
-      → d ≡ store c (8 + 10 * n + 8 * on) (paBytes (pagesOf pages used))
+      → d ≡ store b (8 + 10 * n + 8 * on) (paBytes (pagesOf pages used))
       → out ≡ store d (8 + 10 * n + 8 * on + 14 * used) (write (enRecord (1 + n + on + used)))
-      → out ≡ store s 0 (image (tables events ready n used w pages))
-  image-written s a b c d out room fa fb fc fd fe =
-      let last = write (enRecord (1 + n + on + used)) in
-      let g = going-start s 0 (image (tables events ready n used w pages)) (rw length-tables (omega arith)) in
-      let ga = going-step _ _ {q = 8} g tables-parts fa (rw (length-write VM)) in
-      let gb = going-step _ _ {q = 8 + 10 * n} ga refl fb (rw (length-vc, length-vcpus)) in
-      let gc = going-step _ _ {q = 8 + 10 * n + 8 * on} gb refl fc (rw (length-ms, ← e)) in
-      let gd = going-step _ _ {q = 8 + 10 * n + 8 * on + 14 * used} gc refl fd (rw (length-pa, length-pages pages used h)) in
-      going-end (going-step last [] gd (sym (append-nil last)) fe refl) refl
+      → out ≡ store (store s 0 (frontBytes events ready n w)) (8 + 10 * n + 8 * on) (backBytes (1 + n + on + used) used pages)
+  unfolding frontBytes backBytes
+  frame-written s a b d out room fa fb fd fe =
+      let vm = write (vmRecord n events) in
+      let vc = vcBytes 0 (vcpusOf ready w 0 n) in
+      let pa = paBytes (pagesOf pages used) in
+      let en = write (enRecord (1 + n + on + used)) in
+      let nm : length vm ≡ 8 = length-write VM _ in
+      let nc : length vc ≡ 10 * n = rw (length-vc, length-vcpus) in
+      let np : length pa ≡ 14 * used = rw (length-pa, length-pages pages used h) in
+      let ne : length en ≡ 6 = length-write EN _ in
+      let front : b ≡ store s 0 (vm ++ vc) = fb ∙ ap (λ (l : List ℕ). store l 8 vc) fa ∙ store-behind s 0 8 vm vc (omega arith) (omega arith) in
+      let kept : length b ≡ length s = ap length front ∙ length-store s 0 (vm ++ vc) in
+      let back = fe ∙ ap (λ (l : List ℕ). store l (8 + 10 * n + 8 * on + 14 * used) en) fd ∙ store-behind b (8 + 10 * n + 8 * on) (8 + 10 * n + 8 * on + 14 * used) pa en (omega arith) (omega arith) in
+      back ∙ ap (λ (l : List ℕ). store l (8 + 10 * n + 8 * on) (pa ++ en)) front
+
+  module _ (e : on ≡ length (msrsOf w 0 n)) where
+    pub length-tables : length (image (tables events ready n used w pages)) ≡ 14 + 10 * n + 8 * on + 14 * used
+    length-tables = length-image (tables events ready n used w pages) ∙ rw (length-vcpus ready w 0 n, length-pages pages used h, ← e)
+
+    tables-parts : image (tables events ready n used w pages)
+        ≡ (frontBytes events ready n w ++ msBytes (msrsOf w 0 n)) ++ backBytes (1 + n + on + used) used pages
+    unfolding frontBytes backBytes
+    tables-parts =
+        image-parts (tables events ready n used w pages) ∙ rw (length-vcpus ready w 0 n, length-pages pages used h, ← e) (simp append-assoc)
+
+    -- and with the MS records, which were stored before
+    pub image-written : (s m out : List ℕ) → 14 + 10 * n + 8 * on + 14 * used ≤ length s
+        → m ≡ store s (8 + 10 * n) (msBytes (msrsOf w 0 n))
+        → out ≡ store (store m 0 (frontBytes events ready n w)) (8 + 10 * n + 8 * on) (backBytes (1 + n + on + used) used pages)
+        → out ≡ store s 0 (image (tables events ready n used w pages))
+    image-written s m out room fm fo =
+        let front = frontBytes events ready n w in
+        let ms = msBytes (msrsOf w 0 n) in
+        let back = backBytes (1 + n + on + used) used pages in
+        let nf : length front ≡ 8 + 10 * n = length-front in
+        let nm : length ms ≡ 8 * on = rw (length-ms, ← e) in
+        let nb : length back ≡ 14 * used + 6 = length-back in
+        let nn : length (front ++ ms) ≡ length front + length ms = length-append front ms in
+        let joined : store m 0 front ≡ store s 0 (front ++ ms) = ap (λ (l : List ℕ). store l 0 front) (fm ∙ ap (λ (k : ℕ). store s k ms) (sym nf)) ∙ store-front s front ms (omega arith) in
+        fo ∙ ap (λ (l : List ℕ). store l (8 + 10 * n + 8 * on) back) joined
+        ∙ store-behind s 0 (8 + 10 * n + 8 * on) (front ++ ms) back (omega arith) (omega arith)
+        ∙ ap (store s 0) (sym tables-parts)
 
 -- ---- of any numbers: no more vCPUs are stated than there are blocks, and no more pages than words
 module _ (events ready count used : ℕ) (w pages : List ℕ) (n held : ℕ) (en : n ≡ min count 16) (eh : held ≡ min used (length pages)) where
-  pub stated-tables : tables events ready n held w pages ≡ statedOf events ready count used w pages
+  stated-tables : tables events ready n held w pages ≡ statedOf events ready count used w pages
   stated-tables = rw (en, eh)
 
-  pub stated-size : (on size : ℕ) → on ≡ length (switchesFrom w 0 (n * 16384)) → size ≡ 14 + 10 * n + 8 * on + 14 * held
-      → size ≡ length (image (statedOf events ready count used w pages))
-  stated-size on size eo es =
-      es ∙ sym (length-tables events ready n on held w pages eo (omega arith)) ∙ ap (λ (t : Tables). length (image t)) stated-tables
+  all-stated : min n 16 ≡ n
+  all-stated = omega arith
+
+  module _ (on size : ℕ) (eo : on ≡ length (msrsOf w 0 (min n 16))) (es : size ≡ 14 + 10 * n + 8 * on + 14 * held) where
+    on-is : on ≡ length (msrsOf w 0 n)
+    on-is = eo ∙ ap (λ (k : ℕ). length (msrsOf w 0 k)) all-stated
+
+    pub stated-size : size ≡ length (image (statedOf events ready count used w pages))
+    stated-size = es ∙ sym (length-tables events ready n on held w pages (omega arith) on-is) ∙ ap (λ (t : Tables). length (image t)) stated-tables
+
+    -- the MS records are lent the output but for what comes behind them
+    module _ (s m : List ℕ) (room : ℕ) (er : room ≡ length s - (14 * held + 6)) (em : m ≡ store (take room s) (8 + 10 * n) (msBytes (msrsOf w 0 (min n 16)))) where
+      length-msrs : length (msBytes (msrsOf w 0 (min n 16))) ≡ 8 * on
+      length-msrs = rw (length-ms, ← eo)
+
+      pub stated-written : (out : List ℕ) → size ≤ length s
+          → out ≡ store (store (m ++ drop room s) 0 (frontBytes events ready n w)) (8 + 10 * n + 8 * on) (backBytes (1 + n + on + held) held pages)
+          → out ≡ store s 0 (image (statedOf events ready count used w pages))
+      stated-written out h fo =
+          let l = length-msrs in
+          let lent : m ++ drop room s ≡ store s (8 + 10 * n) (msBytes (msrsOf w 0 n)) =
+          ap (λ (x : List ℕ). x ++ drop room s) em ∙ store-lent s room (8 + 10 * n) _ (omega arith) (omega arith) ∙ ap (λ (k : ℕ). store s (8 + 10 * n) (msBytes (msrsOf w 0 k))) all-stated in
+          image-written events ready n on held w pages (omega arith) on-is s (m ++ drop room s) out (omega arith) lent fo
+          ∙ ap (λ (t : Tables). store s 0 (image t)) stated-tables
+
+      pub stated-short : length s < size → m ++ drop room s ≡ store s 0 (image (statedOf events ready count used w pages))
+      stated-short h =
+          let l = length-msrs in
+          let few : length (take room s) ≡ min room (length s) = length-take room s in
+          let same : m ≡ take room s = em ∙ store-past (take room s) (8 + 10 * n) (msBytes (msrsOf w 0 (min n 16))) (omega arith) in
+          let e = stated-size in
+          ap (λ (x : List ℕ). x ++ drop room s) same ∙ take-append-drop room s ∙ sym (store-past s 0 (image (statedOf events ready count used w pages)) (omega (arith, e, h)))

@@ -1,17 +1,11 @@
--- The parts of an image: the bytes of each kind's records, and the MSR switches of all vCPUs as one row of places, 16,384 for each vCPU.
-use mathlib.Core.Path.{_≡_}
-use Prim.Native.Nat.{ℕ, zero, suc, _+_, _*_, _/_, _%_, _≤_, _<_, min}
-use mathlib.Core.List.{List, [], _∷_}
-use mathlib.Core.Bool.{Bool, cond}
-use lib.Dec.{eqb}
-use lib.ListN.{length, getD}
-use Rattle.wire.specs.Bytes.{store}
-use Rattle.kvmi.specs.Bits.{isOn}
-use Rattle.kvmi.specs.Record.{writeAll}
-use Rattle.kvmi.specs.Tables.{Vcpu, Msr, Page, Tables, emptyTables, withVmEvents, withVcpus, withMsrs, withPages}
-use Rattle.kvmi.specs.Image.{vcRecords, onto, msRecord, paRecord}
-use Rattle.store.specs.Words.{field}
-use Rattle.store.specs.Meaning.{msrAt, msrsOf, vcpusOf}
+-- The parts of an image: the bytes of each kind's records, and of all records in front of the MS records and behind them.
+use Prim.Native.Nat.{ℕ, min}
+use mathlib.Core.List.{List, [], _++_}
+use lib.ListN.{length}
+use Rattle.kvmi.specs.Record.{write, writeAll}
+use Rattle.kvmi.specs.Tables.{Vcpu, Page, Tables, emptyTables, withVmEvents, withVcpus, withMsrs, withPages}
+use Rattle.kvmi.specs.Image.{vmRecord, vcRecords, onto, paRecord, enRecord}
+use Rattle.store.specs.Meaning.{msrsOf, vcpusOf}
 use Rattle.page_words.specs.Meaning.{pagesOf}
 
 -- ---- the bytes of records of one kind
@@ -19,46 +13,17 @@ use Rattle.page_words.specs.Meaning.{pagesOf}
 unfoldable pub vcBytes : ℕ → List Vcpu → List ℕ
 vcBytes i vs = writeAll (vcRecords i vs [])
 
-unfoldable pub msBytes : List Msr → List ℕ
-msBytes ms = writeAll (onto msRecord ms [])
-
 unfoldable pub paBytes : List Page → List ℕ
 paBytes ps = writeAll (onto paRecord ps [])
 
--- ---- places of switches
-unfoldable pub switchAt : List ℕ → ℕ → Bool
-switchAt w g = isOn (field w (g / 16384) (16 + g % 16384 / 64)) (g % 16384 % 64)
+-- ---- of several kinds
+-- the records in front of the MS records: VM, and n VC records
+unfoldable pub frontBytes : ℕ → ℕ → ℕ → List ℕ → List ℕ
+frontBytes events ready n w = write (vmRecord n events) ++ vcBytes 0 (vcpusOf ready w 0 n)
 
-unfoldable pub msrOfPlace : ℕ → Msr
-msrOfPlace g = record { vcpu = g / 16384; msr = msrAt (g % 16384) }
-
--- those that are on among n places, from one on
-unfoldable pub switchesFrom : List ℕ → ℕ → ℕ → List Msr
-switchesFrom w g zero = []
-switchesFrom w g (suc n) = cond (switchAt w g) (msrOfPlace g ∷ switchesFrom w (suc g) n) (switchesFrom w (suc g) n)
-
--- those that are on among the n lowest bits of a word, whose lowest has the place g
-unfoldable pub bitsFrom : ℕ → ℕ → ℕ → List Msr
-bitsFrom x g zero = []
-bitsFrom x g (suc n) = cond (eqb (x % 2) 1) (msrOfPlace g ∷ bitsFrom (x / 2) (suc g) n) (bitsFrom (x / 2) (suc g) n)
-
--- ---- words that are 0
--- all of them from one up to another
-pub record Blank (w : List ℕ) (from to : ℕ) : Type 0 where
-  pub zeros : (j : ℕ) → from ≤ j → j < to → getD w j 0 ≡ 0
-
--- r is the end, or the place of a word, and all words before it are 0
-pub record Scanned (w : List ℕ) (from to r : ℕ) : Type 0 where
-  pub after : from ≤ r
-  pub inside : r ≤ to
-  pub there : r < to → r < length w
-  pub blank : Blank w from r
-
--- ---- records written
--- what was s has the MS records at a place, and r is the place behind them
-pub record Put (s : List ℕ) (at : ℕ) (ms : List Msr) (out : List ℕ) (r : ℕ) : Type 0 where
-  pub there : out ≡ store s at (msBytes ms)
-  pub next : r ≡ at + 8 * length ms
+-- and those behind them: the PA records of `used` page words, and EN, which counts all
+unfoldable pub backBytes : ℕ → ℕ → List ℕ → List ℕ
+backBytes count used pages = paBytes (pagesOf pages used) ++ write (enRecord count)
 
 -- ---- the tables of n vCPUs and `used` page words
 abbrev pub tables : ℕ → ℕ → ℕ → ℕ → List ℕ → List ℕ → Tables

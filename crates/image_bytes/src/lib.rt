@@ -1,30 +1,13 @@
-// The bytes of an image, from the lent words: one pass over them to measure, and one to write. Both skip the words that are 0, and a
-// record is stored into the part of the output that it fills, so that its stores need no tests.
-use store::words::BLOCK_WORDS;
-use store::words::MSRS;
+// The bytes of an image, from the lent words: one pass over them to measure, and one to write. A record is stored into the part of the output
+// that it fills, so that its stores need no tests.
 ghost use mathlib.Core.Path.{_≡_};
-ghost use mathlib.Core.Bool.{true};
-ghost use Prim.Native.Nat.{ℕ, _+_, _*_, _≤_, _<_, _^_, min};
+ghost use Prim.Native.Nat.{ℕ, _+_, _-_, _*_, _≤_, _<_, _^_, min};
 ghost use lib.ListN.{length};
 ghost use Rattle.wire.specs.Bytes.{store};
-ghost use Rattle.kvmi.specs.Record.{write};
-ghost use Rattle.kvmi.specs.Image.{msRecord, image};
-ghost use Rattle.store.specs.Meaning.{msrAt, vcpusOf};
+ghost use Rattle.kvmi.specs.Image.{image};
+ghost use Rattle.store.specs.Meaning.{vcpusOf};
 ghost use Rattle.page_words.specs.Meaning.{pagesOf};
-ghost use Rattle.image_bytes.specs.Parts.{vcBytes, msBytes, paBytes, msrOfPlace, switchesFrom, bitsFrom, Blank, Scanned, Put, tables, statedOf};
-
-// How many MSR switches a vCPU has.
-const SWITCHES: usize = 16384;
-
-// How many switches a word has.
-const BITS: usize = 64;
-
-// The smaller of two numbers.
-fn smaller(a: usize, b: usize) -> usize
-    ensures { λ r. ⌜ r ≡ min a b ⌝ }
-{
-    if a < b { a } else { b }
-}
+ghost use Rattle.image_bytes.specs.Parts.{vcBytes, paBytes, frontBytes, backBytes, statedOf};
 
 // How many vCPUs an image states: no more than there are blocks of words.
 pub fn stated(vcpus: u32) -> u16
@@ -33,61 +16,11 @@ pub fn stated(vcpus: u32) -> u16
     if vcpus < 16 { vcpus as u16 } else { 16 }
 }
 
-// Whether the 4 words at a place are all 0.
-fn blank(words: &[u64], i: usize) -> bool
-    requires { ⌜ i + 4 ≤ length (now words) ⌝ }
-    ensures { λ r. ⌜ (r ≡ true → Blank (now (words .entry)) i (i + 4)) ⌝ }
+// What is left of a number without another.
+fn less(a: usize, b: usize) -> usize
+    ensures { λ r. ⌜ r ≡ a - b ⌝ }
 {
-    (words[i] | words[i + 1] | words[i + 2] | words[i + 3]) == 0
-}
-
-// The place of the first word that is not 0, from one on, or the end. Words past the end of the slice count as 0.
-fn scan(words: &[u64], from: usize, to: usize) -> usize
-    requires { ⌜ (from ≤ to) × (to ≤ 4352) ⌝ }
-    ensures { λ r. ⌜ Scanned (now (words .entry)) from to r ⌝ }
-{
-    let last = smaller(to, words.len());
-    let mut i = from;
-    while i + 4 <= last && blank(words, i) {
-        i += 4;
-    }
-    while i < last {
-        if words[i] != 0 {
-            return i;
-        }
-        i += 1;
-    }
-    to
-}
-
-// How many switches of a vCPU are on.
-fn count_vcpu(words: &[u64], v: usize) -> usize
-    requires { ⌜ v < 16 ⌝ }
-    ensures { λ r. ⌜ r ≡ length (switchesFrom (now (words .entry)) (v * 16384) 16384) ⌝ }
-{
-    let first = v * BLOCK_WORDS + MSRS;
-    let end = v * BLOCK_WORDS + BLOCK_WORDS;
-    let mut n = 0;
-    let mut i = scan(words, first, end);
-    while i < end {
-        n += u64::count_ones(words[i]) as usize;
-        i = scan(words, i + 1, end);
-    }
-    n
-}
-
-// How many switches of the first n vCPUs are on.
-fn count_on(words: &[u64], n: usize) -> usize
-    requires { ⌜ n ≤ 16 ⌝ }
-    ensures { λ r. ⌜ r ≡ length (switchesFrom (now (words .entry)) 0 (n * 16384)) ⌝ }
-{
-    let mut on = 0;
-    let mut v = 0;
-    while v < n {
-        on += count_vcpu(words, v);
-        v += 1;
-    }
-    on
+    if b <= a { a - b } else { 0 }
 }
 
 // How many bytes an image of n vCPUs has, with so many switches on and so many pages.
@@ -96,28 +29,6 @@ fn size_of(n: u16, on: usize, used: usize) -> usize
     ensures { λ r. ⌜ r ≡ 14 + 10 * n + 8 * on + 14 * used ⌝ }
 {
     14 + 10 * (n as usize) + 8 * on + 14 * used
-}
-
-// The MSR of a place among those of a vCPU.
-fn msr_at(slot: usize) -> u32
-    requires { ⌜ slot < 16384 ⌝ }
-    ensures { λ r. ⌜ r ≡ msrAt slot ⌝ }
-{
-    if slot < 8192 {
-        slot as u32
-    } else {
-        (slot as u32) - 8192 + 0xC0000000
-    }
-}
-
-// The MS record of a place.
-fn put_ms(out: &mut [u8], at: usize, g: usize)
-    requires { ⌜ (at + 8 ≤ length (now out)) × (g < 262144) ⌝ }
-    ensures { λ _. ⌜ now (out .exit) ≡ store (now (out .entry)) at (write (msRecord (msrOfPlace g))) ⌝ }
-{
-    let end = at + 8;
-    let msr = msr_at(g % SWITCHES);
-    image_record::ms(&mut out[at..end], (g / SWITCHES) as u16, msr);
 }
 
 // The VC records of n vCPUs.
@@ -131,53 +42,6 @@ fn put_vcpus(out: &mut [u8], at: usize, ready: u64, words: &[u64], n: u16)
         let end = from + 10;
         image_record::vc(&mut out[from..end], ready, words, i);
         i += 1;
-    }
-}
-
-// The MS records of the bits of a word, whose lowest has the place g. Gives the place behind them.
-fn put_bits(out: &mut [u8], at: usize, g: usize, w: u64) -> usize
-    requires { ⌜ (g + 64 ≤ 262144) × (at + 8 * length (bitsFrom w g 64) ≤ length (now out)) ⌝ }
-    ensures { λ r. ⌜ Put (now (out .entry)) at (bitsFrom w g 64) (now (out .exit)) r ⌝ }
-{
-    let mut to = at;
-    let mut p = g;
-    let mut x = w;
-    while x != 0 {
-        let k = u64::trailing_zeros(x) as usize;
-        put_ms(out, to, p + k);
-        to += 8;
-        p += k + 1;
-        x = x >> k >> 1;
-    }
-    to
-}
-
-// The MS records of a vCPU. Gives the place behind them.
-fn put_vcpu(out: &mut [u8], at: usize, words: &[u64], v: usize) -> usize
-    requires { ⌜ (v < 16) × (at + 8 * length (switchesFrom (now words) (v * 16384) 16384) ≤ length (now out)) ⌝ }
-    ensures { λ r. ⌜ Put (now (out .entry)) at (switchesFrom (now (words .entry)) (v * 16384) 16384) (now (out .exit)) r ⌝ }
-{
-    let first = v * BLOCK_WORDS + MSRS;
-    let end = v * BLOCK_WORDS + BLOCK_WORDS;
-    let mut to = at;
-    let mut i = scan(words, first, end);
-    while i < end {
-        to = put_bits(out, to, v * SWITCHES + (i - first) * BITS, words[i]);
-        i = scan(words, i + 1, end);
-    }
-    to
-}
-
-// The MS records of the first n vCPUs.
-fn put_switches(out: &mut [u8], at: usize, words: &[u64], n: usize)
-    requires { ⌜ (n ≤ 16) × (at + 8 * length (switchesFrom (now words) 0 (n * 16384)) ≤ length (now out)) ⌝ }
-    ensures { λ _. ⌜ now (out .exit) ≡ store (now (out .entry)) at (msBytes (switchesFrom (now (words .entry)) 0 (n * 16384))) ⌝ }
-{
-    let mut to = at;
-    let mut v = 0;
-    while v < n {
-        to = put_vcpu(out, to, words, v);
-        v += 1;
     }
 }
 
@@ -195,8 +59,8 @@ fn put_pages(out: &mut [u8], at: usize, pages: &[u64], used: usize)
     }
 }
 
-// The whole image of n vCPUs, with so many switches on and so many pages, where there is room for it.
-fn put_image(
+// All records of the image of n vCPUs but the MS records, with so many of these and so many pages, where there is room for it.
+fn put_frame(
     out: &mut [u8],
     events: u64,
     ready: u64,
@@ -206,16 +70,14 @@ fn put_image(
     vcpus: &[u64],
     pages: &[u64],
 )
-    requires { ⌜ (n ≤ 16) × (on ≡ length (switchesFrom (now vcpus) 0 (n * 16384))) × (used ≤ length (now pages)) × (14 + 10 * n + 8 * on + 14 * used ≤ length (now out)) ⌝ }
-    ensures { λ _. ⌜ now (out .exit) ≡ store (now (out .entry)) 0 (image (tables events ready n used (now (vcpus .entry)) (now (pages .entry)))) ⌝ }
+    requires { ⌜ (used ≤ length (now pages)) × (14 + 10 * n + 8 * on + 14 * used ≤ length (now out)) ⌝ }
+    ensures { λ _. ⌜ now (out .exit) ≡ store (store (now (out .entry)) 0 (frontBytes events ready n (now (vcpus .entry)))) (8 + 10 * n + 8 * on) (backBytes (1 + n + on + used) used (now (pages .entry))) ⌝ }
 {
-    let switches = 8 + 10 * (n as usize);
-    let rest = switches + 8 * on;
+    let rest = 8 + 10 * (n as usize) + 8 * on;
     let last = rest + 14 * used;
     let end = last + 6;
     image_record::vm(out, n, events);
     put_vcpus(out, 8, ready, vcpus, n);
-    put_switches(out, switches, vcpus, n as usize);
     put_pages(out, rest, pages, used);
     image_record::en(&mut out[last..end], 1 + (n as usize) + on + used);
 }
@@ -225,12 +87,13 @@ pub fn measure(count: u32, used: u64, vcpus: &[u64], pages: &[u64]) -> usize
     ensures { λ r. ⌜ ((events ready : ℕ) → r ≡ length (image (statedOf events ready count used (now (vcpus .entry)) (now (pages .entry))))) ⌝ }
 {
     let n = stated(count);
-    let held = smaller(used as usize, pages.len());
-    let on = count_on(vcpus, n as usize);
+    let held = image_msrs::smaller(used as usize, pages.len());
+    let on = image_msrs::count(vcpus, n);
     size_of(n, on, held)
 }
 
-// The image at the start of the output, where there is room for all of it. Gives its size.
+// The image at the start of the output, where there is room for all of it. Gives its size. The MS records, which are counted and written in one
+// call, are lent the output but for what comes behind them, so that they are written only where the whole image is.
 pub fn put(
     out: &mut [u8],
     events: u64,
@@ -243,11 +106,12 @@ pub fn put(
     ensures { λ r. ⌜ (r ≡ length (image (statedOf events ready count used (now (vcpus .entry)) (now (pages .entry))))) × (now (out .exit) ≡ store (now (out .entry)) 0 (image (statedOf events ready count used (now (vcpus .entry)) (now (pages .entry))))) ⌝ }
 {
     let n = stated(count);
-    let held = smaller(used as usize, pages.len());
-    let on = count_on(vcpus, n as usize);
+    let held = image_msrs::smaller(used as usize, pages.len());
+    let room = less(out.len(), 14 * held + 6);
+    let on = image_msrs::put(&mut out[..room], 8 + 10 * (n as usize), vcpus, n);
     let size = size_of(n, on, held);
     if size <= out.len() {
-        put_image(out, events, ready, n, on, held, vcpus, pages);
+        put_frame(out, events, ready, n, on, held, vcpus, pages);
     }
     size
 }

@@ -1,7 +1,7 @@
 -- The parts' lengths are the image's. Assumes nothing.
-use Prim.Native.Nat.{_*_}
 use native.Mathlib.Omega.{arith}
-use Rattle.image_bytes.proofs.Written.{from-bound, stated-size}
+use Rattle.image_msrs.proofs.Switches.{msrs-bound}
+use Rattle.image_bytes.proofs.Written.{stated-size}
 use borrow.Author.Needs.{needs}
 use Rattle.image_bytes.proofs.measure.Statement.{statement}
 use Rattle.image_bytes.proofs.measure.Tie as tie
@@ -12,27 +12,17 @@ stated-requires c κs = search needs
 smaller-requires : tie.Need-smaller-requires
 smaller-requires c κs = search needs
 
-cast-count-on : tie.Need-cast-count-on
-cast-count-on c = search needs
-
-count-on-requires : tie.Need-count-on-requires
-count-on-requires c κs = search needs
+count-requires : tie.Need-count-requires
+count-requires c κs = search needs
 
 size-of-requires : tie.Need-size-of-requires
-size-of-requires c κs = let b = from-bound (c .before .before .before .before .before .args .vcpus .now) 0 (c .before .before .stated .result * 16384) in omega arith
+size-of-requires c κs = let b = msrs-bound (c .before .before .before .before .before .args .vcpus .now) (c .before .before .stated .result) in omega arith
 
 returns : tie.Need-returns
 returns c = λ events ready.
     let a = c .before .before .before .before .before .before .args in
-    stated-size events ready (a .count) (a .used) (a .vcpus .now) (a .pages .now) _ _ (c .before .before .before .stated .ensures) (c .before .before .smaller .ensures) _ _ (c .before .count-on .ensures) (c .size-of .ensures)
+    stated-size events ready (a .count) (a .used) (a .vcpus .now) (a .pages .now) _ _ (c .before .before .before .stated .ensures) (c .before .before .smaller .ensures) _ _ (c .before .count .ensures) (c .size-of .ensures)
 
 pub measure-spec : {M : Type 1} → statement M
 measure-spec =
-    tie.close
-    (tie.spec
-    stated-requires
-    smaller-requires
-    cast-count-on
-    count-on-requires
-    size-of-requires
-    returns)
+    tie.close (tie.spec stated-requires smaller-requires count-requires size-of-requires returns)

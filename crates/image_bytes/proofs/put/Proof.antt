@@ -1,14 +1,9 @@
 -- Where there is room, all of it is written, and else nothing. Assumes nothing.
-use mathlib.Core.Path.{sym, ap, _∙_}
-use Prim.Native.Nat.{_+_, _*_, _<_}
+use mathlib.Core.Path.{sym}
 use native.Mathlib.Omega.{arith}
-use lib.ListN.{length}
-use Rattle.wire.specs.Bytes.{store}
-use Rattle.wire.proofs.Laws.{store-past}
-use Rattle.kvmi.specs.Tables.{Tables}
-use Rattle.kvmi.specs.Image.{image}
-use Rattle.image_bytes.specs.Parts.{statedOf}
-use Rattle.image_bytes.proofs.Written.{from-bound, stated-tables, stated-size}
+use lib.Seq.{length-take-le}
+use Rattle.image_msrs.proofs.Switches.{msrs-bound}
+use Rattle.image_bytes.proofs.Written.{stated-size, stated-written, stated-short}
 use borrow.Author.Needs.{needs}
 use Rattle.image_bytes.proofs.put.Statement.{statement}
 use Rattle.image_bytes.proofs.put.Tie as tie
@@ -19,35 +14,71 @@ stated-requires c κs = search needs
 smaller-requires : tie.Need-smaller-requires
 smaller-requires c κs = search needs
 
-cast-count-on : tie.Need-cast-count-on
-cast-count-on c = search needs
+mul-less : tie.Need-mul-less
+mul-less c = search needs
 
-count-on-requires : tie.Need-count-on-requires
-count-on-requires c κs = search needs
+add-less : tie.Need-add-less
+add-less c = search needs
+
+less-requires : tie.Need-less-requires
+less-requires c κs = search needs
+
+slice-relend-prefix-put : tie.Need-slice-relend-prefix-put
+slice-relend-prefix-put c = search needs
+
+slice-aggregate-put : tie.Need-slice-aggregate-put
+slice-aggregate-put c = sym (length-take-le _ _ (omega arith))
+
+cast-put : tie.Need-cast-put
+cast-put c = search needs
+
+mul-put : tie.Need-mul-put
+mul-put c = search needs
+
+add-put : tie.Need-add-put
+add-put c = search needs
+
+put-requires : tie.Need-put-requires
+put-requires c κs = search needs
 
 size-of-requires : tie.Need-size-of-requires
-size-of-requires c κs = let b = from-bound (c .before .before .before .before .before .before .args .vcpus .now) 0 (c .before .before .stated .result * 16384) in omega arith
+size-of-requires c κs =
+    let b = msrs-bound (c .before .before .before .before .before .before .before .before .before .before .args .vcpus .now) (c .before .before .before .before .before .before .stated .result) in
+    let e = c .before .before .put .ensures .0 in
+    omega (arith, b, e)
 
-put-image-requires : tie.Need-put-image-requires
-put-image-requires c κs = search needs
+put-frame-requires : tie.Need-put-frame-requires
+put-frame-requires c κs = search needs
 
 same-length : tie.Need-same-length
 same-length c = search needs
 
 returns : tie.Need-returns
 returns c =
-    let a = c .before .before .before .before .before .before .before .before .before .before .before .before .args in
-    let size = stated-size (a .events) (a .ready) (a .count) (a .used) (a .vcpus .now) (a .pages .now) _ _ (c .before .before .before .before .before .before .before .before .stated .ensures) (c .before .before .before .before .before .before .before .smaller .ensures) _ _ (c .before .before .before .before .before .before .count-on .ensures) (c .before .before .before .before .before .size-of .ensures) in
-    let same = stated-tables (a .events) (a .ready) (a .count) (a .used) (a .vcpus .now) (a .pages .now) _ _ (c .before .before .before .before .before .before .before .before .stated .ensures) (c .before .before .before .before .before .before .before .smaller .ensures) in
-    (size, c .before .before .put-image .ensures ∙ ap (λ (t : Tables). store (a .out .now) 0 (image t)) same)
+    let a = c .before .before .before .before .before .before .before .before .before .before .before .before .before .before .before .before .args in
+    let n = c .before .before .before .before .before .before .before .before .before .before .before .before .stated .ensures in
+    let held = c .before .before .before .before .before .before .before .before .before .before .before .smaller .ensures in
+    let on = c .before .before .before .before .before .before .before .before .put .ensures in
+    let size = c .before .before .before .before .before .size-of .ensures in
+    let room = c .before .before .before .before .before .before .before .before .before .before .less .ensures in (
+      stated-size (a .events) (a .ready) (a .count) (a .used) (a .vcpus .now) (a .pages .now) _ _ n held _ _ (on .0) size,
+      stated-written (a .events) (a .ready) (a .count) (a .used) (a .vcpus .now) (a .pages .now) _ _ n held _ _ (on .0) size (a .out .now) _ _ room (on .1) _ (omega arith) (c .before .before .put-frame .ensures),
+    )
+
+same-length-2 : tie.Need-same-length-2
+same-length-2 c = search needs
 
 returns-2 : tie.Need-returns-2
 returns-2 c =
-    let a = c .before .before .before .before .before .before .before .before .args in
-    let t = statedOf (a .events) (a .ready) (a .count) (a .used) (a .vcpus .now) (a .pages .now) in
-    let size = stated-size (a .events) (a .ready) (a .count) (a .used) (a .vcpus .now) (a .pages .now) _ _ (c .before .before .before .before .stated .ensures) (c .before .before .before .smaller .ensures) _ _ (c .before .before .count-on .ensures) (c .before .size-of .ensures) in
-    let short : length (a .out .now) < 0 + length (image t) = omega (arith, size, c .if1 .left) in
-    (size, sym (store-past (a .out .now) 0 (image t) short))
+    let a = c .before .before .before .before .before .before .before .before .before .before .before .before .args in
+    let n = c .before .before .before .before .before .before .before .before .stated .ensures in
+    let held = c .before .before .before .before .before .before .before .smaller .ensures in
+    let on = c .before .before .before .before .put .ensures in
+    let size = c .before .size-of .ensures in
+    let room = c .before .before .before .before .before .before .less .ensures in (
+      stated-size (a .events) (a .ready) (a .count) (a .used) (a .vcpus .now) (a .pages .now) _ _ n held _ _ (on .0) size,
+      stated-short (a .events) (a .ready) (a .count) (a .used) (a .vcpus .now) (a .pages .now) _ _ n held _ _ (on .0) size (a .out .now) _ _ room (on .1) (omega arith),
+    )
 
 pub put-spec : {M : Type 1} → statement M
 put-spec =
@@ -55,10 +86,18 @@ put-spec =
     (tie.spec
     stated-requires
     smaller-requires
-    cast-count-on
-    count-on-requires
+    mul-less
+    add-less
+    less-requires
+    slice-relend-prefix-put
+    slice-aggregate-put
+    cast-put
+    mul-put
+    add-put
+    put-requires
     size-of-requires
-    put-image-requires
+    put-frame-requires
     same-length
     returns
+    same-length-2
     returns-2)

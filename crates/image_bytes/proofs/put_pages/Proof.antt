@@ -5,7 +5,8 @@ use native.Mathlib.Omega.{arith}
 use Rattle.kvmi.specs.Record.{PA}
 use Rattle.laws.proofs.Record.{length-write}
 use Rattle.image_bytes.specs.Parts.{paBytes}
-use Rattle.image_bytes.proofs.Written.{Going, going-start, going-same, going-step, going-end, pagesFrom, pages-start, pa-next, pa-none, length-pa, length-from, part-written}
+use Rattle.image_msrs.proofs.Stores.{Going, going-start, going-same, going-step, going-end, part-written}
+use Rattle.image_bytes.proofs.Written.{pagesFrom, pages-start, pa-next, pa-none, length-pa, length-from}
 use Rattle.image_bytes.proofs.put_pages.Statement.{statement}
 use Rattle.image_bytes.proofs.put_pages.Tie as tie
 

@@ -6,7 +6,8 @@ use Rattle.kvmi.specs.Record.{VC}
 use Rattle.laws.proofs.Record.{length-write}
 use Rattle.store.specs.Meaning.{vcpusOf}
 use Rattle.image_bytes.specs.Parts.{vcBytes}
-use Rattle.image_bytes.proofs.Written.{Going, going-start, going-same, going-step, going-end, vc-next, vc-none, length-vc, length-vcpus, part-written}
+use Rattle.image_msrs.proofs.Stores.{Going, going-start, going-same, going-step, going-end, part-written}
+use Rattle.image_bytes.proofs.Written.{vc-next, vc-none, length-vc, length-vcpus}
 use Rattle.image_bytes.proofs.put_vcpus.Statement.{statement}
 use Rattle.image_bytes.proofs.put_vcpus.Tie as tie
 

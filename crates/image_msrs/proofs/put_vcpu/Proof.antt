@@ -3,10 +3,11 @@ use mathlib.Core.Path.{refl, sym, ap, _∙_}
 use Prim.Native.Nat.{_≤_, _<_, _+_, _-_, _*_}
 use native.Mathlib.Omega.{arith}
 use lib.ListN.{length, length-append}
-use Rattle.image_bytes.specs.Parts.{msBytes, switchesFrom}
-use Rattle.image_bytes.proofs.Written.{Going, going-start, going-same, going-step, going-put, restFrom, rest-start, rest-skip, rest-word, rest-none, ms-append, ms-nil, length-ms}
-use Rattle.image_bytes.proofs.put_vcpu.Statement.{statement}
-use Rattle.image_bytes.proofs.put_vcpu.Tie as tie
+use Rattle.image_msrs.specs.Switches.{msBytes, switchesFrom}
+use Rattle.image_msrs.proofs.Stores.{Going, going-start, going-same, going-step}
+use Rattle.image_msrs.proofs.Switches.{going-put, restFrom, rest-start, rest-skip, rest-word, rest-none, ms-append, ms-nil, length-ms}
+use Rattle.image_msrs.proofs.put_vcpu.Statement.{statement}
+use Rattle.image_msrs.proofs.put_vcpu.Tie as tie
 
 abbrev Inv-loop : tie.InvT-loop
 Inv-loop out₀ at words v first end to₀ i₀ out to i = (v * 272 + 16 ≤ i) × (i ≤ end) × (i < end → i < length words) × Going out₀ at (msBytes (switchesFrom words (v * 16384) 16384)) out to (msBytes (restFrom words v i))

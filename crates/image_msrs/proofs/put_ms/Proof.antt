@@ -2,11 +2,11 @@
 use mathlib.Core.Path.{_∙_}
 use Rattle.kvmi.specs.Record.{MS}
 use Rattle.laws.proofs.Record.{length-write}
-use Rattle.image_bytes.specs.Parts.{msrOfPlace}
-use Rattle.image_bytes.proofs.Written.{part-written}
+use Rattle.image_msrs.specs.Switches.{msrOfPlace}
+use Rattle.image_msrs.proofs.Stores.{part-written}
 use borrow.Author.Needs.{needs}
-use Rattle.image_bytes.proofs.put_ms.Statement.{statement}
-use Rattle.image_bytes.proofs.put_ms.Tie as tie
+use Rattle.image_msrs.proofs.put_ms.Statement.{statement}
+use Rattle.image_msrs.proofs.put_ms.Tie as tie
 
 add-end : tie.Need-add-end
 add-end c = search needs

@@ -3,10 +3,11 @@ use mathlib.Core.Path.{_≡_, ap, _∙_}
 use Prim.Native.Nat.{_≤_, _-_, _*_}
 use native.Mathlib.Omega.{arith}
 use lib.ListN.{length-append}
-use Rattle.image_bytes.specs.Parts.{msBytes, switchesFrom}
-use Rattle.image_bytes.proofs.Written.{Going, going-start, going-step, going-end, vcpu-from, vcpus-none, ms-append, ms-nil, length-ms}
-use Rattle.image_bytes.proofs.put_switches.Statement.{statement}
-use Rattle.image_bytes.proofs.put_switches.Tie as tie
+use Rattle.image_msrs.specs.Switches.{msBytes, switchesFrom}
+use Rattle.image_msrs.proofs.Stores.{Going, going-start, going-step, going-end}
+use Rattle.image_msrs.proofs.Switches.{vcpu-from, vcpus-none, ms-append, ms-nil, length-ms}
+use Rattle.image_msrs.proofs.put_switches.Statement.{statement}
+use Rattle.image_msrs.proofs.put_switches.Tie as tie
 
 abbrev Inv-loop : tie.InvT-loop
 Inv-loop out₀ at words n to₀ v₀ out to v = (v ≤ n) × Going out₀ at (msBytes (switchesFrom words 0 (n * 16384))) out to (msBytes (switchesFrom words (v * 16384) ((n - v) * 16384)))

@@ -2,8 +2,8 @@
 use borrow.Author.Tests.{lt-ltb, le-ltb}
 use Rattle.store.specs.Meaning.{msrAt}
 use borrow.Author.Needs.{needs}
-use Rattle.image_bytes.proofs.msr_at.Statement.{statement}
-use Rattle.image_bytes.proofs.msr_at.Tie as tie
+use Rattle.image_msrs.proofs.msr_at.Statement.{statement}
+use Rattle.image_msrs.proofs.msr_at.Tie as tie
 
 cast-result : tie.Need-cast-result
 cast-result c = search needs

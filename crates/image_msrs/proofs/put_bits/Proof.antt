@@ -5,10 +5,11 @@ use native.Mathlib.Omega.{arith}
 use lib.Count.{trailingZeros, trailing-le}
 use Rattle.kvmi.specs.Record.{MS}
 use Rattle.laws.proofs.Record.{length-write}
-use Rattle.image_bytes.specs.Parts.{msBytes, bitsFrom}
-use Rattle.image_bytes.proofs.Written.{Going, going-start, going-step, going-put, lowest, bits-none, ms-first, ms-nil, ms-room, length-ms}
-use Rattle.image_bytes.proofs.put_bits.Statement.{statement}
-use Rattle.image_bytes.proofs.put_bits.Tie as tie
+use Rattle.image_msrs.specs.Switches.{msBytes, bitsFrom}
+use Rattle.image_msrs.proofs.Stores.{Going, going-start, going-step}
+use Rattle.image_msrs.proofs.Switches.{going-put, lowest, bits-none, ms-first, ms-nil, ms-room, length-ms}
+use Rattle.image_msrs.proofs.put_bits.Statement.{statement}
+use Rattle.image_msrs.proofs.put_bits.Tie as tie
 
 abbrev Inv-loop : tie.InvT-loop
 Inv-loop out₀ at g w to₀ p₀ x₀ out to p x = (g ≤ p) × (p ≤ g + 64) × (x < 2 ^ (g + 64 - p)) × Going out₀ at (msBytes (bitsFrom w g 64)) out to (msBytes (bitsFrom x p (g + 64 - p)))

@@ -3,10 +3,10 @@ use mathlib.Core.Path.{_≡_, ap}
 use Prim.Native.Nat.{_≤_, _<_, _+_, _-_, _*_}
 use native.Mathlib.Omega.{arith}
 use lib.ListN.{length}
-use Rattle.image_bytes.specs.Parts.{switchesFrom}
-use Rattle.image_bytes.proofs.Written.{restFrom, rest-start, rest-skip, rest-none, rest-count, from-bound}
-use Rattle.image_bytes.proofs.count_vcpu.Statement.{statement}
-use Rattle.image_bytes.proofs.count_vcpu.Tie as tie
+use Rattle.image_msrs.specs.Switches.{switchesFrom}
+use Rattle.image_msrs.proofs.Switches.{restFrom, rest-start, rest-skip, rest-none, rest-count, from-bound}
+use Rattle.image_msrs.proofs.count_vcpu.Statement.{statement}
+use Rattle.image_msrs.proofs.count_vcpu.Tie as tie
 
 abbrev Inv-loop : tie.InvT-loop
 Inv-loop words v first end n₀ i₀ n i = (v * 272 + 16 ≤ i) × (i ≤ end) × (i < end → i < length words) × (n + length (restFrom words v i) ≡ length (switchesFrom words (v * 16384) 16384))

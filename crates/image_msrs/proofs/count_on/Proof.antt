@@ -3,10 +3,10 @@ use mathlib.Core.Path.{_≡_, ap, _∙_}
 use Prim.Native.Nat.{_≤_, _+_, _-_, _*_}
 use native.Mathlib.Omega.{arith}
 use lib.ListN.{length, length-append}
-use Rattle.image_bytes.specs.Parts.{switchesFrom}
-use Rattle.image_bytes.proofs.Written.{vcpu-from, vcpus-none, from-bound}
-use Rattle.image_bytes.proofs.count_on.Statement.{statement}
-use Rattle.image_bytes.proofs.count_on.Tie as tie
+use Rattle.image_msrs.specs.Switches.{switchesFrom}
+use Rattle.image_msrs.proofs.Switches.{vcpu-from, vcpus-none, from-bound}
+use Rattle.image_msrs.proofs.count_on.Statement.{statement}
+use Rattle.image_msrs.proofs.count_on.Tie as tie
 
 abbrev Inv-loop : tie.InvT-loop
 Inv-loop words n on₀ v₀ on v = (v ≤ n) × (on ≤ v * 16384) × (on + length (switchesFrom words (v * 16384) ((n - v) * 16384)) ≡ length (switchesFrom words 0 (n * 16384)))

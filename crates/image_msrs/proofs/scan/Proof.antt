@@ -2,10 +2,10 @@
 use Prim.Native.Nat.{_≤_, _-_}
 use native.Mathlib.Omega.{arith}
 use lib.ListN.{List·getD-eq-default}
-use Rattle.image_bytes.specs.Parts.{Blank}
-use Rattle.image_bytes.proofs.Written.{blank-none, blank-one, blank-join}
-use Rattle.image_bytes.proofs.scan.Statement.{statement}
-use Rattle.image_bytes.proofs.scan.Tie as tie
+use Rattle.image_msrs.specs.Switches.{Blank}
+use Rattle.image_msrs.proofs.Switches.{blank-none, blank-one, blank-join}
+use Rattle.image_msrs.proofs.scan.Statement.{statement}
+use Rattle.image_msrs.proofs.scan.Tie as tie
 
 abbrev Inv-loop : tie.InvT-loop
 Inv-loop words from to last i₀ i = (from ≤ i) × (i ≤ to) × Blank words from i

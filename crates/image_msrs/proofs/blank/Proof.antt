@@ -1,9 +1,9 @@
 -- The four are 0 where all of their bits are. Assumes nothing.
 use borrow.Author.Tests.{eqb-true}
-use Rattle.image_bytes.proofs.Written.{blank-four}
+use Rattle.image_msrs.proofs.Switches.{blank-four}
 use borrow.Author.Needs.{needs}
-use Rattle.image_bytes.proofs.blank.Statement.{statement}
-use Rattle.image_bytes.proofs.blank.Tie as tie
+use Rattle.image_msrs.proofs.blank.Statement.{statement}
+use Rattle.image_msrs.proofs.blank.Tie as tie
 
 mul-result : tie.Need-mul-result
 mul-result c = search needs
