@@ -76,8 +76,11 @@ fn put_number(text: &mut [u8], at: usize, n: Number) -> usize
 fn magnitude(e: i32) -> u64
     ensures { λ r. ⌜ r ≡ natAbs e ⌝ }
 {
-    let bits = wire::twos_complement(e) as u64;
-    if e < 0 { 4294967296 - bits } else { bits }
+    if e < 0 {
+        wire::negate(e) as u64
+    } else {
+        e as u64
+    }
 }
 
 // A space, and an error with its sign.

@@ -2,11 +2,11 @@
 use mathlib.Core.Path.{_≡_, refl, sym, ap, _∙_}
 use mathlib.Core.List.{[], _∷_}
 use mathlib.Core.Bool.{true, false}
-use Prim.Native.Nat.{ℕ, zero, suc, _-_, _^_, _≤_, _<_, min}
+use Prim.Native.Nat.{ℕ, zero, suc, _-_, _^_, _≤_, _<_}
 use native.Mathlib.Omega.{arith}
 use lib.IntN.{ℤ, pos, negsuc, negℤ, natAbs, _+ℤ_}
 use lib.Signed.{ltZ, leZ}
-use mir.Syntax.{w32}
+use mir.Syntax.{w32, w64}
 use mir.Val.{SFits, ofZ}
 use borrow.Author.Tests.{ltb-true, le-ltb, leb-true, le-leb}
 use Rattle.wire.specs.Bytes.{le}
@@ -50,35 +50,34 @@ pub negated-pos : (n : ℕ) → negated (pos (suc n)) ≡ negsuc n
 unfolding negated
 negated-pos n = refl
 
-pub negated-negsuc : (n : ℕ) → n < 2147483647 → negated (negsuc n) ≡ pos (suc n)
+pub negated-negsuc : (n : ℕ) → negated (negsuc n) ≡ pos (suc n)
 unfolding negated
-negated-negsuc n h = ap pos (omega arith)
+negated-negsuc n = refl
 
-pub negated-smallest : negated (negsuc 2147483647) ≡ pos 2147483647
+-- it is the negation of the integers
+pub negated-minus : (e : ℤ) → negated e ≡ negℤ e
 unfolding negated
-negated-smallest = refl
+negated-minus (pos zero) = refl
+negated-minus (pos (suc n)) = refl
+negated-minus (negsuc n) = refl
 
--- every other i32 has the negation of the integers
-pub negated-other : (e : ℤ) → SFits w32 e → (e ≡ negsuc 2147483647 → ⊥) → negated e ≡ negℤ e
-unfolding negated
-negated-other (pos zero) f h = refl
-negated-other (pos (suc n)) f h = refl
-negated-other (negsuc n) f h =
-    let small : (n ≡ 2147483647 → ⊥) = λ q. h (ap negsuc q) in
-    negated-negsuc n (omega (arith, f .sfits))
+-- an i32 fits 64 bits, and so does its negation
+pub wider : (e : ℤ) → SFits w32 e → SFits w64 e
+wider (pos n) f = record { sfits = omega (arith, f .sfits) }
+wider (negsuc n) f = record { sfits = omega (arith, f .sfits) }
 
-pub negated-fits : (e : ℤ) → SFits w32 e → SFits w32 (negated e)
+pub negated-fits : (e : ℤ) → SFits w32 e → SFits w64 (negated e)
 unfolding negated
-negated-fits (pos zero) f = f
+negated-fits (pos zero) f = record { sfits = omega arith }
 negated-fits (pos (suc n)) f = record { sfits = omega (arith, f .sfits) }
-negated-fits (negsuc n) f = record { sfits = omega arith }
+negated-fits (negsuc n) f = record { sfits = omega (arith, f .sfits) }
 
 -- a code zero or below is never negative once negated
 pub negated-not-negative : (e : ℤ) → leZ e (pos 0) ≡ true → leZ (pos 0) (negated e) ≡ true
 unfolding negated
 negated-not-negative (pos zero) h = refl
 negated-not-negative (pos (suc n)) h = absurd (omega (arith, leb-true (suc n) 0 h))
-negated-not-negative (negsuc n) h = le-leb 0 (min (suc n) 2147483647) (omega arith)
+negated-not-negative (negsuc n) h = le-leb 0 (suc n) (omega arith)
 
 -- ---- at 0, -22 and -1000
 

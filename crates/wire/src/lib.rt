@@ -248,11 +248,11 @@ pub fn read_header(s: &[u8]) -> Header
     }
 }
 
-// A code's negation; the smallest i32, whose negation does not fit, gives the largest.
-pub fn negate(e: i32) -> i32
+// A code's negation, in 64 bits: that of the smallest i32 is no i32.
+pub fn negate(e: i32) -> i64
     ensures { λ r. ⌜ r ≡ negated e ⌝ }
 {
-    if e == -2147483648 { 2147483647 } else { -e }
+    -(e as i64)
 }
 
 // The two's complement of a code.
