@@ -2,11 +2,11 @@
 -- store there changes nothing.
 use Prim.Native.Nat.{ℕ, _+_, _*_, _/_, _%_, _^_}
 use mathlib.Core.List.{List}
-use mathlib.Core.Bool.{Bool, cond}
+use mathlib.Core.Bool.{Bool, cond, _&&_}
 use lib.ListN.{length, getD, set, replicate}
 use lib.Dec.{ltb}
 use Rattle.kvmi.specs.Bits.{isOn, putBit}
-use Rattle.kvmi.specs.Tables.{crBit}
+use Rattle.kvmi.specs.Tables.{crBit, isMsr}
 use Rattle.store.specs.declared.words.Pending.{Pending}
 
 -- how many words a vCPU has
@@ -61,13 +61,20 @@ msrSlot msr = msr / 0xC0000000 * 8192 + msr % 8192
 unfoldable pub msrWord : ℕ → ℕ → ℕ
 msrWord vcpu msr = vcpu * blockWords + MSRS + msrSlot msr / 64
 
--- whether a vCPU's switch for an MSR is on
-unfoldable pub msrBitOn : List ℕ → ℕ → ℕ → Bool
-msrBitOn w vcpu msr = isOn (getD w (msrWord vcpu msr) 0) (msrSlot msr % 64)
+-- the bit in an MSR's place, and that bit as given
+unfoldable pub msrSlotOn : List ℕ → ℕ → ℕ → Bool
+msrSlotOn w vcpu msr = isOn (getD w (msrWord vcpu msr) 0) (msrSlot msr % 64)
 
--- a vCPU's switch for an MSR as given
+unfoldable pub setMsrSlot : List ℕ → ℕ → ℕ → Bool → List ℕ
+setMsrSlot w vcpu msr on = set w (msrWord vcpu msr) (putBit (getD w (msrWord vcpu msr) 0) (msrSlot msr % 64) on)
+
+-- whether a vCPU's switch for an MSR is on; a number outside message 12's ranges has none
+unfoldable pub msrBitOn : List ℕ → ℕ → ℕ → Bool
+msrBitOn w vcpu msr = isMsr msr && msrSlotOn w vcpu msr
+
+-- a vCPU's switch for an MSR as given, where there is one
 unfoldable pub setMsrBit : List ℕ → ℕ → ℕ → Bool → List ℕ
-setMsrBit w vcpu msr on = set w (msrWord vcpu msr) (putBit (getD w (msrWord vcpu msr) 0) (msrSlot msr % 64) on)
+setMsrBit w vcpu msr on = cond (isMsr msr) (setMsrSlot w vcpu msr on) w
 
 -- bit k of a 64-bit word as given; there is none past 63
 unfoldable pub putBit64 : ℕ → ℕ → Bool → ℕ

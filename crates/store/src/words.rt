@@ -4,7 +4,8 @@ use crate::bits::put_bit;
 use crate::bits::put_cr;
 ghost use mathlib.Core.Path.{_≡_};
 ghost use lib.ListN.{getD, set};
-ghost use Rattle.store.specs.Words.{field, setField, pending, msrSlot, msrWord, msrBitOn, setMsrBit, queuedPause, switchedField, switchedCr, endedWait, cleared};
+ghost use Rattle.kvmi.specs.Tables.{isMsr};
+ghost use Rattle.store.specs.Words.{field, setField, pending, msrSlot, msrWord, msrSlotOn, setMsrSlot, msrBitOn, setMsrBit, queuedPause, switchedField, switchedCr, endedWait, cleared};
 
 // How many words a vCPU has.
 pub const BLOCK_WORDS: usize = 272;
@@ -107,17 +108,43 @@ fn msr_word(vcpu: u16, msr: u32) -> usize
     (vcpu as usize) * BLOCK_WORDS + MSRS + (slot as usize) / 64
 }
 
-// Whether a vCPU's switch for an MSR is on.
-pub fn read_msr(words: &[u64], vcpu: u16, msr: u32) -> bool
-    ensures { λ r. ⌜ r ≡ msrBitOn (now (words .entry)) vcpu msr ⌝ }
+// Whether a number is an MSR that has a switch: one of message 12's ranges.
+pub fn is_msr(msr: u32) -> bool
+    ensures { λ r. ⌜ r ≡ isMsr msr ⌝ }
+{
+    (msr <= 0x1FFF) | (0xC0000000 <= msr) & (msr <= 0xC0001FFF)
+}
+
+// The bit in an MSR's place.
+fn slot_on(words: &[u64], vcpu: u16, msr: u32) -> bool
+    ensures { λ r. ⌜ r ≡ msrSlotOn (now (words .entry)) vcpu msr ⌝ }
 {
     let w = word(words, msr_word(vcpu, msr));
     bit_on(w, msr_slot(msr) % 64)
 }
 
-// A vCPU's switch for an MSR set.
+// Whether a vCPU's switch for an MSR is on; what has none is off.
+pub fn read_msr(words: &[u64], vcpu: u16, msr: u32) -> bool
+    ensures { λ r. ⌜ r ≡ msrBitOn (now (words .entry)) vcpu msr ⌝ }
+{
+    if !is_msr(msr) {
+        return false;
+    }
+    slot_on(words, vcpu, msr)
+}
+
+// A vCPU's switch for an MSR set; what has none stays as it is.
 pub fn write_msr(words: &mut [u64], vcpu: u16, msr: u32, on: bool)
     ensures { λ _. ⌜ now (words .exit) ≡ setMsrBit (now (words .entry)) vcpu msr on ⌝ }
+{
+    if is_msr(msr) {
+        set_slot(words, vcpu, msr, on);
+    }
+}
+
+// The bit in an MSR's place set.
+fn set_slot(words: &mut [u64], vcpu: u16, msr: u32, on: bool)
+    ensures { λ _. ⌜ now (words .exit) ≡ setMsrSlot (now (words .entry)) vcpu msr on ⌝ }
 {
     let at = msr_word(vcpu, msr);
     let w = put_bit(word(words, at), msr_slot(msr) % 64, on);

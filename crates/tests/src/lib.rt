@@ -9,7 +9,7 @@ ghost use mathlib.Core.Bool.{not, _&&_, _||_};
 ghost use lib.Dec.{leb, eqb};
 ghost use Rattle.kvmi.specs.Bits.{isOn, among};
 ghost use Rattle.kvmi.specs.Settings.{isSet};
-ghost use Rattle.kvmi.specs.Tables.{isCr, isMsr};
+ghost use Rattle.kvmi.specs.Tables.{isCr};
 ghost use Rattle.kvmi.specs.Message.{sizeFits, carriesData, isVmEvent, isVcpuEvent};
 ghost use Rattle.kvmi.specs.Verdict.{repliesOn, isAccess, inOnePage, pageExists, modeOf};
 ghost use Rattle.tests.specs.Known.{isKnown};
@@ -85,12 +85,6 @@ pub fn is_cr(cr: u32) -> bool
     ensures { λ r. ⌜ r ≡ isCr cr ⌝ }
 {
     (cr == 0) | (cr == 3) | (cr == 4)
-}
-
-pub fn is_msr(msr: u32) -> bool
-    ensures { λ r. ⌜ r ≡ isMsr msr ⌝ }
-{
-    (msr <= 0x1FFF) | ((0xC0000000 <= msr) & (msr <= 0xC0001FFF))
 }
 
 // Whether a page can have an access: W needs R.

@@ -1,8 +1,8 @@
 -- The test is the definition's. Assumes nothing.
 use mathlib.Core.Path.{refl}
 use Rattle.kvmi.specs.Tables.{isMsr}
-use Rattle.tests.proofs.is_msr.Statement.{statement}
-use Rattle.tests.proofs.is_msr.Tie as tie
+use Rattle.store.proofs.words.is_msr.Statement.{statement}
+use Rattle.store.proofs.words.is_msr.Tie as tie
 
 returns : tie.Need-returns
 unfolding isMsr
