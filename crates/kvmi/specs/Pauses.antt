@@ -2,6 +2,7 @@
 use Prim.Native.Nat.{ℕ, _+_}
 use mathlib.Core.List.{List, [], _∷_}
 use mathlib.Core.Bool.{not, _&&_}
+use lib.ListN.{getD}
 use lib.Dec.{eqb}
 use Rattle.kvmi.specs.declared.Settings.{Settings}
 use Rattle.kvmi.specs.declared.Signal.{Signal}
@@ -22,12 +23,12 @@ kicks vcpu (Crash v) = 0
 unfoldable pub accepted : ℕ → Paper → ℕ
 accepted vcpu a = kicks vcpu (a .signal)
 
--- a pause event is sent where an entry of the vCPU writes bytes
-unfoldable pub sent : ℕ → Call → Paper → ℕ
-sent vcpu (message msg out guest) a = 0
-sent vcpu (ready v) a = 0
-sent vcpu (enter v block out) a = bit (eqb v vcpu && not (eqb (a .count) 0))
-sent vcpu (writeImage out) a = 0
+-- a pause event is sent where an entry of the vCPU writes an event whose number, byte 12 of the output, is 2
+unfoldable pub sent : ℕ → Call → Paper → List ℕ → ℕ
+sent vcpu (message msg out guest) a wrote = 0
+sent vcpu (ready v) a wrote = 0
+sent vcpu (enter v block out) a wrote = bit (eqb v vcpu && (not (eqb (a .count) 0) && eqb (getD wrote 12 0) 2))
+sent vcpu (writeImage out) a wrote = 0
 
 -- the pauses that a vCPU has queued
 unfoldable pub queued : ℕ → Model → ℕ
@@ -40,4 +41,4 @@ acceptedIn vcpu s m (c ∷ cs) = accepted vcpu (step s m c .answer) + acceptedIn
 
 unfoldable pub sentIn : ℕ → Settings → Model → List Call → ℕ
 sentIn vcpu s m [] = 0
-sentIn vcpu s m (c ∷ cs) = sent vcpu c (step s m c .answer) + sentIn vcpu s (step s m c .model) cs
+sentIn vcpu s m (c ∷ cs) = sent vcpu c (step s m c .answer) (step s m c .out) + sentIn vcpu s (step s m c .model) cs

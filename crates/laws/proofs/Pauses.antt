@@ -40,7 +40,7 @@ use Rattle.laws.proofs.Steps.{step-kept}
 
 -- the sum over one call that leaves the session open
 abbrev Balanced : ℕ → Model → Call → Step → Type 0
-Balanced vcpu m c r = r .model .closed ≡ false → queued vcpu m + accepted vcpu (r .answer) ≡ sent vcpu c (r .answer) + queued vcpu (r .model)
+Balanced vcpu m c r = r .model .closed ≡ false → queued vcpu m + accepted vcpu (r .answer) ≡ sent vcpu c (r .answer) (r .out) + queued vcpu (r .model)
 
 -- one vCPU's record changed: the others' queues stay
 queue-of : (t : Tables) (i v : ℕ) (x : Vcpu) → i < length (t .vcpus) → vcpuAt (setVcpu t i x) v .pauses ≡ cond (eqb i v) (x .pauses) (vcpuAt t v .pauses)
@@ -64,6 +64,11 @@ queue-kept t i v x e =
 event-long : (seq v : ℕ) (block : List ℕ) → eqb (length (pauseEvent seq v block)) 0 ≡ false
 unfolding pauseEvent eventBytes messageBytes le
 event-long seq v block = ne-eqb (length (pauseEvent seq v block)) 0 (λ e. omega arith)
+
+-- and is event 2
+event-two : (seq v : ℕ) (block rest : List ℕ) → eqb (getD (pauseEvent seq v block ++ rest) 12 0) 2 ≡ true
+unfolding pauseEvent eventBytes messageBytes le
+event-two seq v block rest = refl
 
 none-sent : (t : Bool) → bit (t && false) ≡ 0
 none-sent true = refl
@@ -107,7 +112,7 @@ module _ (s : Settings) (vcpu : ℕ) where
   end-even m guest d v false = add-zero _
 
   -- each call
-  still : (m : Model) (c : Call) (k : ℕ) (out guest : List ℕ) → sent vcpu c (plain k) ≡ 0 → Balanced vcpu m c (unchanged k m out guest)
+  still : (m : Model) (c : Call) (k : ℕ) (out guest : List ℕ) → sent vcpu c (plain k) out ≡ 0 → Balanced vcpu m c (unchanged k m out guest)
   unfolding accepted
   still m c k out guest z _ = rw z (add-zero _ ∙ sym (zero-add _))
 
@@ -168,7 +173,8 @@ module _ (s : Settings) (vcpu : ℕ) where
       rest false = add-zero _ ∙ sym (zero-add _)
 
       pauses : leb (s .vcpus) v ≡ false → leb 1 (vcpuAt (m .tables) v .pauses) ≡ true
-          → vcpuAt (m .tables) vcpu .pauses + 0 ≡ bit (eqb v vcpu && not (eqb (length (pauseEvent (m .seq) v block)) 0)) + vcpuAt (setVcpu (m .tables) v (withPauses (vcpuAt (m .tables) v) (vcpuAt (m .tables) v .pauses - 1))) vcpu .pauses
+          → vcpuAt (m .tables) vcpu .pauses + 0 ≡ bit (eqb v vcpu && (not (eqb (length (pauseEvent (m .seq) v block)) 0) && eqb (getD (pauseEvent (m .seq) v block ++ drop (length (pauseEvent (m .seq) v block)) out) 12 0) 2))
+          + vcpuAt (setVcpu (m .tables) v (withPauses (vcpuAt (m .tables) v) (vcpuAt (m .tables) v .pauses - 1))) vcpu .pauses
       pauses few one =
           let t = m .tables in
           let p = vcpuAt t v .pauses in
@@ -177,7 +183,7 @@ module _ (s : Settings) (vcpu : ℕ) where
           let some-queued = leb-true 1 p one in
           test (eqb v vcpu)
           (λ e. let same : p ≡ vcpuAt t vcpu .pauses = ap (λ (k : ℕ). vcpuAt t k .pauses) (eqb-true v vcpu e) in
-          rw (q, e, event-long (m .seq) v block) (omega arith))
+          rw (q, e, event-long (m .seq) v block, event-two (m .seq) v block (drop (length (pauseEvent (m .seq) v block)) out)) (omega arith))
           (λ e. rw (q, e) (add-zero _ ∙ sym (zero-add _)))
 
   pub step-balanced : (m : Model) (c : Call) → Valid s (m .tables) → Balanced vcpu m c (step s m c)
