@@ -22,6 +22,11 @@ pub le-low : (k n : ℕ) → le k (n % 256 ^ k) ≡ le k n
 unfolding le
 le-low k n = sym (append-nil (le k (n % 256 ^ k))) ∙ le-join k 0 n ∙ rw add-zero
 
+-- a number of one byte, and a zero byte behind it
+pub le-padded : (n : ℕ) → n < 256 → le 2 n ≡ le 1 n ++ le 1 0
+unfolding le
+le-padded n h = let high : n / 256 ≡ 0 = omega arith in rw high
+
 -- ---- the bytes of one record
 pub vm-bytes : (n events : ℕ) → le 2 0x4D56 ++ le 2 1 ++ le 2 n ++ le 2 (events % 65536) ≡ write (vmRecord n events)
 unfolding writeRow
@@ -39,9 +44,9 @@ pub ms-bytes : (vcpu msr : ℕ) → le 2 0x534D ++ le 2 vcpu ++ le 4 msr ≡ wri
 unfolding writeRow
 ms-bytes vcpu msr = simp (append-assoc, append-nil)
 
-pub pa-bytes : (w : ℕ) → le 2 0x4150 ++ le 2 (w / 2 ^ 55) ++ le 1 (w % 8) ++ le 1 0 ++ le 8 (w / 8 % 2 ^ 52) ≡ write (paRecord (pageOfWord w))
+pub pa-bytes : (w : ℕ) → le 2 0x4150 ++ le 2 (w / 2 ^ 55) ++ le 2 (w % 8) ++ le 8 (w / 8 % 2 ^ 52) ≡ write (paRecord (pageOfWord w))
 unfolding writeRow pageOfWord
-pa-bytes w = simp (append-assoc, append-nil)
+pa-bytes w = rw (le-padded (w % 8) (omega arith)) (simp (append-assoc, append-nil))
 
 pub en-bytes : (n : ℕ) → le 2 0x4E45 ++ le 4 (n % 4294967296) ≡ write (enRecord n)
 unfolding writeRow

@@ -83,15 +83,14 @@ pub fn ms(out: &mut [u8], vcpu: u16, msr: u32)
     }
 }
 
-// The PA record of a page word.
+// The PA record of a page word. Its access and its zero byte are stored as one number.
 pub fn pa(out: &mut [u8], w: u64)
     ensures { λ _. ⌜ now (out .exit) ≡ store (now (out .entry)) 0 (write (paRecord (pageOfWord w))) ⌝ }
 {
     if 14 <= out.len() {
         wire::store16(out, 0, PA);
         wire::store16(out, 2, (w / VIEW) as u16);
-        wire::store8(out, 4, (w % 8) as u8);
-        wire::store8(out, 5, 0);
+        wire::store16(out, 4, (w % 8) as u16);
         wire::store64(out, 6, w / 8 % PAGES);
     }
 }

@@ -1,5 +1,5 @@
 -- The test of one record as code performs it, with what it asks of the records before it.
-use Prim.Native.Nat.{ℕ, suc, _+_}
+use Prim.Native.Nat.{ℕ, suc, _+_, _%_, _^_}
 use mathlib.Core.List.{List}
 use mathlib.Core.Bool.{Bool, true, false, _&&_}
 use lib.ListN.{length}
@@ -27,16 +27,21 @@ judgeStep false may off next = Stop (BadForm off)
 unfoldable pub isAfter : Progress → ℕ → ℕ → ℕ → Bool
 isAfter p kind major minor = leb (suc (place (p .kind) (p .major) (p .minor))) (place kind major minor)
 
+-- one record more, as a 64-bit number counts them (for any progress: no image is so long that it comes back to 0)
+abbrev pub oneMore : Progress → ℕ
+oneMore p = (p .records + 1) % 2 ^ 64
+
 -- behind VM
 abbrev pub firstProgress : ℕ → Progress
 firstProgress events =
-    record { at = 8; kind = 0; major = 0; minor = 0; events = events; count = 0; ready = 0; pages = 0 }
+    record { at = 8; records = 1; kind = 0; major = 0; minor = 0; events = events; count = 0; ready = 0; pages = 0 }
 
 -- behind a VC, an MS and a PA
 abbrev pub pastVc : Progress → Row (widths VC) → Progress
 pastVc p f =
     record {
       at = p .at + 10;
+      records = oneMore p;
       kind = 1;
       major = vcVcpu f;
       minor = 0;
@@ -50,6 +55,7 @@ abbrev pub pastMs : Progress → Row (widths MS) → Progress
 pastMs p f =
     record {
       at = p .at + 8;
+      records = oneMore p;
       kind = 2;
       major = msVcpu f;
       minor = msMsr f;
@@ -63,6 +69,7 @@ abbrev pub pastPa : Progress → Row (widths PA) → Progress
 pastPa p f =
     record {
       at = p .at + 14;
+      records = oneMore p;
       kind = 3;
       major = paView f;
       minor = paPage f;
@@ -92,21 +99,21 @@ endStep true false p = Stop (BadForm (p .at + 6))
 endStep false last p = Stop (BadForm (p .at))
 
 -- "EN, then nothing"; n is the length of the image
-unfoldable pub enStep : Settings → ℕ → Progress → ℕ → Row (widths EN) → Step
-enStep s n p records f = endStep (isAfter p 4 0 0 && eqb (p .count) (s .vcpus) && eqb (enCount f) records) (eqb n (p .at + 6)) p
+unfoldable pub enStep : Settings → ℕ → Progress → Row (widths EN) → Step
+enStep s n p f = endStep (isAfter p 4 0 0 && eqb (p .count) (s .vcpus) && eqb (enCount f) (p .records)) (eqb n (p .at + 6)) p
 
--- the next record, by its kind, behind so many records
-unfoldable pub stepBy : Settings → List ℕ → Progress → ℕ → Mark → Step
-stepBy s l p records Vm = Stop (BadForm (p .at))
-stepBy s l p records Vc = vcStep s p (rowAt VC l (p .at))
-stepBy s l p records Ms = msStep s p (rowAt MS l (p .at))
-stepBy s l p records Pa = paStep s p (rowAt PA l (p .at))
-stepBy s l p records En = enStep s (length l) p records (rowAt EN l (p .at))
-stepBy s l p records Cut = Stop (BadForm (p .at))
+-- the next record, by its kind
+unfoldable pub stepBy : Settings → List ℕ → Progress → Mark → Step
+stepBy s l p Vm = Stop (BadForm (p .at))
+stepBy s l p Vc = vcStep s p (rowAt VC l (p .at))
+stepBy s l p Ms = msStep s p (rowAt MS l (p .at))
+stepBy s l p Pa = paStep s p (rowAt PA l (p .at))
+stepBy s l p En = enStep s (length l) p (rowAt EN l (p .at))
+stepBy s l p Cut = Stop (BadForm (p .at))
 
 -- the next record
-unfoldable pub stepOf : Settings → List ℕ → Progress → ℕ → Step
-stepOf s l p records = stepBy s l p records (markAt l (p .at))
+unfoldable pub stepOf : Settings → List ℕ → Progress → Step
+stepOf s l p = stepBy s l p (markAt l (p .at))
 
 -- the first record, by its kind: "one VM" comes first
 unfoldable pub firstBy : Settings → List ℕ → Mark → Step

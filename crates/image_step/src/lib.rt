@@ -12,8 +12,9 @@ ghost use Rattle.image_step.specs.Step.{isAfter, vmStep, vcStep, msStep,
 
 // What the tests of a record ask of those before it.
 pub struct Progress {
-    // Where the next record stands.
+    // Where the next record stands, and how many stand before it. The count wraps, since it may start at any number.
     pub at: usize,
+    pub records: usize,
     // The place of the last one in the image's order.
     pub kind: u32,
     pub major: u16,
@@ -93,6 +94,7 @@ fn step_vm(s: Settings, l: &[u8]) -> Step
     }
     let progress = Progress {
         at: 8,
+        records: 1,
         kind: 0,
         major: 0,
         minor: 0,
@@ -130,6 +132,7 @@ fn step_vc(s: Settings, l: &[u8], p: Progress) -> Step
     }
     let progress = Progress {
         at: next,
+        records: std::num::wrapping_add_usize(p.records, 1),
         kind: 1,
         major: vcpu,
         minor: 0,
@@ -160,6 +163,7 @@ fn step_ms(s: Settings, l: &[u8], p: Progress) -> Step
     }
     let progress = Progress {
         at: next,
+        records: std::num::wrapping_add_usize(p.records, 1),
         kind: 2,
         major: vcpu,
         minor: msr as u64,
@@ -195,6 +199,7 @@ fn step_pa(s: Settings, l: &[u8], p: Progress) -> Step
     }
     let progress = Progress {
         at: next,
+        records: std::num::wrapping_add_usize(p.records, 1),
         kind: 3,
         major: view,
         minor: page,
@@ -206,9 +211,9 @@ fn step_pa(s: Settings, l: &[u8], p: Progress) -> Step
     Step::Next { progress }
 }
 
-fn step_en(s: Settings, l: &[u8], p: Progress, records: usize) -> Step
+fn step_en(s: Settings, l: &[u8], p: Progress) -> Step
     requires { ⌜ p .at + 6 ≤ length (now l) ⌝ }
-    ensures { λ r. ⌜ r ≡ enStep s (length (now (l .entry))) p records (rowAt EN (now (l .entry)) (p .at)) ⌝ }
+    ensures { λ r. ⌜ r ≡ enStep s (length (now (l .entry))) p (rowAt EN (now (l .entry)) (p .at)) ⌝ }
 {
     let at = p.at;
     let next = at + 6;
@@ -219,7 +224,7 @@ fn step_en(s: Settings, l: &[u8], p: Progress, records: usize) -> Step
     if p.count != s.vcpus {
         return refuse(at);
     }
-    if n as usize != records {
+    if n as usize != p.records {
         return refuse(at);
     }
     if l.len() != next {
@@ -233,16 +238,16 @@ fn step_en(s: Settings, l: &[u8], p: Progress, records: usize) -> Step
     Step::Stop { outcome }
 }
 
-// The test of the record that comes next, behind a number of others.
-pub fn next_step(s: Settings, l: &[u8], p: Progress, records: usize) -> Step
-    ensures { λ r. ⌜ r ≡ stepOf s (now (l .entry)) p records ⌝ }
+// The test of the record that comes next.
+pub fn next_step(s: Settings, l: &[u8], p: Progress) -> Step
+    ensures { λ r. ⌜ r ≡ stepOf s (now (l .entry)) p ⌝ }
 {
     let mark = image_form::mark_at(l, p.at);
     match mark {
         Mark::Vc => step_vc(s, l, p),
         Mark::Ms => step_ms(s, l, p),
         Mark::Pa => step_pa(s, l, p),
-        Mark::En => step_en(s, l, p, records),
+        Mark::En => step_en(s, l, p),
         Mark::Vm => refuse(p.at),
         Mark::Cut => refuse(p.at),
     }

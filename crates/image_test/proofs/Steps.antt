@@ -1,6 +1,6 @@
 -- One record more: the step of the test goes on as loading does, on the tables that the records before it state. Assumes nothing.
 use mathlib.Core.Path.{_≡_, refl, sym, ap, _∙_}
-use Prim.Native.Nat.{ℕ, zero, suc, _+_, _-_, _≤_, _<_}
+use Prim.Native.Nat.{ℕ, zero, suc, _+_, _-_, _^_, _≤_, _<_}
 use native.Mathlib.Nat.{add-assoc, add-zero, zero-add, suc-add, add-suc, not-suc-le-zero, le-refl, le-of-suc-le-suc}
 use native.Mathlib.Omega.{arith}
 use mathlib.Core.List.{List, [], _∷_, _++_}
@@ -120,28 +120,28 @@ end-records t off l = ending-at t off (drop off l)
 
 -- ---- one step
 module _ (s : Settings) (l : List ℕ) (o : Outcome) where
-  -- what a step at a place, behind n records, leaves to be shown
-  abbrev pub Goes : ℕ → ℕ → Step → Type 0
-  Goes at n (Next q) = Rest s l q (n + 1) o × (at < q .at)
-  Goes at n (Stop x) = x ≡ o
+  -- what a step at a place leaves to be shown
+  abbrev pub Goes : ℕ → Step → Type 0
+  Goes at (Next q) = Rest s l q o × (at < q .at)
+  Goes at (Stop x) = x ≡ o
 
-  judge-goes : (at n : ℕ) (form may : Bool) (off : ℕ) (next : Loaded) (q : Progress) → outcome (judge form may off next) ≡ o
-      → (So form → So may → outcome next ≡ o → Rest s l q (n + 1) o × (at < q .at)) → Goes at n (judgeStep form may off q)
+  judge-goes : (at : ℕ) (form may : Bool) (off : ℕ) (next : Loaded) (q : Progress) → outcome (judge form may off next) ≡ o
+      → (So form → So may → outcome next ≡ o → Rest s l q o × (at < q .at)) → Goes at (judgeStep form may off q)
   unfolding outcome
-  judge-goes at n true true off next q e k = k refl refl e
-  judge-goes at n true false off next q e k = e
-  judge-goes at n false may off next q e k = e
+  judge-goes at true true off next q e k = k refl refl e
+  judge-goes at true false off next q e k = e
+  judge-goes at false may off next q e k = e
 
-  end-goes : (at n : ℕ) (form : Bool) (p : Progress) (t : Tables) → length (t .pages) ≡ p .pages → t .events ≡ p .events → readyLoaded 0 0 (t .vcpus) ≡ p .ready → (last : Bool)
-      → outcome (judge form true (p .at) (cond last (loaded t) (badForm (p .at + 6)))) ≡ o → Goes at n (endStep form last p)
+  end-goes : (at : ℕ) (form : Bool) (p : Progress) (t : Tables) → length (t .pages) ≡ p .pages → t .events ≡ p .events → readyLoaded 0 0 (t .vcpus) ≡ p .ready → (last : Bool)
+      → outcome (judge form true (p .at) (cond last (loaded t) (badForm (p .at + 6)))) ≡ o → Goes at (endStep form last p)
   unfolding outcome
-  end-goes at n true p t a b c true e = rw (a, b, c) at e
-  end-goes at n true p t a b c false e = e
-  end-goes at n false p t a b c true e = e
-  end-goes at n false p t a b c false e = e
+  end-goes at true p t a b c true e = rw (a, b, c) at e
+  end-goes at true p t a b c false e = e
+  end-goes at false p t a b c true e = e
+  end-goes at false p t a b c false e = e
 
-  module _ (p : Progress) (n : ℕ) (t : Tables) (lo : ℕ) (st : Stands s l p n t lo) where
-    vc-goes : markAt l (p .at) ≡ Vc → outcome (loadRest s (s .vcpus) (p .at) lo t (recordsAt l (p .at))) ≡ o → Goes (p .at) n (vcStep s p (rowAt VC l (p .at)))
+  module _ (fit : length l < 2 ^ 64) (p : Progress) (t : Tables) (lo : ℕ) (st : Stands s l p t lo) where
+    vc-goes : markAt l (p .at) ≡ Vc → outcome (loadRest s (s .vcpus) (p .at) lo t (recordsAt l (p .at))) ≡ o → Goes (p .at) (vcStep s p (rowAt VC l (p .at)))
     unfolding vcStep vcFits isAfter putBit64
     vc-goes m e =
         let f = rowAt VC l (p .at) in
@@ -149,7 +149,7 @@ module _ (s : Settings) (l : List ℕ) (o : Outcome) where
         let same : fitsIn VC (s .vcpus) lo t f ≡ (isAfter p 1 (f .0) 0 && eqb (f .0) (p .count) && vcFits s f) = rw (st .order, st .count) in
         let next = loadRest s (s .vcpus) (p .at + 10) (suc (orderOf VC f)) (withRecord VC t f) (recordsAt l (p .at + 10)) in
         let g : outcome (judge (fitsIn VC (s .vcpus) lo t f) (mayOf VC s f) (p .at) next) ≡ o = rw (rest-whole l (p .at) VC m) at e in
-        judge-goes (p .at) n (isAfter p 1 (f .0) 0 && eqb (f .0) (p .count) && vcFits s f) (mayOf VC s f) (p .at) next (pastVc p f) (rw same at g)
+        judge-goes (p .at) (isAfter p 1 (f .0) 0 && eqb (f .0) (p .count) && vcFits s f) (mayOf VC s f) (p .at) next (pastVc p f) (rw same at g)
         (λ a b d.
         let i : f .0 ≡ p .count = eqb-true (f .0) (p .count) (search (and-l, and-r) depth 8) in
         let w : f .0 < s .vcpus = ltb-true (f .0) (s .vcpus) (search (and-l, and-r) depth 8) in
@@ -165,7 +165,7 @@ module _ (s : Settings) (l : List ℕ) (o : Outcome) where
               ready = ready-snoc 0 0 (t .vcpus) (vcpuOfRow f) ∙ rw (zero-add, st .ready, st .count, lt-ltb (p .count) 64 small);
               pages = st .pages;
               events = st .events;
-              records = omega (arith, len, st .records);
+              records = omega (arith, len, st .records, st .bound);
               bound = omega (arith, st .bound);
               order = refl;
             };
@@ -180,7 +180,7 @@ module _ (s : Settings) (l : List ℕ) (o : Outcome) where
         (λ h. rw (le-ltb j (length (t .vcpus)) (omega arith)))
         (le-or-lt (suc j) (length (t .vcpus))))
 
-    ms-goes : markAt l (p .at) ≡ Ms → outcome (loadRest s (s .vcpus) (p .at) lo t (recordsAt l (p .at))) ≡ o → Goes (p .at) n (msStep s p (rowAt MS l (p .at)))
+    ms-goes : markAt l (p .at) ≡ Ms → outcome (loadRest s (s .vcpus) (p .at) lo t (recordsAt l (p .at))) ≡ o → Goes (p .at) (msStep s p (rowAt MS l (p .at)))
     unfolding msStep msFits isAfter msForm
     ms-goes m e =
         let f = rowAt MS l (p .at) in
@@ -188,7 +188,7 @@ module _ (s : Settings) (l : List ℕ) (o : Outcome) where
         let same : fitsIn MS (s .vcpus) lo t f ≡ (isAfter p 2 (f .0) (f .1 .0) && eqb (p .count) (s .vcpus) && msFits (p .count) (p .ready) f) = rw (ms-same (f .0) (isMsr (f .1 .0)), st .order, st .count) in
         let next = loadRest s (s .vcpus) (p .at + 8) (suc (orderOf MS f)) (withRecord MS t f) (recordsAt l (p .at + 8)) in
         let g : outcome (judge (fitsIn MS (s .vcpus) lo t f) true (p .at) next) ≡ o = rw (rest-whole l (p .at) MS m) at e in
-        judge-goes (p .at) n (isAfter p 2 (f .0) (f .1 .0) && eqb (p .count) (s .vcpus) && msFits (p .count) (p .ready) f) true (p .at) next (pastMs p f) (rw same at g)
+        judge-goes (p .at) (isAfter p 2 (f .0) (f .1 .0) && eqb (p .count) (s .vcpus) && msFits (p .count) (p .ready) f) true (p .at) next (pastMs p f) (rw same at g)
         (λ a b d.
         let len = length-snoc (t .msrs) (msrOfRow f) in (
           record {
@@ -201,7 +201,7 @@ module _ (s : Settings) (l : List ℕ) (o : Outcome) where
               ready = st .ready;
               pages = st .pages;
               events = st .events;
-              records = omega (arith, len, st .records);
+              records = omega (arith, len, st .records, st .bound);
               bound = omega (arith, st .bound);
               order = refl;
             };
@@ -210,7 +210,7 @@ module _ (s : Settings) (l : List ℕ) (o : Outcome) where
           omega arith,
         ))
 
-    pa-goes : markAt l (p .at) ≡ Pa → outcome (loadRest s (s .vcpus) (p .at) lo t (recordsAt l (p .at))) ≡ o → Goes (p .at) n (paStep s p (rowAt PA l (p .at)))
+    pa-goes : markAt l (p .at) ≡ Pa → outcome (loadRest s (s .vcpus) (p .at) lo t (recordsAt l (p .at))) ≡ o → Goes (p .at) (paStep s p (rowAt PA l (p .at)))
     unfolding paStep paFits isAfter
     pa-goes m e =
         let f = rowAt PA l (p .at) in
@@ -218,7 +218,7 @@ module _ (s : Settings) (l : List ℕ) (o : Outcome) where
         let same : fitsIn PA (s .vcpus) lo t f ≡ (isAfter p 3 (f .0) (f .1 .1 .1 .0) && eqb (p .count) (s .vcpus) && paFits (p .pages) f) = rw (st .order, st .count, st .pages) in
         let next = loadRest s (s .vcpus) (p .at + 14) (suc (orderOf PA f)) (withRecord PA t f) (recordsAt l (p .at + 14)) in
         let g : outcome (judge (fitsIn PA (s .vcpus) lo t f) (mayOf PA s f) (p .at) next) ≡ o = rw (rest-whole l (p .at) PA m) at e in
-        judge-goes (p .at) n (isAfter p 3 (f .0) (f .1 .1 .1 .0) && eqb (p .count) (s .vcpus) && paFits (p .pages) f) (mayOf PA s f) (p .at) next (pastPa p f) (rw same at g)
+        judge-goes (p .at) (isAfter p 3 (f .0) (f .1 .1 .1 .0) && eqb (p .count) (s .vcpus) && paFits (p .pages) f) (mayOf PA s f) (p .at) next (pastPa p f) (rw same at g)
         (λ a b d.
         let len = length-snoc (t .pages) (pageOfRow f) in (
           record {
@@ -231,7 +231,7 @@ module _ (s : Settings) (l : List ℕ) (o : Outcome) where
               ready = st .ready;
               pages = omega (arith, len, st .pages);
               events = st .events;
-              records = omega (arith, len, st .records);
+              records = omega (arith, len, st .records, st .bound);
               bound = omega (arith, st .bound);
               order = refl;
             };
@@ -240,16 +240,16 @@ module _ (s : Settings) (l : List ℕ) (o : Outcome) where
           omega arith,
         ))
 
-    en-goes : markAt l (p .at) ≡ En → outcome (loadRest s (s .vcpus) (p .at) lo t (recordsAt l (p .at))) ≡ o → Goes (p .at) n (enStep s (length l) p n (rowAt EN l (p .at)))
+    en-goes : markAt l (p .at) ≡ En → outcome (loadRest s (s .vcpus) (p .at) lo t (recordsAt l (p .at))) ≡ o → Goes (p .at) (enStep s (length l) p (rowAt EN l (p .at)))
     unfolding enStep isAfter
     en-goes m e =
         let f = rowAt EN l (p .at) in
         let room : p .at + 6 ≤ length l = mark-room l (p .at) EN m in
-        let same : fitsIn EN (s .vcpus) lo t f ≡ (isAfter p 4 0 0 && eqb (p .count) (s .vcpus) && eqb (f .0) n) = rw (st .order, st .records, st .count) in
+        let same : fitsIn EN (s .vcpus) lo t f ≡ (isAfter p 4 0 0 && eqb (p .count) (s .vcpus) && eqb (f .0) (p .records)) = rw (st .order, st .records, st .count) in
         let last : eqb (length (drop (p .at + 6) l)) 0 ≡ eqb (length l) (p .at + 6) = rw length-drop (end-test (length l) (p .at + 6) room) in
         let g : outcome (judge (fitsIn EN (s .vcpus) lo t f) true (p .at) (ending t (p .at + 6) (recordsAt l (p .at + 6)))) ≡ o = rw (rest-whole l (p .at) EN m) at e in
         let h : outcome (judge (fitsIn EN (s .vcpus) lo t f) true (p .at) (cond (eqb (length l) (p .at + 6)) (loaded t) (badForm (p .at + 6)))) ≡ o = rw (end-records t (p .at + 6) l, last) at g in
-        end-goes (p .at) n (isAfter p 4 0 0 && eqb (p .count) (s .vcpus) && eqb (f .0) n) p t (st .pages) (st .events) (st .ready) (eqb (length l) (p .at + 6)) (rw same at h)
+        end-goes (p .at) (isAfter p 4 0 0 && eqb (p .count) (s .vcpus) && eqb (f .0) (p .records)) p t (st .pages) (st .events) (st .ready) (eqb (length l) (p .at + 6)) (rw same at h)
       where
         end-test : (a b : ℕ) → b ≤ a → eqb (a - b) 0 ≡ eqb a b
         end-test a b h = ⊎-elim
@@ -257,7 +257,7 @@ module _ (s : Settings) (l : List ℕ) (o : Outcome) where
             (λ (g : b < a). ne-eqb (a - b) 0 (λ e. omega arith) ∙ sym (ne-eqb a b (λ e. omega arith)))
             (le-or-lt a b)
 
-    by-mark : (m : Mark) → markAt l (p .at) ≡ m → outcome (loadRest s (s .vcpus) (p .at) lo t (recordsAt l (p .at))) ≡ o → Goes (p .at) n (stepBy s l p n m)
+    by-mark : (m : Mark) → markAt l (p .at) ≡ m → outcome (loadRest s (s .vcpus) (p .at) lo t (recordsAt l (p .at))) ≡ o → Goes (p .at) (stepBy s l p m)
     unfolding stepBy outcome recordsAt
     by-mark Vm m e = rw (rest-whole l (p .at) VM m) at e
     by-mark Vc m e = vc-goes m e
@@ -266,19 +266,19 @@ module _ (s : Settings) (l : List ℕ) (o : Outcome) where
     by-mark En m e = en-goes m e
     by-mark Cut m e = sym (ap outcome (cut-none s (s .vcpus) (p .at) lo t (drop (p .at) l) (mark-cut l (p .at) m))) ∙ e
 
-  pub next-goes : (p : Progress) (n : ℕ) → Rest s l p n o → Goes (p .at) n (stepOf s l p n)
+  pub next-goes : length l < 2 ^ 64 → (p : Progress) → Rest s l p o → Goes (p .at) (stepOf s l p)
   unfolding stepOf
-  next-goes p n r = by-mark p n (r .tables) (r .least) (r .stands) (markAt l (p .at)) refl (r .goes)
+  next-goes fit p r = by-mark fit p (r .tables) (r .least) (r .stands) (markAt l (p .at)) refl (r .goes)
 
   -- ---- the first record
-  vm-goes : markAt l 0 ≡ Vm → outcome (loadRecords s (recordsAt l 0)) ≡ o → Goes 0 0 (vmStep s (rowAt VM l 0))
+  vm-goes : markAt l 0 ≡ Vm → outcome (loadRecords s (recordsAt l 0)) ≡ o → Goes 0 (vmStep s (rowAt VM l 0))
   unfolding vmStep vmForm vmMay readyLoaded
   vm-goes m e =
       let f = rowAt VM l 0 in
       let room : 0 + 8 ≤ length l = mark-room l 0 VM m in
       let next = loadRest s (f .1 .0) 8 (suc (orderOf VM f)) (stated (f .1 .1 .0)) (recordsAt l 8) in
       let g : outcome (judge (eqb (f .0) 1 && vmForm (f .1 .0) (f .1 .1 .0)) (vmMay s (f .1 .0) (f .1 .1 .0)) 0 next) ≡ o = rw (rest-whole l 0 VM m) at e in
-      judge-goes 0 0 (eqb (f .0) 1 && vmForm (f .1 .0) (f .1 .1 .0)) (vmMay s (f .1 .0) (f .1 .1 .0)) 0 next (firstProgress (f .1 .1 .0)) g
+      judge-goes 0 (eqb (f .0) 1 && vmForm (f .1 .0) (f .1 .1 .0)) (vmMay s (f .1 .0) (f .1 .1 .0)) 0 next (firstProgress (f .1 .1 .0)) g
       (λ a b d.
       let n : f .1 .0 ≡ s .vcpus = eqb-true (f .1 .0) (s .vcpus) (search (and-l, and-r) depth 8) in
       let w : f .1 .0 ≤ 16 = leb-true (f .1 .0) 16 (search (and-l, and-r) depth 8) in (
@@ -301,7 +301,7 @@ module _ (s : Settings) (l : List ℕ) (o : Outcome) where
         omega arith,
       ))
 
-  first-by : (m : Mark) → markAt l 0 ≡ m → outcome (loadRecords s (recordsAt l 0)) ≡ o → Goes 0 0 (firstBy s l m)
+  first-by : (m : Mark) → markAt l 0 ≡ m → outcome (loadRecords s (recordsAt l 0)) ≡ o → Goes 0 (firstBy s l m)
   unfolding firstBy outcome recordsAt
   first-by Vm m e = vm-goes m e
   first-by Vc m e = rw (rest-whole l 0 VC m) at e
@@ -311,12 +311,12 @@ module _ (s : Settings) (l : List ℕ) (o : Outcome) where
   first-by Cut m e = sym (ap outcome (first-none s (drop 0 l) (mark-cut l 0 m))) ∙ e
 
   -- ---- what a step says
-  pub went : (at n : ℕ) (x : Step) (q : Progress) → x ≡ Next q → Goes at n x → Rest s l q (n + 1) o × (at < q .at)
-  went at n x q e g = rw e at g
+  pub went : (at : ℕ) (x : Step) (q : Progress) → x ≡ Next q → Goes at x → Rest s l q o × (at < q .at)
+  went at x q e g = rw e at g
 
-  pub stopped : (at n : ℕ) (x : Step) (y : Outcome) → x ≡ Stop y → Goes at n x → y ≡ o
-  stopped at n x y e g = rw e at g
+  pub stopped : (at : ℕ) (x : Step) (y : Outcome) → x ≡ Stop y → Goes at x → y ≡ o
+  stopped at x y e g = rw e at g
 
-pub first-goes : (s : Settings) (l : List ℕ) → Goes s l (outcome (loadImage s l)) 0 0 (firstBy s l (markAt l 0))
+pub first-goes : (s : Settings) (l : List ℕ) → Goes s l (outcome (loadImage s l)) 0 (firstBy s l (markAt l 0))
 unfolding loadImage recordsAt
 first-goes s l = first-by s l (outcome (loadImage s l)) (markAt l 0) refl refl

@@ -23,25 +23,25 @@ outcome (loaded t) = Accepted (t .events) (length (t .pages)) (readyLoaded 0 0 (
 outcome (badForm off) = BadForm off
 outcome (forbidden off) = Forbidden off
 
--- ---- what stands before a record: n records, the tables t that they state, and lo the least place that may follow
-pub record Stands (s : Settings) (l : List ℕ) (p : Progress) (n : ℕ) (t : Tables) (lo : ℕ) : Type 0 where
+-- ---- what stands before a record: records that state the tables t, and lo the least place that may follow
+pub record Stands (s : Settings) (l : List ℕ) (p : Progress) (t : Tables) (lo : ℕ) : Type 0 where
   pub few : s .vcpus ≤ 16
   pub inside : p .at ≤ length l
   pub count : length (t .vcpus) ≡ p .count
   pub ready : readyLoaded 0 0 (t .vcpus) ≡ p .ready
   pub pages : length (t .pages) ≡ p .pages
   pub events : t .events ≡ p .events
-  pub records : recordCount t ≡ n
-  pub bound : n ≤ p .at
+  pub records : recordCount t ≡ p .records
+  pub bound : p .records ≤ p .at
   pub order : lo ≡ suc (place (p .kind) (p .major) (p .minor))
 
 -- the bytes from a place on, cut into records
 unfoldable pub recordsAt : List ℕ → ℕ → List Rec
 recordsAt l at = parse (length (drop at l)) (drop at l)
 
--- the records from p's place on, behind n, give an outcome
-pub record Rest (s : Settings) (l : List ℕ) (p : Progress) (n : ℕ) (o : Outcome) : Type 0 where
+-- the records from p's place on give an outcome
+pub record Rest (s : Settings) (l : List ℕ) (p : Progress) (o : Outcome) : Type 0 where
   pub tables : Tables
   pub least : ℕ
-  pub stands : Stands s l p n tables least
+  pub stands : Stands s l p tables least
   pub goes : outcome (loadRest s (s .vcpus) (p .at) least tables (recordsAt l (p .at))) ≡ o

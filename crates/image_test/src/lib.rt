@@ -9,20 +9,18 @@ ghost use Rattle.image_test.specs.Test.{outcome, Rest};
 
 // The test of the records from one on.
 fn test_rest(s: Settings, l: &[u8], first: Progress) -> Outcome
-    requires { ⌜ Rest s (now l) first 1 (outcome (loadImage s (now l))) ⌝ }
+    requires { ⌜ Rest s (now l) first (outcome (loadImage s (now l))) ⌝ }
     ensures { λ r. ⌜ r ≡ outcome (loadImage s (now (l .entry))) ⌝ }
 {
     let mut p = first;
-    let mut records: usize = 1;
     loop {
-        let step = image_step::next_step(s, l, p, records);
+        let step = image_step::next_step(s, l, p);
         match step {
             Step::Stop { outcome } => {
                 return outcome;
             }
             Step::Next { progress } => {
                 p = progress;
-                records += 1;
             }
         }
     }

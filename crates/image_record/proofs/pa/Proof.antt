@@ -19,14 +19,11 @@ cast-store16 c = search needs
 store16-requires-2 : tie.Need-store16-requires-2
 store16-requires-2 c κs = search needs
 
-cast-store8 : tie.Need-cast-store8
-cast-store8 c = search needs
+cast-store16-2 : tie.Need-cast-store16-2
+cast-store16-2 c = search needs
 
-store8-requires : tie.Need-store8-requires
-store8-requires c κs = search needs
-
-store8-requires-2 : tie.Need-store8-requires-2
-store8-requires-2 c κs = search needs
+store16-requires-3 : tie.Need-store16-requires-3
+store16-requires-3 c κs = search needs
 
 store64-requires : tie.Need-store64-requires
 store64-requires c κs = search needs
@@ -36,12 +33,11 @@ same-length c = search needs
 
 returns : tie.Need-returns
 returns c =
-    let p1 = placed _ (length-le 2 _) (c .before .before .before .before .before .before .before .before .before .before .before .before .before .before .before .before .before .before .store16 .ensures) in
-    let p2 = more _ p1 (length-le 2 _) (c .before .before .before .before .before .before .before .before .before .before .before .before .before .before .store162 .ensures) (omega arith) in
-    let p3 = more _ p2 (length-le 1 _) (c .before .before .before .before .before .before .before .before .before .before .store8 .ensures) (omega arith) in
-    let p4 = more _ p3 (length-le 1 _) (c .before .before .before .before .before .before .store82 .ensures) (omega arith) in
-    let p5 = more _ p4 (length-le 8 _) (c .before .before .store64 .ensures) (omega arith) in
-    p5 .there ∙ rw (pa-bytes (c .before .before .before .before .before .before .before .before .before .before .before .before .before .before .before .before .before .before .before .before .before .before .args .w))
+    let p1 = placed _ (length-le 2 _) (c .before .before .before .before .before .before .before .before .before .before .before .before .before .before .store16 .ensures) in
+    let p2 = more _ p1 (length-le 2 _) (c .before .before .before .before .before .before .before .before .before .before .store162 .ensures) (omega arith) in
+    let p3 = more _ p2 (length-le 2 _) (c .before .before .before .before .before .before .store163 .ensures) (omega arith) in
+    let p4 = more _ p3 (length-le 8 _) (c .before .before .store64 .ensures) (omega arith) in
+    p4 .there ∙ rw (pa-bytes (c .before .before .before .before .before .before .before .before .before .before .before .before .before .before .before .before .before .before .args .w))
 
 returns-2 : tie.Need-returns-2
 returns-2 c = too-short _ _ 14 (length-write PA _) (c .if1 .left)
@@ -53,9 +49,8 @@ pa-spec =
     store16-requires
     cast-store16
     store16-requires-2
-    cast-store8
-    store8-requires
-    store8-requires-2
+    cast-store16-2
+    store16-requires-3
     store64-requires
     same-length
     returns

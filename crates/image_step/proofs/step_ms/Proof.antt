@@ -50,12 +50,15 @@ returns-3 : tie.Need-returns-3
 unfolding msStep
 returns-3 c = rw (← c .before .before .before .before .before .before .before .before .before .load16 .ensures, ← c .before .before .before .before .before .before .before .before .load32 .ensures, ← c .before .before .before .before .before .before .before .is-after .ensures, not-false (c .before .before .before .before .before .before .before .is-after .result) (c .before .before .before .before .before .before .if1 .left), eq-eqb _ _ (c .before .before .before .if2 .left), ← c .before .before .ms-form .ensures, not-true (c .before .before .ms-form .result) (c .before .if3 .taken)) (c .refuse3 .ensures)
 
+wrapping-add-usize-requires : tie.Need-wrapping-add-usize-requires
+wrapping-add-usize-requires c κs = search needs
+
 cast-t11 : tie.Need-cast-t11
 cast-t11 c = search needs
 
 returns-4 : tie.Need-returns-4
 unfolding msStep
-returns-4 c = rw (← c .before .before .before .before .before .before .before .before .load16 .ensures, ← c .before .before .before .before .before .before .before .load32 .ensures, ← c .before .before .before .before .before .before .is-after .ensures, not-false (c .before .before .before .before .before .before .is-after .result) (c .before .before .before .before .before .if1 .left), eq-eqb _ _ (c .before .before .if2 .left), ← c .before .ms-form .ensures, not-false (c .before .ms-form .result) (c .if3 .left))
+returns-4 c = rw (← c .before .before .before .before .before .before .before .before .before .load16 .ensures, ← c .before .before .before .before .before .before .before .before .load32 .ensures, ← c .before .before .before .before .before .before .before .is-after .ensures, not-false (c .before .before .before .before .before .before .before .is-after .result) (c .before .before .before .before .before .before .if1 .left), eq-eqb _ _ (c .before .before .before .if2 .left), ← c .before .before .ms-form .ensures, not-false (c .before .before .ms-form .result) (c .before .if3 .left), ← c .wrapping-add-usize .ensures)
 
 pub step-ms-spec : {M : Type 1} → statement M
 step-ms-spec =
@@ -75,5 +78,6 @@ step-ms-spec =
     ms-form-requires
     refuse-requires-3
     returns-3
+    wrapping-add-usize-requires
     cast-t11
     returns-4)

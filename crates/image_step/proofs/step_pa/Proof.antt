@@ -73,12 +73,15 @@ returns-4 : tie.Need-returns-4
 unfolding paStep paMay
 returns-4 c = rw (← c .before .before .before .before .before .before .before .before .before .before .before .before .load16 .ensures, ← c .before .before .before .before .before .before .before .before .before .before .before .byte .ensures, ← c .before .before .before .before .before .before .before .before .before .before .byte2 .ensures, ← c .before .before .before .before .before .before .before .before .before .before .before .before .before .load64 .ensures, ← c .before .before .before .before .before .before .before .before .before .is-after .ensures, not-false (c .before .before .before .before .before .before .before .before .before .is-after .result) (c .before .before .before .before .before .before .before .before .if1 .left), eq-eqb _ _ (c .before .before .before .before .before .if2 .left), ← c .before .before .before .before .pa-form .ensures, not-false (c .before .before .before .before .pa-form .result) (c .before .before .before .if3 .left), le-ltb _ _ (c .before .if4 .taken)) (c .forbid .ensures)
 
-add-t11 : tie.Need-add-t11
-add-t11 c = let h = page-room _ _ (sym (c .before .before .before .before .pa-form .ensures) ∙ not-false (c .before .before .before .before .pa-form .result) (c .before .before .before .if3 .left)) in omega (arith, h)
+wrapping-add-usize-requires : tie.Need-wrapping-add-usize-requires
+wrapping-add-usize-requires c κs = search needs
+
+add-t15 : tie.Need-add-t15
+add-t15 c = let h = page-room _ _ (sym (c .before .before .before .before .before .pa-form .ensures) ∙ not-false (c .before .before .before .before .before .pa-form .result) (c .before .before .before .before .if3 .left)) in omega (arith, h)
 
 returns-5 : tie.Need-returns-5
 unfolding paStep paMay
-returns-5 c = rw (← c .before .before .before .before .before .before .before .before .before .before .before .before .load16 .ensures, ← c .before .before .before .before .before .before .before .before .before .before .before .byte .ensures, ← c .before .before .before .before .before .before .before .before .before .before .byte2 .ensures, ← c .before .before .before .before .before .before .before .before .before .before .before .before .before .load64 .ensures, ← c .before .before .before .before .before .before .before .before .before .is-after .ensures, not-false (c .before .before .before .before .before .before .before .before .before .is-after .result) (c .before .before .before .before .before .before .before .before .if1 .left), eq-eqb _ _ (c .before .before .before .before .before .if2 .left), ← c .before .before .before .before .pa-form .ensures, not-false (c .before .before .before .before .pa-form .result) (c .before .before .before .if3 .left), lt-ltb _ _ (c .before .if4 .left))
+returns-5 c = rw (← c .before .before .before .before .before .before .before .before .before .before .before .before .before .load16 .ensures, ← c .before .before .before .before .before .before .before .before .before .before .before .before .byte .ensures, ← c .before .before .before .before .before .before .before .before .before .before .before .byte2 .ensures, ← c .before .before .before .before .before .before .before .before .before .before .before .before .before .before .load64 .ensures, ← c .before .before .before .before .before .before .before .before .before .before .is-after .ensures, not-false (c .before .before .before .before .before .before .before .before .before .before .is-after .result) (c .before .before .before .before .before .before .before .before .before .if1 .left), eq-eqb _ _ (c .before .before .before .before .before .before .if2 .left), ← c .before .before .before .before .before .pa-form .ensures, not-false (c .before .before .before .before .before .pa-form .result) (c .before .before .before .before .if3 .left), lt-ltb _ _ (c .before .before .if4 .left), ← c .before .wrapping-add-usize .ensures)
 
 pub step-pa-spec : {M : Type 1} → statement M
 step-pa-spec =
@@ -104,5 +107,6 @@ step-pa-spec =
     cast-if4
     forbid-requires
     returns-4
-    add-t11
+    wrapping-add-usize-requires
+    add-t15
     returns-5)

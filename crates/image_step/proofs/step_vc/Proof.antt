@@ -86,15 +86,18 @@ returns-4 : tie.Need-returns-4
 unfolding vcStep
 returns-4 c = rw (← c .before .before .before .before .before .before .before .before .before .before .before .before .before .before .load16 .ensures, ← c .before .before .before .before .before .before .before .before .before .before .before .before .before .byte .ensures, ← c .before .before .before .before .before .before .before .before .before .before .before .before .byte2 .ensures, ← c .before .before .before .before .before .before .before .before .before .before .before .load162 .ensures, ← c .before .before .before .before .before .before .before .before .before .before .byte3 .ensures, ← c .before .before .before .before .before .before .before .before .before .byte4 .ensures, ← c .before .before .before .before .vc-form .ensures, ← c .before .before .vc-may .ensures (c .before .before .before .before .before .before .before .before .before .before .before .before .before .before .load16 .result) (c .before .before .before .before .before .before .before .before .before .before .before .before .byte2 .result) (c .before .before .before .before .before .before .before .before .before .byte4 .result), ← c .before .before .before .before .before .before .before .before .is-after .ensures, not-false (c .before .before .before .before .before .before .before .before .is-after .result) (c .before .before .before .before .before .before .before .if1 .left), eq-eqb _ _ (c .before .before .before .before .before .if2 .left), not-false (c .before .before .before .before .vc-form .result) (c .before .before .before .if3 .left), not-true (c .before .before .vc-may .result) (c .before .if4 .taken)) (c .forbid .ensures)
 
+wrapping-add-usize-requires : tie.Need-wrapping-add-usize-requires
+wrapping-add-usize-requires c κs = search needs
+
 add-t16 : tie.Need-add-t16
-add-t16 c = omega (arith, c .before .before .before .before .before .if2 .left)
+add-t16 c = omega (arith, c .before .before .before .before .before .before .if2 .left)
 
 put-bit-requires : tie.Need-put-bit-requires
 put-bit-requires c κs = search needs
 
 returns-5 : tie.Need-returns-5
 unfolding vcStep putBit64
-returns-5 c = rw (← c .before .before .before .before .before .before .before .before .before .before .before .before .before .before .before .load16 .ensures, ← c .before .before .before .before .before .before .before .before .before .before .before .before .before .before .byte .ensures, ← c .before .before .before .before .before .before .before .before .before .before .before .before .before .byte2 .ensures, ← c .before .before .before .before .before .before .before .before .before .before .before .before .load162 .ensures, ← c .before .before .before .before .before .before .before .before .before .before .before .byte3 .ensures, ← c .before .before .before .before .before .before .before .before .before .before .byte4 .ensures, ← c .before .before .before .before .before .vc-form .ensures, ← c .before .before .before .vc-may .ensures (c .before .before .before .before .before .before .before .before .before .before .before .before .before .before .before .load16 .result) (c .before .before .before .before .before .before .before .before .before .before .before .before .before .byte2 .result) (c .before .before .before .before .before .before .before .before .before .before .byte4 .result), ← c .before .before .before .before .before .before .before .before .before .is-after .ensures, not-false (c .before .before .before .before .before .before .before .before .before .is-after .result) (c .before .before .before .before .before .before .before .before .if1 .left), eq-eqb _ _ (c .before .before .before .before .before .before .if2 .left), not-false (c .before .before .before .before .before .vc-form .result) (c .before .before .before .before .if3 .left), not-false (c .before .before .before .vc-may .result) (c .before .before .if4 .left), ← c .put-bit .ensures)
+returns-5 c = rw (← c .before .before .before .before .before .before .before .before .before .before .before .before .before .before .before .before .load16 .ensures, ← c .before .before .before .before .before .before .before .before .before .before .before .before .before .before .before .byte .ensures, ← c .before .before .before .before .before .before .before .before .before .before .before .before .before .before .byte2 .ensures, ← c .before .before .before .before .before .before .before .before .before .before .before .before .before .load162 .ensures, ← c .before .before .before .before .before .before .before .before .before .before .before .before .byte3 .ensures, ← c .before .before .before .before .before .before .before .before .before .before .before .byte4 .ensures, ← c .before .before .before .before .before .before .vc-form .ensures, ← c .before .before .before .before .vc-may .ensures (c .before .before .before .before .before .before .before .before .before .before .before .before .before .before .before .before .load16 .result) (c .before .before .before .before .before .before .before .before .before .before .before .before .before .before .byte2 .result) (c .before .before .before .before .before .before .before .before .before .before .before .byte4 .result), ← c .before .before .before .before .before .before .before .before .before .before .is-after .ensures, not-false (c .before .before .before .before .before .before .before .before .before .before .is-after .result) (c .before .before .before .before .before .before .before .before .before .if1 .left), eq-eqb _ _ (c .before .before .before .before .before .before .before .if2 .left), not-false (c .before .before .before .before .before .before .vc-form .result) (c .before .before .before .before .before .if3 .left), not-false (c .before .before .before .before .vc-may .result) (c .before .before .before .if4 .left), ← c .before .before .wrapping-add-usize .ensures, ← c .put-bit .ensures)
 
 pub step-vc-spec : {M : Type 1} → statement M
 step-vc-spec =
@@ -125,6 +128,7 @@ step-vc-spec =
     vc-may-requires
     forbid-requires
     returns-4
+    wrapping-add-usize-requires
     add-t16
     put-bit-requires
     returns-5)

@@ -17,10 +17,10 @@ enum-known-first-2 : tie.Need-enum-known-first-2
 enum-known-first-2 c = search needs
 
 test-rest-requires : tie.Need-test-rest-requires
-test-rest-requires c κs = went (c .before .before .before .before .before .args .s) (now (c .before .before .before .before .before .args .l)) (outcome (loadImage (c .before .before .before .before .before .args .s) (now (c .before .before .before .before .before .args .l)))) 0 0 (c .before .before .before .first-step .result) _ (c .before .first2 .given .1) (rw (c .before .before .before .first-step .ensures) (first-goes (c .before .before .before .before .before .args .s) (now (c .before .before .before .before .before .args .l)))) .0
+test-rest-requires c κs = went (c .before .before .before .before .before .args .s) (now (c .before .before .before .before .before .args .l)) (outcome (loadImage (c .before .before .before .before .before .args .s) (now (c .before .before .before .before .before .args .l)))) 0 (c .before .before .before .first-step .result) _ (c .before .first2 .given .1) (rw (c .before .before .before .first-step .ensures) (first-goes (c .before .before .before .before .before .args .s) (now (c .before .before .before .before .before .args .l)))) .0
 
 returns : tie.Need-returns
-returns c = stopped (c .before .before .before .before .before .args .s) (now (c .before .before .before .before .before .args .l)) (outcome (loadImage (c .before .before .before .before .before .args .s) (now (c .before .before .before .before .before .args .l)))) 0 0 (c .before .before .before .first-step .result) _ (c .before .first .given .1) (rw (c .before .before .before .first-step .ensures) (first-goes (c .before .before .before .before .before .args .s) (now (c .before .before .before .before .before .args .l))))
+returns c = stopped (c .before .before .before .before .before .args .s) (now (c .before .before .before .before .before .args .l)) (outcome (loadImage (c .before .before .before .before .before .args .s) (now (c .before .before .before .before .before .args .l)))) 0 (c .before .before .before .first-step .result) _ (c .before .first .given .1) (rw (c .before .before .before .first-step .ensures) (first-goes (c .before .before .before .before .before .args .s) (now (c .before .before .before .before .before .args .l))))
 
 returns-2 : tie.Need-returns-2
 returns-2 c = search needs

@@ -11,10 +11,10 @@ use Rattle.image_test.proofs.test_rest.Statement.{statement}
 use Rattle.image_test.proofs.test_rest.Tie as tie
 
 abbrev Inv-loop : tie.InvT-loop
-Inv-loop s l p₀ records₀ p records = Rest s l p records (outcome (loadImage s l))
+Inv-loop s l p₀ p = Rest s l p (outcome (loadImage s l))
 
 abbrev μ-loop : tie.MeasureT-loop
-μ-loop s l p₀ records₀ p records = length l - p .at
+μ-loop s l p₀ p = length l - p .at
 
 loop-holds : tie.Need-loop-holds Inv-loop μ-loop
 loop-holds c = c .before .pre
@@ -26,19 +26,16 @@ enum-known-step : tie.Need-enum-known-step Inv-loop μ-loop
 enum-known-step c = search needs
 
 returns : tie.Need-returns Inv-loop μ-loop
-returns c = stopped (c .before .before .before .before .before .before .args .s) (now (c .before .before .before .before .before .before .args .l)) (outcome (loadImage (c .before .before .before .before .before .before .args .s) (now (c .before .before .before .before .before .before .args .l)))) (c .before .before .before .before .loop .p .at) (c .before .before .before .before .loop .records) (c .before .before .before .next-step .result) _ (c .before .step .given .1) (rw (c .before .before .before .next-step .ensures) (next-goes (c .before .before .before .before .before .before .args .s) (now (c .before .before .before .before .before .before .args .l)) (outcome (loadImage (c .before .before .before .before .before .before .args .s) (now (c .before .before .before .before .before .before .args .l)))) (c .before .before .before .before .loop .p) (c .before .before .before .before .loop .records) (c .before .before .before .before .loop .inv)))
+returns c = stopped (c .before .before .before .before .before .before .args .s) (now (c .before .before .before .before .before .before .args .l)) (outcome (loadImage (c .before .before .before .before .before .before .args .s) (now (c .before .before .before .before .before .before .args .l)))) (c .before .before .before .before .loop .p .at) (c .before .before .before .next-step .result) _ (c .before .step .given .1) (rw (c .before .before .before .next-step .ensures) (next-goes (c .before .before .before .before .before .before .args .s) (now (c .before .before .before .before .before .before .args .l)) (outcome (loadImage (c .before .before .before .before .before .before .args .s) (now (c .before .before .before .before .before .before .args .l)))) (c .before .before .before .before .before .before .good .1 .0 .0) (c .before .before .before .before .loop .p) (c .before .before .before .before .loop .inv)))
 
 enum-known-step-2 : tie.Need-enum-known-step-2 Inv-loop μ-loop
 enum-known-step-2 c = search needs
 
-add-records : tie.Need-add-records Inv-loop μ-loop
-add-records c = let i = c .before .before .before .before .loop .inv in omega (arith, i .stands .bound, i .stands .inside, c .before .before .before .before .before .before .good .1 .0 .0)
-
 loop-less : tie.Need-loop-less Inv-loop μ-loop
-loop-less c = let w = went (c .before .before .before .before .before .before .args .s) (now (c .before .before .before .before .before .before .args .l)) (outcome (loadImage (c .before .before .before .before .before .before .args .s) (now (c .before .before .before .before .before .before .args .l)))) (c .before .before .before .before .loop .p .at) (c .before .before .before .before .loop .records) (c .before .before .before .next-step .result) _ (c .before .step2 .given .1) (rw (c .before .before .before .next-step .ensures) (next-goes (c .before .before .before .before .before .before .args .s) (now (c .before .before .before .before .before .before .args .l)) (outcome (loadImage (c .before .before .before .before .before .before .args .s) (now (c .before .before .before .before .before .before .args .l)))) (c .before .before .before .before .loop .p) (c .before .before .before .before .loop .records) (c .before .before .before .before .loop .inv))) in omega (arith, w .1, w .0 .stands .inside)
+loop-less c = let w = went (c .before .before .before .before .before .before .args .s) (now (c .before .before .before .before .before .before .args .l)) (outcome (loadImage (c .before .before .before .before .before .before .args .s) (now (c .before .before .before .before .before .before .args .l)))) (c .before .before .before .before .loop .p .at) (c .before .before .before .next-step .result) _ (c .before .step2 .given .1) (rw (c .before .before .before .next-step .ensures) (next-goes (c .before .before .before .before .before .before .args .s) (now (c .before .before .before .before .before .before .args .l)) (outcome (loadImage (c .before .before .before .before .before .before .args .s) (now (c .before .before .before .before .before .before .args .l)))) (c .before .before .before .before .before .before .good .1 .0 .0) (c .before .before .before .before .loop .p) (c .before .before .before .before .loop .inv))) in omega (arith, w .1, w .0 .stands .inside)
 
 loop-again : tie.Need-loop-again Inv-loop μ-loop
-loop-again c = went (c .before .before .before .before .before .before .args .s) (now (c .before .before .before .before .before .before .args .l)) (outcome (loadImage (c .before .before .before .before .before .before .args .s) (now (c .before .before .before .before .before .before .args .l)))) (c .before .before .before .before .loop .p .at) (c .before .before .before .before .loop .records) (c .before .before .before .next-step .result) _ (c .before .step2 .given .1) (rw (c .before .before .before .next-step .ensures) (next-goes (c .before .before .before .before .before .before .args .s) (now (c .before .before .before .before .before .before .args .l)) (outcome (loadImage (c .before .before .before .before .before .before .args .s) (now (c .before .before .before .before .before .before .args .l)))) (c .before .before .before .before .loop .p) (c .before .before .before .before .loop .records) (c .before .before .before .before .loop .inv))) .0
+loop-again c = went (c .before .before .before .before .before .before .args .s) (now (c .before .before .before .before .before .before .args .l)) (outcome (loadImage (c .before .before .before .before .before .before .args .s) (now (c .before .before .before .before .before .before .args .l)))) (c .before .before .before .before .loop .p .at) (c .before .before .before .next-step .result) _ (c .before .step2 .given .1) (rw (c .before .before .before .next-step .ensures) (next-goes (c .before .before .before .before .before .before .args .s) (now (c .before .before .before .before .before .before .args .l)) (outcome (loadImage (c .before .before .before .before .before .before .args .s) (now (c .before .before .before .before .before .before .args .l)))) (c .before .before .before .before .before .before .good .1 .0 .0) (c .before .before .before .before .loop .p) (c .before .before .before .before .loop .inv))) .0
 
 pub test-rest-spec : {M : Type 1} → statement M
 test-rest-spec =
@@ -51,6 +48,5 @@ test-rest-spec =
     enum-known-step
     returns
     enum-known-step-2
-    add-records
     loop-less
     loop-again)
