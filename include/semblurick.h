@@ -92,19 +92,20 @@ SEMBLURICK_ASSERT(sizeof(struct semblurick_settings) == 32);
 SEMBLURICK_ASSERT(offsetof(struct semblurick_settings, tsc_speed) == 16);
 SEMBLURICK_ASSERT(offsetof(struct semblurick_settings, breakpoints_taken) == 30);
 
-/* A session, but for its tables. A host sets `settings` and leaves the rest to the calls. */
+/* A session, but for its tables. A host sets `settings` and leaves the rest to the calls. Memory of zeros is a closed session: a host
+ * that forgets to begin is answered 2. */
 struct semblurick_session {
     struct semblurick_settings settings;
     uint64_t vm_events;  /* bit e: event e is on for the VM */
     uint64_t pages;      /* page words in use */
-    uint32_t closed;     /* not 0: closed */
+    uint32_t opened;     /* 0: closed */
     uint32_t mode;       /* 0: commands are replied to; 1: they are not; else: not, and errors are told by events */
     uint32_t seq;        /* of the next event */
     uint64_t ready;      /* bit i: vCPU i is ready */
 };
 SEMBLURICK_ASSERT(sizeof(struct semblurick_session) == 72);
 SEMBLURICK_ASSERT(offsetof(struct semblurick_session, vm_events) == 32);
-SEMBLURICK_ASSERT(offsetof(struct semblurick_session, closed) == 48);
+SEMBLURICK_ASSERT(offsetof(struct semblurick_session, opened) == 48);
 SEMBLURICK_ASSERT(offsetof(struct semblurick_session, seq) == 56);
 SEMBLURICK_ASSERT(offsetof(struct semblurick_session, ready) == 64);
 

@@ -106,7 +106,7 @@ pub fn fresh(
         × (now (result .exit) ≡ freshGiven s (now (vcpus .entry)) (now (pages .entry)) .result) ⌝ }
 {
     let settings = s.settings;
-    let done = session::begin(settings, vcpus, pages);
+    let done = Session::fresh(settings, vcpus, pages);
     finish(done, result)
 }
 

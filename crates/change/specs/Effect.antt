@@ -26,22 +26,22 @@ pub record Applied : Type 0 where
   pub mode : ReplyMode
   pub signal : Signal
 
-abbrev pub applied : State → List ℕ → List ℕ → Change → Applied
-applied st guest d c = record { changed = change st guest d c; mode = modeFor (modeOfNumber (st .session .tool .mode)) c; signal = signalOf c }
+abbrev pub appliedOf : State → List ℕ → List ℕ → Change → Applied
+appliedOf st guest d c = record { changed = change st guest d c; mode = modeFor (modeOfNumber (st .session .tool .mode)) c; signal = signalOf c }
 
 -- what a tool owns after an effect, with the next event's seq
 abbrev pub toolAfter : Tool → Effect → ℕ → Tool
-toolAfter t e seq = record { events = e .events; closed = t .closed; mode = e .mode; seq = seq; pages = e .pages }
+toolAfter t e seq = record { events = e .events; opened = t .opened; mode = e .mode; seq = seq; pages = e .pages }
 
 -- the session after an effect
-abbrev pub after : Session → Effect → Session
-after s e = withTool s (toolAfter (s .tool) e (s .tool .seq))
+abbrev pub sessionAfter : Session → Effect → Session
+sessionAfter s e = withTool s (toolAfter (s .tool) e (s .tool .seq))
 
 -- an effect on a session, with the lent words and bytes at exit
 abbrev pub effect : Session → Effect → List ℕ → List ℕ → List ℕ → Applied
 effect s e vcpus pages guest =
     record {
-      changed = record { state = state (after s e) vcpus pages; guest = guest; code = e .code };
+      changed = record { state = state (sessionAfter s e) vcpus pages; guest = guest; code = e .code };
       mode = modeOfNumber (e .by);
       signal = e .signal;
     }

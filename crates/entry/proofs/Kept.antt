@@ -7,8 +7,8 @@ use lib.ListN.{length}
 use lib.Dec.{leb, ltb, eqb}
 use Rattle.kvmi.specs.Limits.{eventOut, stateBytes}
 use Rattle.store.specs.Words.{field, PAUSES, AWAITED}
-use Rattle.session.specs.State.{State, withTool, withToolSeq}
-use Rattle.session.proofs.Kept.{Moves, moves, either, isClosed}
+use Rattle.session.specs.State.{State, withTool, withToolSeq, isClosed}
+use Rattle.session.proofs.Kept.{Moves, moves, either}
 use Rattle.entry.specs.Entry.{pausingOf, enterOf}
 
 pub enter-moves : (st : State) (vcpu : ℕ) (block out : List ℕ)

@@ -9,7 +9,7 @@ use Rattle.kvmi.specs.Limits.{eventOut, stateBytes}
 use Rattle.kvmi.specs.Model.{nextSeq}
 use Rattle.kvmi.specs.Reply.{pauseEvent}
 use Rattle.store.specs.Words.{field, PAUSES, AWAITED, AWAITED-SEQ}
-use Rattle.session.specs.State.{State, withField, withSeqOf}
+use Rattle.session.specs.State.{State, withField, withSeqOf, isClosed}
 use Rattle.session.specs.Calls.{Told, toldSame, toldWritten}
 
 unfoldable pub pausingOf : State → ℕ → List ℕ → List ℕ → Told
@@ -23,7 +23,7 @@ pausingOf st vcpu block out =
 
 unfoldable pub enterOf : State → ℕ → List ℕ → List ℕ → Told
 enterOf st vcpu block out =
-    cond (not (eqb (st .session .tool .closed) 0)) (toldSame 2 st out [])
+    cond (isClosed st) (toldSame 2 st out [])
     (cond (leb (st .session .settings .vcpus) vcpu) (toldSame 4 st out [])
     (cond (not (eqb (length block) stateBytes)) (toldSame 5 st out [])
     (cond (ltb (length out) eventOut) (toldSame 3 st out [])

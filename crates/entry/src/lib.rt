@@ -10,6 +10,9 @@ ghost use Rattle.session.specs.State.{state};
 ghost use Rattle.session.specs.Calls.{told};
 ghost use Rattle.entry.specs.Entry.{enterOf, enteredOf};
 
+// The least output that an entry is given: a pause event's bytes.
+pub const EVENT_OUT: usize = 552;
+
 // The rest of an entry whose arguments are in order.
 fn enter_open(s: Session, vcpus: &mut [u64], vcpu: u16, block: &[u8], out: &mut [u8]) -> Done
     ensures { λ r. ⌜ ((p : List ℕ) → told r (now (vcpus .exit)) p (now (out .exit)) [] ≡ enteredOf (state s (now (vcpus .entry)) p) vcpu (now (block .entry)) (now (out .entry))) ⌝ }
@@ -43,7 +46,7 @@ fn enter_open(s: Session, vcpus: &mut [u64], vcpu: u16, block: &[u8], out: &mut 
 pub fn enter(s: Session, vcpus: &mut VcpuWords, vcpu: u16, block: &[u8], out: &mut [u8]) -> Done
     ensures { λ r. ⌜ ((p : List ℕ) → told r (now (vcpus .exit)) p (now (out .exit)) [] ≡ enterOf (state s (now (vcpus .entry)) p) vcpu (now (block .entry)) (now (out .entry))) ⌝ }
 {
-    if s.tool.closed != 0 {
+    if s.tool.opened == 0 {
         return Done {
             answer: Answer::Closed,
             session: s,
@@ -55,13 +58,13 @@ pub fn enter(s: Session, vcpus: &mut VcpuWords, vcpu: u16, block: &[u8], out: &m
             session: s,
         };
     }
-    if block.len() != 536 {
+    if block.len() != reply::STATE_BYTES {
         return Done {
             answer: Answer::BadState,
             session: s,
         };
     }
-    if out.len() < 552 {
+    if out.len() < EVENT_OUT {
         return Done {
             answer: Answer::ShortOut,
             session: s,

@@ -144,7 +144,7 @@ fn write_image(
 
 // A session begins fresh, and its settings are those for images too.
 fn begin(vcpus: &mut VcpuWords, pages: &mut PageWords, settings: Settings, image: usize) -> Held {
-    let done = session::begin(settings, vcpus, pages);
+    let done = Session::fresh(settings, vcpus, pages);
     let answer = done.answer;
     print_answer(b"F", answer);
     let session = done.session;
@@ -199,7 +199,7 @@ fn take_step(
             move_to(b"R", held, answer, session)
         }
         b'E' => {
-            let block = [0u8; 536];
+            let block = [0u8; reply::STATE_BYTES];
             let done = entry::enter(s, vcpus, wire::load16(arg, 0), &block, out);
             let answer = done.answer;
             let session = done.session;
@@ -234,7 +234,7 @@ fn run_script(script: &[u8]) {
     let mut image = [0u8; 65536];
     let settings = settings_of(b"");
     let mut held = Held {
-        session: Session::fresh(settings),
+        session: Session::shut(settings),
         settings,
         image: 0,
     };

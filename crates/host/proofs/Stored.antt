@@ -45,8 +45,8 @@ module _ (d : Done) (vs : List Val) (is : Is D.the-row d vs) where
   pub pages-fit : d .session .tool .pages < 2 ^ 64
   pages-fit = LL.owed T.the-type T′.the-laws (d .session .tool) _ tool-is .1 .0 .1
 
-  pub closed-fits : d .session .tool .closed < 2 ^ 32
-  closed-fits = LL.owed T.the-type T′.the-laws (d .session .tool) _ tool-is .1 .1 .0 .1
+  pub opened-fits : d .session .tool .opened < 2 ^ 32
+  opened-fits = LL.owed T.the-type T′.the-laws (d .session .tool) _ tool-is .1 .1 .0 .1
 
   pub mode-fits : d .session .tool .mode < 2 ^ 32
   mode-fits = LL.owed T.the-type T′.the-laws (d .session .tool) _ tool-is .1 .1 .1 .0 .1

@@ -62,7 +62,7 @@ pub extern "C" fn semblurick_message(
     let d = calls::message(*s, vcpus, pages, msg, out, guest, result);
     s.tool.events = d.session.tool.events;
     s.tool.pages = d.session.tool.pages;
-    s.tool.closed = d.session.tool.closed;
+    s.tool.opened = d.session.tool.opened;
     s.tool.mode = d.session.tool.mode;
     s.tool.seq = d.session.tool.seq;
     s.shared = d.session.shared;

@@ -1,12 +1,12 @@
 // One record of a table image by itself: its kind, its form, and what the settings permit. Every public function takes any numbers.
 use kvmi::Settings;
+use session::Session;
 ghost use mathlib.Core.Path.{_≡_};
 ghost use mathlib.Core.Bool.{_||_};
 ghost use Prim.Native.Nat.{ℕ, _-_, _%_};
 ghost use lib.Dec.{eqb};
 ghost use Rattle.kvmi.specs.Bits.{isOn, bitsHave};
 ghost use Rattle.kvmi.specs.Settings.{allowsEvent};
-ghost use Rattle.kvmi.specs.Tables.{isMsr};
 ghost use Rattle.kvmi.specs.Image.{vcpuOfRow, vmForm, vmMay, mayEnable, vcMay};
 ghost use Rattle.image_form.specs.Form.{markIn, markAt, vcFits, msFits, paFits};
 
@@ -27,11 +27,6 @@ const VCPU_EVENTS: u64 = 20408;
 
 // How many pages a view has, 2^52.
 const PAGES: u64 = 4503599627370496;
-
-// How many pauses of a vCPU, and how many pages in all, an image can state.
-const PAUSE_LIMIT: u8 = 8;
-
-const PAGE_LIMIT: usize = 1024;
 
 // How many bytes there are from a place on.
 fn bytes_left(n: usize, at: usize) -> usize
@@ -116,18 +111,6 @@ fn may_enable_all(s: Settings, w: u16) -> bool
     x == 0
 }
 
-fn is_msr(m: u32) -> bool
-    ensures { λ r. ⌜ r ≡ isMsr m ⌝ }
-{
-    if m <= 0x1FFF {
-        return true;
-    }
-    if m < 0xC0000000 {
-        return false;
-    }
-    m <= 0xC0001FFF
-}
-
 // The form of a VM record, but for its version.
 pub fn vm_form(n: u16, events: u16) -> bool
     ensures { λ r. ⌜ r ≡ vmForm n events ⌝ }
@@ -178,7 +161,7 @@ pub fn vc_form(
     if !has_bits(events, VCPU_EVENTS) {
         return false;
     }
-    if PAUSE_LIMIT < pauses {
+    if !Session::can_hold(pauses as u64) {
         return false;
     }
     if flags % 2 == 1 {
@@ -229,7 +212,7 @@ pub fn ms_form(count: u32, ready: u64, vcpu: u16, msr: u32) -> bool
     if count <= vcpu as u32 {
         return false;
     }
-    if !is_msr(msr) {
+    if !store::words::is_msr(msr) {
         return false;
     }
     store::bits::bit_on(ready, vcpu as u32)
@@ -254,5 +237,5 @@ pub fn pa_form(pages: usize, view: u16, access: u8, zero: u8, page: u64) -> bool
     if PAGES <= page {
         return false;
     }
-    pages < PAGE_LIMIT
+    Session::has_room(pages)
 }

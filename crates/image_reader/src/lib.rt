@@ -149,7 +149,7 @@ fn opened(settings: Settings, events: u64, pages: u64, ready: u64) -> Session
     let tool = Tool {
         events,
         pages,
-        closed: 0,
+        opened: 1,
         mode: 0,
         seq: 0,
     };

@@ -13,7 +13,7 @@ use Rattle.kvmi.specs.declared.Signal.the-variants.{Quiet}
 use Rattle.kvmi.specs.Image.{image}
 use Rattle.kvmi.specs.Call.{awaitsAny}
 use Rattle.store.specs.Words.{field, AWAITED}
-use Rattle.session.specs.State.{State}
+use Rattle.session.specs.State.{State, isClosed}
 use Rattle.session.specs.Calls.{toldSame, toldWritten}
 use Rattle.session.specs.Meaning.{awaitedIn, awaitedOf}
 use Rattle.image_bytes.specs.Parts.{statedOf}
@@ -39,19 +39,19 @@ unfolding statedTables statedVcpus
 stated-same st = refl
 
 -- ---- the call
-module _ (st : State) (n : ℕ) (e : n ≡ min (st .session .settings .vcpus) 16) (live : st .session .tool .closed ≡ 0) (out : List ℕ) where
+module _ (st : State) (n : ℕ) (e : n ≡ min (st .session .settings .vcpus) 16) (live : isClosed st ≡ false) (out : List ℕ) where
   pub image-busy : awaitsAny (awaitedOf (st .vcpus) 0 n) ≡ true → toldSame 10 st out [] ≡ imageOf st out
   unfolding imageOf statedVcpus
-  image-busy h = rw (eq-eqb (st .session .tool .closed) 0 live, ← e, h)
+  image-busy h = rw (live, ← e, h)
 
   module _ (h : awaitsAny (awaitedOf (st .vcpus) 0 n) ≡ false) where
     pub image-short : length out < length (image (statedTables st)) → toldSame 3 st out [] ≡ imageOf st out
     unfolding imageOf statedVcpus
-    image-short l = rw (eq-eqb (st .session .tool .closed) 0 live, ← e, h, lt-ltb (length out) (length (image (statedTables st))) l)
+    image-short l = rw (live, ← e, h, lt-ltb (length out) (length (image (statedTables st))) l)
 
     pub image-whole : length (image (statedTables st)) ≤ length out → toldWritten (image (statedTables st)) Quiet st out [] ≡ imageOf st out
     unfolding imageOf statedVcpus
-    image-whole l = rw (eq-eqb (st .session .tool .closed) 0 live, ← e, h, le-ltb (length out) (length (image (statedTables st))) l)
+    image-whole l = rw (live, ← e, h, le-ltb (length out) (length (image (statedTables st))) l)
 
     -- an output that is too short stays as it was
     pub image-past : (after : List ℕ) (size : ℕ) → after ≡ store out 0 (image (statedTables st)) → size ≡ length (image (statedTables st)) → length after < size

@@ -10,7 +10,7 @@ use Rattle.kvmi.specs.Image.{image}
 use Rattle.kvmi.specs.Call.{awaitsAny}
 use Rattle.store.specs.Meaning.{msrsOf, vcpusOf}
 use Rattle.page_words.specs.Meaning.{pagesOf}
-use Rattle.session.specs.State.{State}
+use Rattle.session.specs.State.{State, isClosed}
 use Rattle.session.specs.Calls.{Told, toldSame, toldWritten}
 use Rattle.session.specs.Meaning.{awaitedOf, tablesOf}
 
@@ -28,7 +28,7 @@ statedTables st =
 -- "image writer 2, 10, 3"
 unfoldable pub imageOf : State → List ℕ → Told
 imageOf st out =
-    cond (not (eqb (st .session .tool .closed) 0)) (toldSame 2 st out [])
+    cond (isClosed st) (toldSame 2 st out [])
     (cond (awaitsAny (awaitedOf (st .vcpus) 0 (statedVcpus st))) (toldSame 10 st out [])
     (cond (ltb (length out) (length (image (statedTables st)))) (toldSame 3 st out [])
     (toldWritten (image (statedTables st)) Quiet st out [])))

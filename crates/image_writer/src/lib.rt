@@ -38,7 +38,7 @@ pub fn image_size(s: Session, vcpus: &[u64], pages: &[u64]) -> usize
 pub fn write_image(s: Session, vcpus: &[u64], pages: &[u64], out: &mut [u8]) -> Done
     ensures { λ r. ⌜ told r (now (vcpus .entry)) (now (pages .entry)) (now (out .exit)) [] ≡ imageOf (state s (now (vcpus .entry)) (now (pages .entry))) (now (out .entry)) ⌝ }
 {
-    if s.tool.closed != 0 {
+    if s.tool.opened == 0 {
         return Done {
             answer: Answer::Closed,
             session: s,

@@ -12,13 +12,13 @@ use Rattle.kvmi.specs.declared.Verdict.the-variants.{Closes, Fails, Does}
 use Rattle.kvmi.specs.Limits.{leastOut}
 use Rattle.kvmi.specs.Message.{vcpuOf}
 use Rattle.kvmi.specs.Verdict.{verdict}
-use Rattle.session.specs.State.{State, withSettings}
-use Rattle.session.proofs.Kept.{Moves, moves, either, kept, isClosed}
+use Rattle.session.specs.State.{State, withSettings, isClosed}
+use Rattle.session.proofs.Kept.{Moves, moves, either, kept}
 use Rattle.change.proofs.Laws.{change-keeps}
-use Rattle.message.specs.Message.{factsIn, answering, judgedOf, headedOf, messageOf}
+use Rattle.message.specs.Message.{factsIn, answeringOf, judgedOf, headedOf, messageOf}
 
 judged-moves : (st : State) (id seq : ℕ) (d out guest : List ℕ) (v : Verdict) → Moves (λ s. withSettings s (st .session .settings)) (judgedOf st id seq d out guest v)
-unfolding judgedOf answering
+unfolding judgedOf answeringOf
 judged-moves st id seq d out guest Closes = moves refl
 judged-moves st id seq d out guest (Fails code) = moves refl
 judged-moves st id seq d out guest (Does c) = moves (kept (change-keeps st guest d c))

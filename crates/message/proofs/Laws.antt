@@ -33,8 +33,8 @@ use Rattle.session.specs.State.{State, state, withTool}
 use Rattle.session.specs.Calls.{Told, told, toldClosing}
 use Rattle.change.specs.declared.Effect.{Effect}
 use Rattle.change.specs.Change.{change}
-use Rattle.change.specs.Effect.{Applied, applied, after, toolAfter}
-use Rattle.message.specs.Message.{askedOf, answering, judgedOf, handledOf}
+use Rattle.change.specs.Effect.{Applied, appliedOf, sessionAfter, toolAfter}
+use Rattle.message.specs.Message.{askedOf, answeringOf, judgedOf, handledOf}
 use Rattle.message.proofs.Silent.{codeBy, reply-code}
 
 -- ---- an answer written, and the seq after it
@@ -52,8 +52,8 @@ module _ (s : Session) (e : Effect) (a : Answered) (v p d out written guest : Li
       (kindSeq (layoutOf id .reply) (modeOfNumber (e .by)) (s .tool .seq) (e .code))
       → (layoutOf id .reply ≡ Silent → e .code ≡ OK)
       → r .session ≡ withTool s (toolAfter (s .tool) e (a .next)) → paper (r .answer) ≡ handled (a .count) (e .signal)
-      → told r v p written guest ≡ answering (modeOfNumber (e .by)) id seq (e .code) d (e .signal) out guest (state (after s e) v p)
-  unfolding answering
+      → told r v p written guest ≡ answeringOf (modeOfNumber (e .by)) id seq (e .code) d (e .signal) out guest (state (sessionAfter s e) v p)
+  unfolding answeringOf
   answered-as w k x y =
       let n = w .next ∙ kind-seq (layoutOf id .reply) (modeOfNumber (e .by)) (s .tool .seq) (e .code) k in
       rw (x, y, n) (simp (w .written .count, w .written .there))
@@ -75,7 +75,7 @@ module _ (st : State) (id seq : ℕ) (d out guest : List ℕ) (m : ReplyMode) (v
 
     -- the answer to what was done
     abbrev pub answered-by : Applied → Told
-    answered-by x = answering (x .mode) id seq (x .changed .code) d (x .signal) out (x .changed .guest) (x .changed .state)
+    answered-by x = answeringOf (x .mode) id seq (x .changed .code) d (x .signal) out (x .changed .guest) (x .changed .state)
 
     -- what was done meets no error where nothing answers, and its answer is the message's
     abbrev pub Follows : Applied → Type 0
@@ -89,6 +89,6 @@ module _ (st : State) (id seq : ℕ) (d out guest : List ℕ) (m : ReplyMode) (v
     unfolding judgedOf
     fails-as code x i k = follows x (rw i (ap (λ (y : Applied). y .changed .code) k)) (rw i (ap answered-by k))
 
-    pub does-as : (c : Change) (x : Applied) → v ≡ Does c → x ≡ applied st guest d c → Follows x
+    pub does-as : (c : Change) (x : Applied) → v ≡ Does c → x ≡ appliedOf st guest d c → Follows x
     unfolding judgedOf
     does-as c x i k = follows x (rw i (ap (λ (y : Applied). y .changed .code) k)) (rw i (ap answered-by k))

@@ -24,7 +24,7 @@ use Rattle.kvmi.specs.Reply.{replyData, answerOf, answerSeq}
 use Rattle.store.specs.Words.{field, PAUSES, AWAITED, AWAITED-SEQ}
 use Rattle.verdict.specs.declared.Asked.{Asked}
 use Rattle.session.specs.declared.Session.{Session}
-use Rattle.session.specs.State.{State, withSeqOf}
+use Rattle.session.specs.State.{State, withSeqOf, isClosed}
 use Rattle.session.specs.Calls.{Told, toldSame, toldWritten, toldClosing}
 use Rattle.change.specs.Change.{change}
 
@@ -41,8 +41,8 @@ factsIn st guest vcpu =
     }
 
 -- ---- a message
-unfoldable pub answering : ReplyMode → ℕ → ℕ → ℤ → List ℕ → Signal → List ℕ → List ℕ → State → Told
-answering mode id seq code d g out guest st =
+unfoldable pub answeringOf : ReplyMode → ℕ → ℕ → ℤ → List ℕ → Signal → List ℕ → List ℕ → State → Told
+answeringOf mode id seq code d g out guest st =
     toldWritten (answerOf (layoutOf id .reply) mode (st .session .tool .seq) id seq code (replyData (st .session .settings) guest id d)) g
     (withSeqOf st (answerSeq mode (st .session .tool .seq) code))
     out
@@ -50,9 +50,9 @@ answering mode id seq code d g out guest st =
 
 unfoldable pub judgedOf : State → ℕ → ℕ → List ℕ → List ℕ → List ℕ → Verdict → Told
 judgedOf st id seq d out guest Closes = toldClosing st out guest
-judgedOf st id seq d out guest (Fails code) = answering (modeOfNumber (st .session .tool .mode)) id seq code d Quiet out guest st
+judgedOf st id seq d out guest (Fails code) = answeringOf (modeOfNumber (st .session .tool .mode)) id seq code d Quiet out guest st
 judgedOf st id seq d out guest (Does c) =
-    answering (modeFor (modeOfNumber (st .session .tool .mode)) c) id seq (change st guest d c .code) d (signalOf c) out (change st guest d c .guest)
+    answeringOf (modeFor (modeOfNumber (st .session .tool .mode)) c) id seq (change st guest d c .code) d (signalOf c) out (change st guest d c .guest)
     (change st guest d c .state)
 
 unfoldable pub headedOf : State → List ℕ → List ℕ → List ℕ → Header → Told
@@ -62,7 +62,7 @@ headedOf st d out guest (Whole id size seq) =
 
 unfoldable pub messageOf : State → List ℕ → List ℕ → List ℕ → Told
 messageOf st msg out guest =
-    cond (not (eqb (st .session .tool .closed) 0)) (toldSame 2 st out guest)
+    cond (isClosed st) (toldSame 2 st out guest)
     (cond (ltb (length out) leastOut) (toldSame 3 st out guest)
     (headedOf st (drop 8 msg) out guest (headerOf msg)))
 

@@ -23,7 +23,7 @@ fn answered(s: Session, e: Effect, a: reply::Answered) -> Done
 {
     let signal = e.signal;
     Done {
-        session: s.with_tool(change::after(s.tool, e, a.next)),
+        session: s.with_tool(change::tool_after(s.tool, e, a.next)),
         answer: kvmi::answers::signalled(a.count, signal),
     }
 }
@@ -70,13 +70,13 @@ pub fn take(
 ) -> Done
     ensures { λ r. ⌜ told r (now (vcpus .exit)) (now (pages .exit)) (now (out .exit)) (now (guest .exit)) ≡ messageOf (state s (now (vcpus .entry)) (now (pages .entry))) (now (msg .entry)) (now (out .entry)) (now (guest .entry)) ⌝ }
 {
-    if s.tool.closed != 0 {
+    if s.tool.opened == 0 {
         return Done {
             answer: Answer::Closed,
             session: s,
         };
     }
-    if out.len() < Session::LEAST_OUT {
+    if Session::is_short(out.len()) {
         return Done {
             answer: Answer::ShortOut,
             session: s,

@@ -16,10 +16,10 @@ use Rattle.kvmi.specs.Mode.{modeOfNumber}
 use Rattle.session.specs.State.{freshSession, withReadyBits, clearedState}
 use Rattle.session.specs.Calls.{freshOf, readyOf}
 use Rattle.change.specs.Change.{change}
-use Rattle.message.specs.Message.{answering, judgedOf, headedOf, messageOf}
+use Rattle.message.specs.Message.{answeringOf, judgedOf, headedOf, messageOf}
 use Rattle.stream.specs.Cut.{totalOf, cutOf, extentOf}
 use Rattle.stream.specs.Signed.{signedOf}
-use Rattle.stream.specs.Line.{idOf, seqOf, isCommandError, errorAt, errorOf, lineOf}
+use Rattle.stream.specs.Line.{lineId, seqOf, isCommandError, errorAt, errorOf, lineOf}
 use Rattle.line_text.specs.Text.{ascii, digits, decimal, signedText, numberText, codeText, lineText, endText}
 use Rattle.replay.specs.Runner.{runnerSettings, startOf, passedOf, toldOf, turnBy, turnOf, runOf, printedOf}
 
@@ -57,5 +57,5 @@ rows =
     ∷ []
 
 pub rows-right : map (λ r. printedOf (r .input)) rows ≡ map (λ r. ascii (r .printed)) rows
-unfolding le num load store isWhole headerOf twos codeBytes bitOf isOn putBit bitsHave inRange isSet allowsCommand allowsEvent layoutOf sizeFits namesVcpu vcpuOf switchesAt padding firstNonZero firstOfRuns firstPadding countFits isInvalid isUnready isDenied isUnsupported isBusy isAbsent changeOf losesErrors commandVerdict verdict messageBytes replyBytes replyData answerBytes answerSeq answerOf field cleared modeOfNumber putBit64 change freshOf answering judgedOf headedOf messageOf readyOf totalOf cutOf extentOf signedOf idOf seqOf isCommandError errorAt errorOf lineOf digits decimal signedText numberText codeText lineText endText startOf passedOf toldOf turnBy turnOf runOf printedOf
+unfolding le num load store isWhole headerOf twos codeBytes bitOf isOn putBit bitsHave inRange isSet allowsCommand allowsEvent layoutOf sizeFits namesVcpu vcpuOf switchesAt padding firstNonZero firstOfRuns firstPadding countFits isInvalid isUnready isDenied isUnsupported isBusy isAbsent changeOf losesErrors commandVerdict verdict messageBytes replyBytes replyData answerBytes answerSeq answerOf field cleared modeOfNumber putBit64 change freshOf answeringOf judgedOf headedOf messageOf readyOf totalOf cutOf extentOf signedOf lineId seqOf isCommandError errorAt errorOf lineOf digits decimal signedText numberText codeText lineText endText startOf passedOf toldOf turnBy turnOf runOf printedOf
 rows-right = refl

@@ -90,8 +90,8 @@ pub record After : Type 0 where
   pub next : Next
 
 -- of a result, and the lent words and bytes at exit
-abbrev pub after : Turned → List ℕ → List ℕ → List ℕ → List ℕ → List ℕ → After
-after r vcpus pages out guest text =
+abbrev pub turnLeft : Turned → List ℕ → List ℕ → List ℕ → List ℕ → List ℕ → After
+turnLeft r vcpus pages out guest text =
     record { state = state (r .session) vcpus pages; out = out; guest = guest; text = text; count = r .count; next = r .next }
 
 -- a message that is passed on has its line, at the front of the text; "After closing it prints `end closed` and stops"

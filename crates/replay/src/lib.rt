@@ -10,7 +10,7 @@ use stream::Line;
 ghost use mathlib.Core.Path.{_≡_};
 ghost use Rattle.session.specs.State.{state};
 ghost use Rattle.line_text.specs.Text.{Counts};
-ghost use Rattle.replay.specs.Runner.{runnerSettings, startOf, left, passedOf, after, toldOf, turnOf};
+ghost use Rattle.replay.specs.Runner.{runnerSettings, startOf, left, passedOf, turnLeft, toldOf, turnOf};
 
 // What a message leaves: the session for the next one, the facts of its line, and whether it closed the session.
 pub struct Passed {
@@ -56,7 +56,7 @@ pub fn settings() -> Settings
 pub fn start(vcpus: &mut VcpuWords, pages: &mut PageWords) -> Session
     ensures { λ r. ⌜ state r (now (vcpus .exit)) (now (pages .exit)) ≡ startOf (now (vcpus .entry)) (now (pages .entry)) ⌝ }
 {
-    let begun = session::begin(settings(), vcpus, pages);
+    let begun = Session::fresh(settings(), vcpus, pages);
     let s = begun.session;
     let first = s.ready(0);
     let s = first.session;
@@ -96,7 +96,7 @@ fn tell(
     guest: &mut [u8],
     text: &mut [u8; 128],
 ) -> Turned
-    ensures { λ r. ⌜ after r (now (vcpus .exit)) (now (pages .exit)) (now (out .exit)) (now (guest .exit)) (now (text .exit)) ≡ toldOf index (state s (now (vcpus .entry)) (now (pages .entry))) (now (msg .entry)) (now (out .entry)) (now (guest .entry)) (now (text .entry)) ⌝ }
+    ensures { λ r. ⌜ turnLeft r (now (vcpus .exit)) (now (pages .exit)) (now (out .exit)) (now (guest .exit)) (now (text .exit)) ≡ toldOf index (state s (now (vcpus .entry)) (now (pages .entry))) (now (msg .entry)) (now (out .entry)) (now (guest .entry)) (now (text .entry)) ⌝ }
     ensures { λ r. ⌜ Counts (r .count) (now (text .exit)) ⌝ }
 {
     let passed = pass(s, vcpus, pages, msg, out, guest);
@@ -128,7 +128,7 @@ pub fn turn(
     guest: &mut [u8],
     text: &mut [u8; 128],
 ) -> Turned
-    ensures { λ r. ⌜ after r (now (vcpus .exit)) (now (pages .exit)) (now (out .exit)) (now (guest .exit)) (now (text .exit)) ≡ turnOf index (state s (now (vcpus .entry)) (now (pages .entry))) (now (msg .entry)) (now (out .entry)) (now (guest .entry)) (now (text .entry)) ⌝ }
+    ensures { λ r. ⌜ turnLeft r (now (vcpus .exit)) (now (pages .exit)) (now (out .exit)) (now (guest .exit)) (now (text .exit)) ≡ turnOf index (state s (now (vcpus .entry)) (now (pages .entry))) (now (msg .entry)) (now (out .entry)) (now (guest .entry)) (now (text .entry)) ⌝ }
     ensures { λ r. ⌜ Counts (r .count) (now (text .exit)) ⌝ }
 {
     let cut = stream::cut_next(msg);

@@ -18,6 +18,9 @@ ghost use Rattle.reply.specs.Off.{offBytes, offSeq, kindSeq};
 ghost use Rattle.reply.specs.Contents.{contentsBytes, contentsCount, contentsEnd, Chosen, Picked};
 ghost use Rattle.reply.specs.Event.{eventFront};
 
+// How many bytes a register block has.
+pub const STATE_BYTES: usize = 536;
+
 // The data of a reply.
 enum Contents {
     Nothing,
@@ -207,7 +210,7 @@ fn put_command_error(out: &mut [u8], next: u32, code: i32, seq: u32, id: u16) ->
 {
     if 568 <= out.len() {
         put_event(out, 560, next, 0, 13);
-        wire::fill(out, 16, 536, 0);
+        wire::fill(out, 16, STATE_BYTES, 0);
         wire::store_code(out, 552, code);
         wire::store32(out, 556, seq);
         wire::store64(out, 560, id as u64);

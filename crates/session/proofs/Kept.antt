@@ -5,7 +5,7 @@ use mathlib.Core.Bool.{Bool, true, false, cond, not}
 use lib.Dec.{leb, eqb}
 use Rattle.kvmi.specs.declared.Settings.{Settings}
 use Rattle.session.specs.declared.Session.{Session}
-use Rattle.session.specs.State.{State, withSettings, withShared}
+use Rattle.session.specs.State.{State, withSettings, withShared, isClosed}
 use Rattle.session.specs.Calls.{Told, readyOf}
 
 -- of the session nothing moves but what `set` takes of the one after the call
@@ -22,10 +22,6 @@ either false h g = g
 -- all but the settings
 pub kept : {s : Session} {x : Settings} → s .settings ≡ x → s ≡ withSettings s x
 kept {s} e = ap (λ (y : Settings). withSettings s y) e
-
--- whether a session was closed
-abbrev pub isClosed : State → Bool
-isClosed st = not (eqb (st .session .tool .closed) 0)
 
 pub ready-moves : (st : State) (vcpu : ℕ) → Moves (λ s. withShared (st .session) (s .shared)) (readyOf st vcpu)
 unfolding readyOf

@@ -12,7 +12,7 @@ use Rattle.kvmi.specs.Answer.{Paper, paper, handled, plain}
 use Rattle.kvmi.specs.Settings.{inRange}
 use Rattle.store.specs.Words.{putBit64}
 use Rattle.session.specs.declared.Done.{Done}
-use Rattle.session.specs.State.{State, state, freshSession, closedSession, clearedState, withReadyBits}
+use Rattle.session.specs.State.{State, state, freshSession, closedSession, clearedState, withReadyBits, isClosed}
 
 -- what a call gives and leaves
 pub record Told : Type 0 where
@@ -44,7 +44,7 @@ freshOf s vcpus pages =
 -- ---- a ready mark
 unfoldable pub readyOf : State → ℕ → Told
 readyOf st vcpu =
-    cond (not (eqb (st .session .tool .closed) 0)) (toldSame 2 st [] [])
+    cond (isClosed st) (toldSame 2 st [] [])
     (cond (leb (st .session .settings .vcpus) vcpu) (toldSame 4 st [] [])
     (toldWritten [] Quiet (state (withReadyBits (st .session) (putBit64 (st .session .shared .ready) vcpu true)) (st .vcpus) (st .pages)) [] []))
 

@@ -15,7 +15,7 @@ use Rattle.store.specs.Words.{field, SINGLESTEP, AWAITED, AWAITED-SEQ, vcpuWord
 use Rattle.store.specs.Meaning.{msrsOf, vcpusOf}
 use Rattle.page_words.specs.Meaning.{pagesOf, PagesGood}
 use Rattle.page_words.specs.PageWords.{pageWordCount}
-use Rattle.session.specs.State.{State}
+use Rattle.session.specs.State.{State, isClosed}
 
 -- the event that a vCPU awaits a reply to; 0 stands for none
 unfoldable pub awaitedIn : List ℕ → ℕ → Option Awaited
@@ -42,14 +42,14 @@ modelOf st =
       mode = modeOfNumber (st .session .tool .mode);
       seq = st .session .tool .seq;
       awaited = awaitedOf (st .vcpus) 0 (st .session .settings .vcpus);
-      closed = not (eqb (st .session .tool .closed) 0);
+      closed = isClosed st;
     }
 
 -- words that are determined by the model that they stand for
 pub record WordsGood (st : State) : Type 0 where
   pub vcpuWords : length (st .vcpus) ≡ vcpuWordCount
   pub pageWords : length (st .pages) ≡ pageWordCount
-  pub closed : st .session .tool .closed ≤ 1
+  pub opened : st .session .tool .opened ≤ 1
   pub mode : st .session .tool .mode ≤ 2
   pub ready : st .session .shared .ready < 2 ^ st .session .settings .vcpus
   pub pages : PagesGood (st .pages) (st .session .tool .pages)

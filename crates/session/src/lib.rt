@@ -8,8 +8,10 @@ use store::words::VcpuWords;
 ghost use mathlib.Core.Path.{_≡_};
 ghost use mathlib.Core.List.{List, []};
 ghost use Prim.Native.Nat.{ℕ};
+ghost use lib.Dec.{leb, ltb};
+ghost use Rattle.kvmi.specs.Limits.{pageLimit, pauseLimit, leastOut};
 ghost use Rattle.kvmi.specs.Mode.{modeOfNumber, numberOfMode};
-ghost use Rattle.session.specs.State.{state, freshSession, closedSession, withTool, withToolSeq};
+ghost use Rattle.session.specs.State.{state, blankSession, closedSession, withTool, withToolSeq};
 ghost use Rattle.session.specs.Calls.{told, toldClosing, freshOf, readyOf, countsFit};
 
 // What one introspection tool owns: unsigned integers only, so that any bits are a value. A flag is set where it is not 0.
@@ -19,7 +21,8 @@ pub struct Tool {
     pub events: u64,
     // How many page words are in use.
     pub pages: u64,
-    pub closed: u32,
+    // Memory of zeros is a closed session.
+    pub opened: u32,
     // 0: replies on; 1: off; any other: off, and errors told by CMD_ERROR events.
     pub mode: u32,
     // The next event's seq.
@@ -56,22 +59,69 @@ impl Session {
     // The least output that a message is given.
     pub const LEAST_OUT: usize = 4112;
 
-    // Every switch off, no vCPU ready, replies on, next event seq 0. This is the value alone: `begin` tests the settings and
-    // clears the lent words.
-    pub fn fresh(settings: Settings) -> Self
-        ensures { λ r. ⌜ r ≡ freshSession settings ⌝ }
+    // Whether a number of pages leaves room for one more.
+    pub fn has_room(pages: usize) -> bool
+        ensures { λ r. ⌜ r ≡ ltb pages pageLimit ⌝ }
+    {
+        pages < Session::PAGE_LIMIT
+    }
+
+    // Whether a queue with a number of pauses takes no more.
+    pub fn is_full(pauses: u64) -> bool
+        ensures { λ r. ⌜ r ≡ leb pauseLimit pauses ⌝ }
+    {
+        Session::PAUSE_LIMIT <= pauses
+    }
+
+    // Whether a queue can hold a number of pauses.
+    pub fn can_hold(pauses: u64) -> bool
+        ensures { λ r. ⌜ r ≡ leb pauses pauseLimit ⌝ }
+    {
+        pauses <= Session::PAUSE_LIMIT
+    }
+
+    // Whether an output is too short for a message.
+    pub fn is_short(out: usize) -> bool
+        ensures { λ r. ⌜ r ≡ ltb out leastOut ⌝ }
+    {
+        out < Session::LEAST_OUT
+    }
+
+    // Every switch off, no vCPU ready, replies on, next event seq 0; open or not.
+    fn blank(settings: Settings, opened: u32) -> Self
+        ensures { λ r. ⌜ r ≡ blankSession settings opened ⌝ }
     {
         let tool = Tool {
             events: 0,
             pages: 0,
-            closed: 0,
+            opened,
             mode: 0,
             seq: 0,
         };
+        let shared = Shared { ready: 0 };
         Session {
             settings,
             tool,
-            shared: Shared { ready: 0 },
+            shared,
+        }
+    }
+
+    // A session begins fresh, on whatever words are lent. Settings out of range are refused: no word changes, and the
+    // session that is handed back is closed.
+    pub fn fresh(settings: Settings, vcpus: &mut VcpuWords, pages: &mut PageWords) -> Done
+        ensures { λ r. ⌜ told r (now (vcpus .exit)) (now (pages .exit)) [] [] ≡ freshOf settings (now (vcpus .entry)) (now (pages .entry)) ⌝ }
+    {
+        if !in_range(settings.vcpus, settings.views) {
+            return Done {
+                answer: Answer::BadSettings,
+                session: Session::shut(settings),
+            };
+        }
+        store::words::clear(vcpus);
+        store::words::clear(pages);
+        Done {
+            answer: kvmi::answers::done(),
+            session: Session::blank(settings, 1),
         }
     }
 
@@ -79,18 +129,7 @@ impl Session {
     pub fn shut(settings: Settings) -> Self
         ensures { λ r. ⌜ r ≡ closedSession settings ⌝ }
     {
-        let tool = Tool {
-            events: 0,
-            pages: 0,
-            closed: 1,
-            mode: 0,
-            seq: 0,
-        };
-        Session {
-            settings,
-            tool,
-            shared: Shared { ready: 0 },
-        }
+        Session::blank(settings, 0)
     }
 
     // The same with what its tool owns.
@@ -115,7 +154,7 @@ impl Session {
     pub fn ready(self, vcpu: u16) -> Done
         ensures { λ r. ⌜ ((v p : List ℕ) → told r v p [] [] ≡ readyOf (state self v p) vcpu) ⌝ }
     {
-        if self.tool.closed != 0 {
+        if self.tool.opened == 0 {
             return Done {
                 answer: Answer::Closed,
                 session: self,
@@ -175,25 +214,6 @@ pub fn in_range(vcpus: u32, views: u32) -> bool
         return false;
     }
     views <= 8
-}
-
-// A session begins fresh, on whatever words are lent. Settings out of range are refused: no word changes, and the
-// session that is handed back is closed.
-pub fn begin(settings: Settings, vcpus: &mut VcpuWords, pages: &mut PageWords) -> Done
-    ensures { λ r. ⌜ told r (now (vcpus .exit)) (now (pages .exit)) [] [] ≡ freshOf settings (now (vcpus .entry)) (now (pages .entry)) ⌝ }
-{
-    if !in_range(settings.vcpus, settings.views) {
-        return Done {
-            answer: Answer::BadSettings,
-            session: Session::shut(settings),
-        };
-    }
-    store::words::clear(vcpus);
-    store::words::clear(pages);
-    Done {
-        answer: kvmi::answers::done(),
-        session: Session::fresh(settings),
-    }
 }
 
 // The session closes: everything fresh, no event awaited, and closed for good.

@@ -14,8 +14,8 @@ use Rattle.stream.specs.declared.Code.the-variants.{Unwritten, Written}
 use Rattle.stream.specs.declared.Line.{Line}
 
 -- "`-` stands for an id or seq that is not whole": the id has bytes 0 and 1 of a header, the seq bytes 4 to 7
-unfoldable pub idOf : List ℕ → Number
-idOf msg = cond (leb 2 (length msg)) (Shown (load 2 msg 0)) Missing
+unfoldable pub lineId : List ℕ → Number
+lineId msg = cond (leb 2 (length msg)) (Shown (load 2 msg 0)) Missing
 
 unfoldable pub seqOf : List ℕ → Number
 seqOf msg = cond (leb 8 (length msg)) (Shown (load 4 msg 4)) Missing
@@ -36,7 +36,7 @@ errorOf out count = cond (eqb count 0) Unwritten (Written (signedOf (load 4 out 
 unfoldable pub lineOf : List ℕ → List ℕ → Paper → Line
 lineOf msg out a =
     record {
-      id = idOf msg;
+      id = lineId msg;
       seq = seqOf msg;
       answer = a .number;
       count = a .count;

@@ -6,7 +6,7 @@ ghost use lib.Dec.{eqb};
 ghost use Rattle.kvmi.specs.Answer.{paper};
 ghost use Rattle.stream.specs.Cut.{cutOf, extentOf};
 ghost use Rattle.stream.specs.Signed.{signedOf};
-ghost use Rattle.stream.specs.Line.{idOf, seqOf, errorAt, errorOf, lineOf};
+ghost use Rattle.stream.specs.Line.{lineId, seqOf, errorAt, errorOf, lineOf};
 
 // What the first bytes of a message, at most 8 of them, say of it: there is none; its header is cut, and these bytes are all
 // of it; it is too long to be taken; or it has so many bytes in all.
@@ -136,7 +136,7 @@ pub fn closes(a: Answer) -> bool
 }
 
 fn id_of(msg: &[u8]) -> Number
-    ensures { λ r. ⌜ r ≡ idOf (now (msg .entry)) ⌝ }
+    ensures { λ r. ⌜ r ≡ lineId (now (msg .entry)) ⌝ }
 {
     if msg.len() < 2 {
         return Number::Missing;

@@ -4,6 +4,7 @@ use kvmi::Change;
 use kvmi::Facts;
 use kvmi::Settings;
 use kvmi::Verdict;
+use session::Session;
 ghost use mathlib.Core.Path.{_≡_};
 ghost use mathlib.Core.Bool.{cond, not};
 ghost use Rattle.kvmi.specs.Settings.{allowsEvent};
@@ -26,7 +27,7 @@ fn pause_vcpu(settings: Settings, facts: Facts, d: &[u8]) -> Verdict
     let wait = wire::byte(d, 8);
     let malformed = tests::is_malformed(padding::of_vcpu_switch(d), settings.vcpus, vcpu, wait);
     let mut c = Causes::new(malformed, !facts.ready);
-    c.busy = 8 <= facts.pauses;
+    c.busy = Session::is_full(facts.pauses);
     c.decide(Change::QueuePause {
         vcpu,
         wait: wait == 1,
@@ -87,7 +88,7 @@ pub fn control_msr(settings: Settings, facts: Facts, d: &[u8]) -> Verdict
     let enable = wire::byte(d, 8);
     let msr = wire::load32(d, 12);
     let malformed = tests::is_malformed(padding::of_register(d), settings.vcpus, vcpu, enable);
-    let c = Causes::new(malformed | !tests::is_msr(msr), !facts.ready);
+    let c = Causes::new(malformed | !store::words::is_msr(msr), !facts.ready);
     c.decide(Change::SetMsr {
         vcpu,
         msr,

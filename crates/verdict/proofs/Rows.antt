@@ -24,7 +24,7 @@ use Rattle.kvmi.specs.Message.{sizeFits, carriesData, layoutOf, messages, unkno
 use Rattle.kvmi.specs.Verdict.{repliesOn, verdict, commandVerdict, isInvalid, isUnready, isDenied, isUnsupported, isBusy, isAbsent, losesErrors, changeOf}
 use Rattle.laws.proofs.Bool.{test, and-l, and-r}
 use Rattle.tests.specs.Known.{idOf, isKnown}
-use Rattle.verdict.specs.Handlers.{handled, factsFor, passesRow, refusal}
+use Rattle.verdict.specs.Handlers.{rowVerdict, factsFor, passesRow, refusal}
 use Rattle.verdict.specs.declared.Asked.{Asked}
 
 -- what a test says of each number below a bound
@@ -76,10 +76,10 @@ own-row id row e known =
 -- `verdict` by the table's row: so the row tells all that the number does
 unfoldable byRow : Asked → List ℕ → Layout → ℕ → ℕ → List ℕ → Verdict
 byRow a v row id seq d =
-    cond (isKnown (row .handler) && passesRow a row id d) (handled (a .settings) (factsFor a v d) (idOf (row .handler)) seq d) (refusal a (row .handler) id)
+    cond (isKnown (row .handler) && passesRow a row id d) (rowVerdict (a .settings) (factsFor a v d) (idOf (row .handler)) seq d) (refusal a (row .handler) id)
 
 by-row : (a : Asked) (v : List ℕ) (id seq : ℕ) (d : List ℕ) → byRow a v (layoutOf id) id seq d ≡ verdict (a .settings) (factsFor a v d) id seq d
-unfolding byRow verdict handled passesRow refusal
+unfolding byRow verdict rowVerdict passesRow refusal
 by-row a v id seq d =
     rw (row-known id)
     (test (leb 1 id && leb id 16)
@@ -112,13 +112,13 @@ module _ (a : Asked) (id : ℕ) (row : Layout) (d : List ℕ) {b : Bool} (e : ro
   module _ (v : List ℕ) (seq : ℕ) where
     -- a known message that passes gets what its own tests say
     pub taken : {f : Facts} → f ≡ factsFor a v d → (h : Handler) → isKnown h ≡ true → row .handler ≡ h → b ≡ true
-        → handled (a .settings) f (idOf h) seq d ≡ verdict (a .settings) (factsFor a v d) id seq d
+        → rowVerdict (a .settings) f (idOf h) seq d ≡ verdict (a .settings) (factsFor a v d) id seq d
     unfolding byRow
-    taken k h known g z = ap (λ x. handled (a .settings) x (idOf h) seq d) k ∙ rw (← by-row a v id seq d, ← e, ← p, z, g, known)
+    taken k h known g z = ap (λ x. rowVerdict (a .settings) x (idOf h) seq d) k ∙ rw (← by-row a v id seq d, ← e, ← p, z, g, known)
 
     pub taken-part : {f : Facts} → f ≡ factsFor a v d → (h : Handler) (n : ℕ) → layoutOf (idOf h) .size ≡ Exactly n → isKnown h ≡ true → row .handler ≡ h → b ≡ true
-        → handled (a .settings) f (idOf h) seq (take n d) ≡ verdict (a .settings) (factsFor a v d) id seq d
-    taken-part {f} k h n fixed known g z = ap (λ x. handled (a .settings) f (idOf h) seq x) (part h n fixed known g z .1) ∙ taken k h known g z
+        → rowVerdict (a .settings) f (idOf h) seq (take n d) ≡ verdict (a .settings) (factsFor a v d) id seq d
+    taken-part {f} k h n fixed known g z = ap (λ x. rowVerdict (a .settings) f (idOf h) seq x) (part h n fixed known g z .1) ∙ taken k h known g z
 
     -- one that does not pass is refused
     pub left : b ≡ false → refusal a (row .handler) id ≡ verdict (a .settings) (factsFor a v d) id seq d

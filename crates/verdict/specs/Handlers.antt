@@ -19,8 +19,8 @@ use Rattle.tests.specs.Known.{isKnown}
 use Rattle.verdict.specs.declared.Asked.{Asked}
 
 -- what `verdict` tests once the data's size is the table's
-unfoldable pub handled : Settings → Facts → ℕ → ℕ → List ℕ → Verdict
-handled s f id seq d =
+unfoldable pub rowVerdict : Settings → Facts → ℕ → ℕ → List ℕ → Verdict
+rowVerdict s f id seq d =
     cond (eqb id 16) (eventReplyVerdict f seq d)
     (cond (eqb id 9 && not (allowsEvent s 2)) Closes
     (commandVerdict s f id d))

@@ -22,7 +22,7 @@ pub struct Session {
     pub settings: Settings,
     pub vm_events: u64,
     pub pages: u64,
-    pub closed: u32,
+    pub opened: u32,
     pub mode: u32,
     pub seq: u32,
     pub ready: u64,

@@ -274,7 +274,7 @@ impl Session {
             descriptors: 0,
             breakpoints_taken: 0,
         };
-        let raw = ffi::Session { settings, vm_events: 0, pages: 0, closed: 1, mode: 0, seq: 0, ready: 0 };
+        let raw = ffi::Session { settings, vm_events: 0, pages: 0, opened: 0, mode: 0, seq: 0, ready: 0 };
         Session { raw, vcpus: [0; ffi::VCPU_WORDS], pages: [0; ffi::PAGE_WORDS] }
     }
 
@@ -423,7 +423,7 @@ impl Session {
     /// Whether the session was closed.
     #[inline]
     pub fn is_closed(&self) -> bool {
-        self.raw.closed != 0
+        self.raw.opened == 0
     }
 
     /// Whether a vCPU is marked ready.

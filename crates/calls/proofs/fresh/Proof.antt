@@ -6,15 +6,15 @@ use borrow.Author.Needs.{needs}
 use Rattle.calls.proofs.fresh.Statement.{statement}
 use Rattle.calls.proofs.fresh.Tie as tie
 
-begin-requires : tie.Need-begin-requires
-begin-requires c κs = search needs
+fresh-requires : tie.Need-fresh-requires
+fresh-requires c κs = search needs
 
 finish-requires : tie.Need-finish-requires
 finish-requires c κs = search needs
 
 returns : tie.Need-returns
 unfolding freshGiven
-returns c = (c .finish .ensures .0 ∙ ap (λ (t : Told). given t .done) (c .before .before .begin .ensures), ap (λ (t : Told). t .state .vcpus) (c .before .before .begin .ensures), ap (λ (t : Told). t .state .pages) (c .before .before .begin .ensures), c .finish .ensures .1 ∙ ap (λ (t : Told). given t .result) (c .before .before .begin .ensures))
+returns c = (c .finish .ensures .0 ∙ ap (λ (t : Told). given t .done) (c .before .before .fresh .ensures), ap (λ (t : Told). t .state .vcpus) (c .before .before .fresh .ensures), ap (λ (t : Told). t .state .pages) (c .before .before .fresh .ensures), c .finish .ensures .1 ∙ ap (λ (t : Told). given t .result) (c .before .before .fresh .ensures))
 
 pub fresh-spec : {M : Type 1} → statement M
-fresh-spec = tie.close (tie.spec begin-requires finish-requires returns)
+fresh-spec = tie.close (tie.spec fresh-requires finish-requires returns)

@@ -19,8 +19,8 @@ slice-aggregate-settings-of c = search needs
 settings-of-requires : tie.Need-settings-of-requires Inv-loop μ-loop
 settings-of-requires c κs = search needs
 
-fresh-requires : tie.Need-fresh-requires Inv-loop μ-loop
-fresh-requires c κs = search needs
+shut-requires : tie.Need-shut-requires Inv-loop μ-loop
+shut-requires c κs = search needs
 
 loop-holds : tie.Need-loop-holds Inv-loop μ-loop
 loop-holds c = search needs
@@ -102,7 +102,7 @@ run-script-spec =
     μ-loop
     slice-aggregate-settings-of
     settings-of-requires
-    fresh-requires
+    shut-requires
     loop-holds
     byte-requires
     add-load32

@@ -53,7 +53,7 @@ use Rattle.session.proofs.Shared.Laws as H″
 use Rattle.session.proofs.Session as S
 use Rattle.session.proofs.Session.Laws as S′
 use Rattle.host.proofs.Lent.{VcpuWords, VcpuSlot, PageWords, PageSlot, ResultWords, ResultSlot}
-use Rattle.host.proofs.Stored.{code-fits, session-is, shared-is, events-fit, pages-fit, closed-fits, mode-fits, seq-fits, stored, unnamed}
+use Rattle.host.proofs.Stored.{code-fits, session-is, shared-is, events-fit, pages-fit, opened-fits, mode-fits, seq-fits, stored, unnamed}
 use Rattle.calls.proofs.Done as D
 use Rattle.calls.proofs.Done.Laws as D′
 use Rattle.calls.proofs.message as callee
@@ -164,7 +164,7 @@ module _ {M : Type 1} (𝓤 : URA M) (H : Heap 𝓤) (A : Atoms 𝓤) (W : Given
         -- (*_1).1.k = _8.1.1.k, for k = 0 to 4
         assigns ! (of-opd ! (load ! (from ! (fld ! refl (fld ! refl (fld ! refl (stop !))))) (look-in ! 26 (sub ! 0 refl (sub ! 1 refl (sub ! 1 refl (whole !))))))) (from ! (hop ! (look ! 40 refl) (fld ! refl (fld ! refl (stop !))))) (store-in ! 0 (sub ! 0 refl (sub ! 1 refl (whole !))) (tt, record { fits = events-fit d _ is })) $
         assigns ! (of-opd ! (load ! (from ! (fld ! refl (fld ! refl (fld ! refl (stop !))))) (look-in ! 26 (sub ! 1 refl (sub ! 1 refl (sub ! 1 refl (whole !))))))) (from ! (hop ! (look ! 40 refl) (fld ! refl (fld ! refl (stop !))))) (store-in ! 0 (sub ! 1 refl (sub ! 1 refl (whole !))) (tt, record { fits = pages-fit d _ is })) $
-        assigns ! (of-opd ! (load ! (from ! (fld ! refl (fld ! refl (fld ! refl (stop !))))) (look-in ! 26 (sub ! 2 refl (sub ! 1 refl (sub ! 1 refl (whole !))))))) (from ! (hop ! (look ! 40 refl) (fld ! refl (fld ! refl (stop !))))) (store-in ! 0 (sub ! 2 refl (sub ! 1 refl (whole !))) (tt, record { fits = closed-fits d _ is })) $
+        assigns ! (of-opd ! (load ! (from ! (fld ! refl (fld ! refl (fld ! refl (stop !))))) (look-in ! 26 (sub ! 2 refl (sub ! 1 refl (sub ! 1 refl (whole !))))))) (from ! (hop ! (look ! 40 refl) (fld ! refl (fld ! refl (stop !))))) (store-in ! 0 (sub ! 2 refl (sub ! 1 refl (whole !))) (tt, record { fits = opened-fits d _ is })) $
         assigns ! (of-opd ! (load ! (from ! (fld ! refl (fld ! refl (fld ! refl (stop !))))) (look-in ! 26 (sub ! 3 refl (sub ! 1 refl (sub ! 1 refl (whole !))))))) (from ! (hop ! (look ! 40 refl) (fld ! refl (fld ! refl (stop !))))) (store-in ! 0 (sub ! 3 refl (sub ! 1 refl (whole !))) (tt, record { fits = mode-fits d _ is })) $
         assigns ! (of-opd ! (load ! (from ! (fld ! refl (fld ! refl (fld ! refl (stop !))))) (look-in ! 26 (sub ! 4 refl (sub ! 1 refl (sub ! 1 refl (whole !))))))) (from ! (hop ! (look ! 40 refl) (fld ! refl (fld ! refl (stop !))))) (store-in ! 0 (sub ! 4 refl (sub ! 1 refl (whole !))) (tt, record { fits = seq-fits d _ is })) $
         -- (*_1).2 = _8.1.2

@@ -3,6 +3,7 @@ use borrow.Author.Tests.{lt-ltb, le-ltb, le-leb, lt-leb, eq-eqb, ne-eqb}
 use Rattle.kvmi.specs.Image.{paForm}
 use Rattle.image_form.specs.Form.{paFits}
 use Rattle.image_form.proofs.Forms.{access-fits, access-high}
+use borrow.Author.Needs.{needs}
 use Rattle.image_form.proofs.pa_form.Statement.{statement}
 use Rattle.image_form.proofs.pa_form.Tie as tie
 
@@ -26,9 +27,14 @@ returns-5 : tie.Need-returns-5
 unfolding paFits paForm
 returns-5 c = simp (eq-eqb _ _ (c .before .before .before .before .if1 .left), le-leb _ _ (c .before .before .before .if2 .left), access-fits _ (c .before .before .if3 .left) (c .before .if4 .left), le-ltb _ _ (c .if5 .taken))
 
+has-room-requires : tie.Need-has-room-requires
+has-room-requires c κs = search needs
+
 returns-6 : tie.Need-returns-6
 unfolding paFits paForm
-returns-6 c = simp (eq-eqb _ _ (c .before .before .before .before .if1 .left), le-leb _ _ (c .before .before .before .if2 .left), access-fits _ (c .before .before .if3 .left) (c .before .if4 .left), lt-ltb _ _ (c .if5 .left))
+returns-6 c = simp (eq-eqb _ _ (c .before .before .before .before .before .if1 .left), le-leb _ _ (c .before .before .before .before .if2 .left), access-fits _ (c .before .before .before .if3 .left) (c .before .before .if4 .left), lt-ltb _ _ (c .before .if5 .left)) (c .has-room .ensures)
 
 pub pa-form-spec : {M : Type 1} → statement M
-pa-form-spec = tie.close (tie.spec returns returns-2 returns-3 returns-4 returns-5 returns-6)
+pa-form-spec =
+    tie.close
+    (tie.spec returns returns-2 returns-3 returns-4 returns-5 has-room-requires returns-6)

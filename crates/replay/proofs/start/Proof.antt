@@ -11,8 +11,8 @@ use Rattle.replay.proofs.start.Tie as tie
 settings-requires : tie.Need-settings-requires
 settings-requires c κs = search needs
 
-begin-requires : tie.Need-begin-requires
-begin-requires c κs = search needs
+fresh-requires : tie.Need-fresh-requires
+fresh-requires c κs = search needs
 
 ready-requires : tie.Need-ready-requires
 ready-requires c κs = search needs
@@ -23,10 +23,10 @@ ready-requires-2 c κs = search needs
 returns : tie.Need-returns
 unfolding startOf
 returns c =
-    let begun = ap (λ (t : Told). t .state) (c .before .before .before .before .before .begin .ensures) ∙ ap (λ (s : Settings). freshOf s (c .before .before .before .before .before .before .before .before .before .args .vcpus .now) (c .before .before .before .before .before .before .before .before .before .args .pages .now) .state) (c .before .before .before .before .before .before .before .before .settings .ensures) in
+    let begun = ap (λ (t : Told). t .state) (c .before .before .before .before .before .fresh .ensures) ∙ ap (λ (s : Settings). freshOf s (c .before .before .before .before .before .before .before .before .before .args .vcpus .now) (c .before .before .before .before .before .before .before .before .before .args .pages .now) .state) (c .before .before .before .before .before .before .before .before .settings .ensures) in
     let first = ap (λ (t : Told). t .state) (c .before .before .before .ready .ensures _ _) ∙ ap (λ (st : State). readyOf st 0 .state) begun in
     ap (λ (t : Told). t .state) (c .before .ready2 .ensures _ _) ∙ ap (λ (st : State). readyOf st 1 .state) first
 
 pub start-spec : {M : Type 1} → statement M
 start-spec =
-    tie.close (tie.spec settings-requires begin-requires ready-requires ready-requires-2 returns)
+    tie.close (tie.spec settings-requires fresh-requires ready-requires ready-requires-2 returns)

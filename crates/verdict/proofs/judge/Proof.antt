@@ -4,7 +4,7 @@ use mathlib.Core.Logic.{⊎-elim}
 use borrow.Author.Needs.{needs}
 use Rattle.kvmi.specs.declared.Handler.the-variants.{GetVersion, VmCheckCommand, VmCheckEvent, VmGetInfo, VmControlEvents, VmReadPhysical, VmWritePhysical, VcpuGetInfo, VcpuPause, VcpuControlEvents, VcpuControlCr, VcpuControlMsr, VmSetPageAccess, VcpuControlSinglestep, VmControlCmdResponse, EventReply}
 use Rattle.kvmi.specs.Message.{layoutOf}
-use Rattle.verdict.specs.Handlers.{handled}
+use Rattle.verdict.specs.Handlers.{rowVerdict}
 use Rattle.verdict.proofs.Rows.{asks-nothing, part, taken, taken-part, left, unknown-left}
 use Rattle.verdict.proofs.judge.Statement.{statement}
 use Rattle.verdict.proofs.judge.Tie as tie
@@ -19,7 +19,7 @@ passes-requires : tie.Need-passes-requires
 passes-requires c κs = search needs
 
 returns : tie.Need-returns
-unfolding handled
+unfolding rowVerdict
 returns c = sym (asks-nothing _ _ _ .0) ∙ taken _ _ _ _ (c .before .before .before .before .layout .ensures) (c .before .passes .ensures) _ _ refl GetVersion refl (c .before .before .enum-told .given .1) (c .if1 .taken)
 
 enum-told-2 : tie.Need-enum-told-2
@@ -39,7 +39,7 @@ check-command-requires : tie.Need-check-command-requires
 check-command-requires c κs = search needs
 
 returns-2 : tie.Need-returns-2
-unfolding handled layoutOf
+unfolding rowVerdict layoutOf
 returns-2 c = c .check-command .ensures ∙ taken-part _ _ _ _ (c .before .before .before .before .before .before .before .layout .ensures) (c .before .before .before .before .passes2 .ensures) _ _ (c .before .before .facts-of .ensures) VmCheckCommand 8 refl refl (c .before .before .before .before .before .enum-told2 .given .1) (c .before .before .before .if2 .taken)
 
 enum-told-3 : tie.Need-enum-told-3
@@ -59,7 +59,7 @@ check-event-requires : tie.Need-check-event-requires
 check-event-requires c κs = search needs
 
 returns-3 : tie.Need-returns-3
-unfolding handled layoutOf
+unfolding rowVerdict layoutOf
 returns-3 c = c .check-event .ensures ∙ taken-part _ _ _ _ (c .before .before .before .before .before .before .before .layout .ensures) (c .before .before .before .before .passes3 .ensures) _ _ (c .before .before .facts-of2 .ensures) VmCheckEvent 8 refl refl (c .before .before .before .before .before .enum-told3 .given .1) (c .before .before .before .if3 .taken)
 
 enum-told-4 : tie.Need-enum-told-4
@@ -69,7 +69,7 @@ passes-requires-4 : tie.Need-passes-requires-4
 passes-requires-4 c κs = search needs
 
 returns-4 : tie.Need-returns-4
-unfolding handled
+unfolding rowVerdict
 returns-4 c = sym (asks-nothing _ _ _ .1) ∙ taken _ _ _ _ (c .before .before .before .before .layout .ensures) (c .before .passes4 .ensures) _ _ refl VmGetInfo refl (c .before .before .enum-told4 .given .1) (c .if4 .taken)
 
 enum-told-5 : tie.Need-enum-told-5
@@ -89,7 +89,7 @@ control-vm-events-requires : tie.Need-control-vm-events-requires
 control-vm-events-requires c κs = search needs
 
 returns-5 : tie.Need-returns-5
-unfolding handled layoutOf
+unfolding rowVerdict layoutOf
 returns-5 c = c .control-vm-events .ensures ∙ taken-part _ _ _ _ (c .before .before .before .before .before .before .before .layout .ensures) (c .before .before .before .before .passes5 .ensures) _ _ (c .before .before .facts-of3 .ensures) VmControlEvents 8 refl refl (c .before .before .before .before .before .enum-told5 .given .1) (c .before .before .before .if5 .taken)
 
 enum-told-6 : tie.Need-enum-told-6
@@ -109,7 +109,7 @@ read-physical-requires : tie.Need-read-physical-requires
 read-physical-requires c κs = search needs
 
 returns-6 : tie.Need-returns-6
-unfolding handled layoutOf
+unfolding rowVerdict layoutOf
 returns-6 c = c .read-physical .ensures ∙ taken-part _ _ _ _ (c .before .before .before .before .before .before .before .layout .ensures) (c .before .before .before .before .passes6 .ensures) _ _ (c .before .before .facts-of4 .ensures) VmReadPhysical 16 refl refl (c .before .before .before .before .before .enum-told6 .given .1) (c .before .before .before .if6 .taken)
 
 enum-told-7 : tie.Need-enum-told-7
@@ -125,7 +125,7 @@ write-physical-requires : tie.Need-write-physical-requires
 write-physical-requires c κs = search needs
 
 returns-7 : tie.Need-returns-7
-unfolding handled
+unfolding rowVerdict
 returns-7 c = c .write-physical .ensures ∙ taken _ _ _ _ (c .before .before .before .before .before .before .layout .ensures) (c .before .before .before .passes7 .ensures) _ _ (c .before .facts-of5 .ensures) VmWritePhysical refl (c .before .before .before .before .enum-told7 .given .1) (c .before .before .if7 .taken)
 
 enum-told-8 : tie.Need-enum-told-8
@@ -145,7 +145,7 @@ get-vcpu-info-requires : tie.Need-get-vcpu-info-requires
 get-vcpu-info-requires c κs = search needs
 
 returns-8 : tie.Need-returns-8
-unfolding handled layoutOf
+unfolding rowVerdict layoutOf
 returns-8 c = c .get-vcpu-info .ensures ∙ taken-part _ _ _ _ (c .before .before .before .before .before .before .before .layout .ensures) (c .before .before .before .before .passes8 .ensures) _ _ (c .before .before .facts-of6 .ensures) VcpuGetInfo 8 refl refl (c .before .before .before .before .before .enum-told8 .given .1) (c .before .before .before .if8 .taken)
 
 enum-told-9 : tie.Need-enum-told-9
@@ -165,7 +165,7 @@ pause-requires : tie.Need-pause-requires
 pause-requires c κs = search needs
 
 returns-9 : tie.Need-returns-9
-unfolding handled layoutOf
+unfolding rowVerdict layoutOf
 returns-9 c = c .pause .ensures ∙ taken-part _ _ _ _ (c .before .before .before .before .before .before .before .layout .ensures) (c .before .before .before .before .passes9 .ensures) _ _ (c .before .before .facts-of7 .ensures) VcpuPause 16 refl refl (c .before .before .before .before .before .enum-told9 .given .1) (c .before .before .before .if9 .taken)
 
 enum-told-10 : tie.Need-enum-told-10
@@ -185,7 +185,7 @@ control-vcpu-events-requires : tie.Need-control-vcpu-events-requires
 control-vcpu-events-requires c κs = search needs
 
 returns-10 : tie.Need-returns-10
-unfolding handled layoutOf
+unfolding rowVerdict layoutOf
 returns-10 c = c .control-vcpu-events .ensures ∙ taken-part _ _ _ _ (c .before .before .before .before .before .before .before .layout .ensures) (c .before .before .before .before .passes10 .ensures) _ _ (c .before .before .facts-of8 .ensures) VcpuControlEvents 16 refl refl (c .before .before .before .before .before .enum-told10 .given .1) (c .before .before .before .if10 .taken)
 
 enum-told-11 : tie.Need-enum-told-11
@@ -205,7 +205,7 @@ control-cr-requires : tie.Need-control-cr-requires
 control-cr-requires c κs = search needs
 
 returns-11 : tie.Need-returns-11
-unfolding handled layoutOf
+unfolding rowVerdict layoutOf
 returns-11 c = c .control-cr .ensures ∙ taken-part _ _ _ _ (c .before .before .before .before .before .before .before .layout .ensures) (c .before .before .before .before .passes11 .ensures) _ _ (c .before .before .facts-of9 .ensures) VcpuControlCr 16 refl refl (c .before .before .before .before .before .enum-told11 .given .1) (c .before .before .before .if11 .taken)
 
 enum-told-12 : tie.Need-enum-told-12
@@ -225,7 +225,7 @@ control-msr-requires : tie.Need-control-msr-requires
 control-msr-requires c κs = search needs
 
 returns-12 : tie.Need-returns-12
-unfolding handled layoutOf
+unfolding rowVerdict layoutOf
 returns-12 c = c .control-msr .ensures ∙ taken-part _ _ _ _ (c .before .before .before .before .before .before .before .layout .ensures) (c .before .before .before .before .passes12 .ensures) _ _ (c .before .before .facts-of10 .ensures) VcpuControlMsr 16 refl refl (c .before .before .before .before .before .enum-told12 .given .1) (c .before .before .before .if12 .taken)
 
 enum-told-13 : tie.Need-enum-told-13
@@ -241,7 +241,7 @@ set-page-access-requires : tie.Need-set-page-access-requires
 set-page-access-requires c κs = search needs
 
 returns-13 : tie.Need-returns-13
-unfolding handled
+unfolding rowVerdict
 returns-13 c = c .set-page-access .ensures ∙ taken _ _ _ _ (c .before .before .before .before .before .before .layout .ensures) (c .before .before .before .passes13 .ensures) _ _ (c .before .facts-of11 .ensures) VmSetPageAccess refl (c .before .before .before .before .enum-told13 .given .1) (c .before .before .if13 .taken)
 
 enum-told-14 : tie.Need-enum-told-14
@@ -261,7 +261,7 @@ control-singlestep-requires : tie.Need-control-singlestep-requires
 control-singlestep-requires c κs = search needs
 
 returns-14 : tie.Need-returns-14
-unfolding handled layoutOf
+unfolding rowVerdict layoutOf
 returns-14 c = c .control-singlestep .ensures ∙ taken-part _ _ _ _ (c .before .before .before .before .before .before .before .layout .ensures) (c .before .before .before .before .passes14 .ensures) _ _ (c .before .before .facts-of12 .ensures) VcpuControlSinglestep 16 refl refl (c .before .before .before .before .before .enum-told14 .given .1) (c .before .before .before .if14 .taken)
 
 enum-told-15 : tie.Need-enum-told-15
@@ -281,7 +281,7 @@ control-replies-requires : tie.Need-control-replies-requires
 control-replies-requires c κs = search needs
 
 returns-15 : tie.Need-returns-15
-unfolding handled layoutOf
+unfolding rowVerdict layoutOf
 returns-15 c = c .control-replies .ensures ∙ taken-part _ _ _ _ (c .before .before .before .before .before .before .before .layout .ensures) (c .before .before .before .before .passes15 .ensures) _ _ (c .before .before .facts-of13 .ensures) VmControlCmdResponse 8 refl refl (c .before .before .before .before .before .enum-told15 .given .1) (c .before .before .before .if15 .taken)
 
 enum-told-16 : tie.Need-enum-told-16
@@ -301,7 +301,7 @@ decide-requires : tie.Need-decide-requires
 decide-requires c κs = search needs
 
 returns-16 : tie.Need-returns-16
-unfolding handled layoutOf
+unfolding rowVerdict layoutOf
 returns-16 c = c .decide .ensures ∙ taken-part _ _ _ _ (c .before .before .before .before .before .before .before .layout .ensures) (c .before .before .before .before .passes16 .ensures) _ _ (c .before .before .facts-of14 .ensures) EventReply 16 refl refl (c .before .before .before .before .before .enum-told16 .given .1) (c .before .before .before .if16 .taken)
 
 enum-told-17 : tie.Need-enum-told-17

@@ -4,8 +4,8 @@ use borrow.Author.Tests.{not-true, not-false}
 use Rattle.session.specs.Calls.{freshOf, countsFit}
 use Rattle.kvmi.specs.Settings.{inRange}
 use borrow.Author.Needs.{needs}
-use Rattle.session.proofs.begin.Statement.{statement}
-use Rattle.session.proofs.begin.Tie as tie
+use Rattle.session.proofs.Session.fresh.Statement.{statement}
+use Rattle.session.proofs.Session.fresh.Tie as tie
 
 in-range-requires : tie.Need-in-range-requires
 in-range-requires c κs = search needs
@@ -26,15 +26,15 @@ clear-requires-2 c κs = search needs
 done-requires : tie.Need-done-requires
 done-requires c κs = search needs
 
-fresh-requires : tie.Need-fresh-requires
-fresh-requires c κs = search needs
+blank-requires : tie.Need-blank-requires
+blank-requires c κs = search needs
 
 returns-2 : tie.Need-returns-2
 unfolding freshOf inRange countsFit
-returns-2 c = simp (sym (c .before .before .before .before .before .before .before .in-range .ensures) ∙ not-false _ (c .before .before .before .before .before .before .if1 .left), c .before .before .before .before .clear .ensures, c .before .before .clear2 .ensures, c .before .done .ensures, c .fresh .ensures)
+returns-2 c = simp (sym (c .before .before .before .before .before .before .before .in-range .ensures) ∙ not-false _ (c .before .before .before .before .before .before .if1 .left), c .before .before .before .before .clear .ensures, c .before .before .clear2 .ensures, c .before .done .ensures, c .blank .ensures)
 
-pub begin-spec : {M : Type 1} → statement M
-begin-spec =
+pub fresh-spec : {M : Type 1} → statement M
+fresh-spec =
     tie.close
     (tie.spec
     in-range-requires
@@ -43,5 +43,5 @@ begin-spec =
     clear-requires
     clear-requires-2
     done-requires
-    fresh-requires
+    blank-requires
     returns-2)
