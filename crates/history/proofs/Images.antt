@@ -26,7 +26,7 @@ use Rattle.store.specs.Meaning.{msrsOf, vcpuOfWords, vcpusOf}
 use Rattle.page_words.specs.Meaning.{pagesOf}
 use Rattle.kvmi.specs.Mode.{modeOfNumber}
 use Rattle.page_words.specs.PageWords.{pageWordCount}
-use Rattle.session.specs.State.{State, freshTool, freshSession, withToolEvents}
+use Rattle.session.specs.State.{State, freshSession, withToolEvents, isClosed}
 use Rattle.session.specs.Calls.{Told}
 use Rattle.session.specs.Meaning.{awaitedOf, tablesOf, modelOf, WordsGood, WellFormed}
 use Rattle.image_writer.specs.Write.{statedVcpus, statedTables, imageOf}
@@ -60,7 +60,7 @@ pub image-simulates : (st : State) → WellFormed st → (out : List ℕ) → Si
 unfolding imageOf model.imageStep
 image-simulates st f out =
     rw (stated-same st f, stated-count st f)
-    (both (Simulates st) (not (eqb (st .session .tool .closed) 0)) _ _ _ _ (λ _. same-simulates 2 st out [] (f .words))
+    (both (Simulates st) (isClosed st) _ _ _ _ (λ _. same-simulates 2 st out [] (f .words))
     (λ _. both (Simulates st) (model.awaitsAny (awaitedOf (st .vcpus) 0 (st .session .settings .vcpus))) _ _ _ _ (λ _. same-simulates 10 st out [] (f .words))
     (λ _. both (Simulates st) (ltb (length out) (length (image (tablesOf st)))) _ _ _ _ (λ _. same-simulates 3 st out [] (f .words))
     (λ h. record {
@@ -194,11 +194,11 @@ module _ (s : Settings) (t : Tables) (ok : So (inRange s)) (a : Valid s t) (vcpu
   unfolding loadedState
   loaded-words =
       let c = count in
-      let none-set = zero-words s (freshSession s) vcpus pages vlong plong zero-le zero-le refl refl in
+      let none-set = zero-words s (freshSession s) vcpus pages vlong plong (omega arith) zero-le refl refl in
       let switches = vcpus-kept _ none-set words words-length flag-small (λ i _. spare i AWAITED-SEQ (omega arith) (omega arith)) (λ i k g h. spare i k (omega arith) h)
       (λ j h. msrs-loaded-past (s .vcpus) fields (t .msrs) all j h ∙ fields-past j h) in
       let marks = shared-kept _ switches ready (ready-loaded-below (s .vcpus) 0 0 (t .vcpus) (pow-pos (s .vcpus)) (omega arith)) in
-      let own = tool-kept _ marks (withToolEvents freshTool (t .events)) refl zero-le zero-le in
+      let own = tool-kept _ marks (withToolEvents (freshSession s .tool) (t .events)) refl (omega arith) zero-le in
       pages-kept _ own (length (t .pages)) _ (pages-length s t a pages plong) (pages-good s t a pages plong)
 
   pub loaded-formed : WellFormed st

@@ -1,6 +1,10 @@
 pub mod Loading
 pub mod Images
 pub mod Lists
+pub mod Demand1
+pub mod Errors
+pub mod Demand2
 pub mod Demand3
+pub mod Unsteered
 pub mod Carried
 pub mod Pauses

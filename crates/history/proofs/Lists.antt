@@ -89,8 +89,3 @@ began-stands s st m (fromImage vcpus pages v p l t ok e) =
   where
     kept : loadedState s t vcpus pages .session .settings ≡ s
     kept = unfold loadedState in refl
-
--- ---- demand 2 after every list of calls: each call's answer, output and guest memory are the model's
-pub calls-same : (s : Settings) (st : State) (m : Model) → BeganOn s st m → (cs : List Call) (c : Call)
-    → (stepOf (afterOf st cs) c .answer ≡ step s (after s m cs) c .answer) × (stepOf (afterOf st cs) c .out ≡ step s (after s m cs) c .out) × (stepOf (afterOf st cs) c .guest ≡ step s (after s m cs) c .guest)
-calls-same s st m b cs c = step-same s (afterOf st cs) (after s m cs) c (after-stands s st m cs (began-stands s st m b))

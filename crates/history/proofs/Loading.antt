@@ -18,7 +18,7 @@ use Rattle.kvmi.specs.Tables.{Vcpu, Msr, Page, Tables, msrKey, pageKey, resting
 use Rattle.kvmi.specs.Image.{msForm, paForm, paMay}
 use Rattle.kvmi.specs.Change.{setMsr}
 use Rattle.kvmi.specs.Valid.{Valid, paGood}
-use Rattle.store.specs.Words.{field, setField, setMsrBit, msrWord, msrSlot, cleared, SINGLESTEP, CRS, EVENTS, PAUSES}
+use Rattle.store.specs.Words.{field, setField, setMsrSlot, setMsrBit, msrWord, msrSlot, cleared, SINGLESTEP, CRS, EVENTS, PAUSES}
 use Rattle.page_words.specs.PageWords.{wordKey, pageWordCount}
 use Rattle.store.specs.Meaning.{msrsOf, vcpuOfWords, vcpusOf}
 use Rattle.page_words.specs.Meaning.{pageOfWord, pagesOf, goodWord, PagesGood}
@@ -178,8 +178,8 @@ module _ (n : ℕ) where
   msrs-loaded-field w (m ∷ ms) a i k h = msrs-loaded-field (setMsrBit w (m .vcpu) (m .msr) true) ms (a .1) i k h ∙ bit-field w (m .vcpu) (m .msr) true (a .0 .1) i k h
 
   bit-past : (w : List ℕ) (m : Msr) → InRange m → (p : ℕ) → n * 272 ≤ p → getD (setMsrBit w (m .vcpu) (m .msr) true) p 0 ≡ getD w p 0
-  unfolding setMsrBit msrWord
-  bit-past w m a p h = getD-set-other w (m .vcpu * 272 + 16 + msrSlot (m .msr) / 64) p _ 0 (λ e. let b = slot-below (m .msr) (a .1) in omega arith)
+  unfolding setMsrBit setMsrSlot msrWord
+  bit-past w m a p h = rw (a .1) (getD-set-other w (m .vcpu * 272 + 16 + msrSlot (m .msr) / 64) p _ 0 (λ e. let b = slot-below (m .msr) (a .1) in omega arith))
 
   pub msrs-loaded-past : (w : List ℕ) (ms : List Msr) → AllIn ms → (p : ℕ) → n * 272 ≤ p → getD (msrsLoaded w ms) p 0 ≡ getD w p 0
   unfolding msrsLoaded

@@ -12,7 +12,7 @@ use Rattle.kvmi.specs.Model.{Model}
 use Rattle.kvmi.specs.Call.{Call, step, after}
 use Rattle.kvmi.specs.Pauses.{accepted, sent, queued, acceptedIn, sentIn}
 use Rattle.store.specs.Meaning.{vcpuOfWords}
-use Rattle.session.specs.State.{State}
+use Rattle.session.specs.State.{State, isClosed}
 use Rattle.session.specs.Meaning.{modelOf}
 use Rattle.history.specs.History.{stepOf, afterOf, BeganOn}
 use Rattle.history.specs.Pauses.{queuedOf, sentOver, acceptedOver}
@@ -32,7 +32,7 @@ same-sent : (s : Settings) (st : State) (m : Model) (vcpu : ℕ) (cs : List Call
 unfolding sentOver sentIn
 same-sent s st m vcpu [] f = refl
 same-sent s st m vcpu (c ∷ cs) f =
-    let one = ap (λ (a : Paper). sent vcpu c a) (step-same s st m c f .0) in
+    let one = ap (λ (a : Paper). sent vcpu c a (stepOf st c .out)) (step-same s st m c f .0) ∙ ap (λ (l : List ℕ). sent vcpu c (step s m c .answer) l) (step-same s st m c f .1) in
     let rest = same-sent s (stepOf st c .state) (step s m c .model) vcpu cs (step-stands s st m c f) in
     omega arith
 
@@ -45,14 +45,14 @@ same-queued s st m vcpu f h =
 
 -- for each vCPU, from any call on, over every list of calls after which the session is open
 pub pauses-sum : (s : Settings) (st : State) (m : Model) → BeganOn s st m → (vcpu : ℕ) → vcpu < s .vcpus → (earlier cs : List Call)
-    → afterOf (afterOf st earlier) cs .session .tool .closed ≡ 0
+    → isClosed (afterOf (afterOf st earlier) cs) ≡ false
     → queuedOf vcpu (afterOf st earlier) + acceptedOver vcpu (afterOf st earlier) cs ≡ sentOver vcpu (afterOf st earlier) cs + queuedOf vcpu (afterOf (afterOf st earlier) cs)
 pauses-sum s st m b vcpu h earlier cs o =
     let start = afterOf st earlier in
     let k = after s m earlier in
     let f = after-stands s st m earlier (began-stands s st m b) in
     let g = after-stands s start k cs f in
-    let opened : after s k cs .closed ≡ false = sym (ap (λ (x : Model). x .closed) (g .model)) ∙ ap (λ (n : ℕ). not (eqb n 0)) o in
+    let opened : after s k cs .closed ≡ false = sym (ap (λ (x : Model). x .closed) (g .model)) ∙ o in
     let whole = pauses-balanced s (stands-range s start k f) vcpu k cs (stands-valid s start k f) opened in
     let first = same-queued s start k vcpu f h in
     let last = same-queued s (afterOf start cs) (after s k cs) vcpu g h in

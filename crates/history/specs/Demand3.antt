@@ -40,9 +40,13 @@ pub record Demand3 : Type 0 where
   -- "Otherwise the image, given room, is document 01's table image of exactly the book's ready marks, switches, pause queues and page rights."
   pub writes : (s : Settings) (st : State) (m : Model) → BeganOn s st m → (cs : List Call) (out : List ℕ) → Writable s m cs
       → length (image (after s m cs .tables)) ≤ length out → Writes (afterOf st cs) out (image (after s m cs .tables))
-  -- "Two sessions open with no reply awaited, under equal settings and each after a list of its own, have equal images exactly when those standings are equal."
-  pub alike : (s : Settings) (st st′ : State) (m k : Model) → BeganOn s st m → BeganOn s st′ k → (cs ds : List Call) (out out′ bytes bytes′ : List ℕ) → Writable s m cs → Writable s k ds
-      → Writes (afterOf st cs) out bytes → Writes (afterOf st′ ds) out′ bytes′ → (bytes ≡ bytes′) ↔ SameTables (after s m cs .tables) (after s k ds .tables)
+  -- "Two sessions open with no reply awaited, under equal settings and each after a list of its own, have equal images exactly when those standings
+  -- are equal."
+  pub alike : (s : Settings) (st st′ : State) (m k : Model) → BeganOn s st m → BeganOn s st′ k
+      → (cs ds : List Call) (out out′ bytes bytes′ : List ℕ) → Writable s m cs → Writable s k ds
+      → Writes (afterOf st cs) out bytes → Writes (afterOf st′ ds) out′ bytes′
+      → (bytes ≡ bytes′) ↔ SameTables (after s m cs .tables) (after s k ds .tables)
   -- "An image that document 01's rules accept, loaded and written again, given room, gives the same bytes."
-  pub again : (s : Settings) (vcpus pages : List ℕ) → length vcpus ≡ vcpuWordCount → length pages ≡ pageWordCount → (l : List ℕ) (t : Tables) → So (areBytes l) → So (inRange s) → loadImage s l ≡ loaded t
+  pub again : (s : Settings) (vcpus pages : List ℕ) → length vcpus ≡ vcpuWordCount → length pages ≡ pageWordCount
+      → (l : List ℕ) (t : Tables) → So (areBytes l) → So (inRange s) → loadImage s l ≡ loaded t
       → (readOf s l vcpus pages .answer .number ≡ 0) × ((out : List ℕ) → length l ≤ length out → Writes (readOf s l vcpus pages .state) out l)

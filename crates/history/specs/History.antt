@@ -33,6 +33,7 @@ afterOf st (c ∷ cs) = afterOf (stepOf st c .state) cs
 -- how a session began, on whatever words were lent (4,352 and 1,024 of them): fresh under settings in range, or from an image that the rules
 -- accept; and the model that began with it, which is given by the settings and the image alone
 pub data BeganOn (s : Settings) : State → Model → Type 0 where
-  anew : (vcpus pages : List ℕ) → length vcpus ≡ vcpuWordCount → length pages ≡ pageWordCount → So (inRange s) → BeganOn s (freshOf s vcpus pages .state) (fresh s)
-  fromImage : (vcpus pages : List ℕ) → length vcpus ≡ vcpuWordCount → length pages ≡ pageWordCount → (l : List ℕ) (t : Tables) → So (inRange s) → loadImage s l ≡ loaded t
-      → BeganOn s (readOf s l vcpus pages .state) (begun t)
+  anew : (vcpus pages : List ℕ) → length vcpus ≡ vcpuWordCount → length pages ≡ pageWordCount → So (inRange s)
+      → BeganOn s (freshOf s vcpus pages .state) (fresh s)
+  fromImage : (vcpus pages : List ℕ) → length vcpus ≡ vcpuWordCount → length pages ≡ pageWordCount
+      → (l : List ℕ) (t : Tables) → So (inRange s) → loadImage s l ≡ loaded t → BeganOn s (readOf s l vcpus pages .state) (begun t)

@@ -1,4 +1,7 @@
 pub mod History
+pub mod Demand1
+pub mod Demand2
 pub mod Demand3
+pub mod Unsteered
 pub mod Carried
 pub mod Pauses

@@ -14,7 +14,7 @@ queuedOf vcpu st = field (st .vcpus) vcpu PAUSES
 -- over a list of calls: what was sent and accepted, by each call's answer
 unfoldable pub sentOver : ℕ → State → List Call → ℕ
 sentOver vcpu st [] = 0
-sentOver vcpu st (c ∷ cs) = sent vcpu c (stepOf st c .answer) + sentOver vcpu (stepOf st c .state) cs
+sentOver vcpu st (c ∷ cs) = sent vcpu c (stepOf st c .answer) (stepOf st c .out) + sentOver vcpu (stepOf st c .state) cs
 
 unfoldable pub acceptedOver : ℕ → State → List Call → ℕ
 acceptedOver vcpu st [] = 0

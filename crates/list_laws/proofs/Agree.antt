@@ -26,10 +26,10 @@ use Rattle.kvmi.specs.Verdict.{isInvalid, isUnready, isDenied, isUnsupported, i
 use Rattle.kvmi.specs.Reply.{messageBytes}
 use Rattle.kvmi.specs.Case.{registerData}
 use Rattle.store.specs.Words.{field, setField, putBit64, CRS, vcpuWordCount}
-use Rattle.session.specs.State.{State}
+use Rattle.session.specs.State.{State, isClosed}
 use Rattle.session.specs.Calls.{Told, readyOf}
 use Rattle.change.specs.Change.{change}
-use Rattle.message.specs.Message.{factsIn, answering, judgedOf, headedOf, messageOf}
+use Rattle.message.specs.Message.{factsIn, answeringOf, judgedOf, headedOf, messageOf}
 use Rattle.laws.proofs.Bool.{test}
 use Rattle.laws.proofs.Bits.{bit-eqb}
 use Rattle.refine.proofs.Words.{few-vcpus}
@@ -39,7 +39,7 @@ use Rattle.list_laws.specs.Records.{recordOf, eachOf, recordsOf, records
 use Rattle.list_laws.proofs.Records.{each-length, each-at, records-ready, records-crs}
 
 -- ---- the ready mark, of an open session with settings in range: the answers agree too
-module _ (st : State) (ok : So (inRange (st .session .settings))) (lives : st .session .tool .closed ≡ 0) (vcpu : ℕ) where
+module _ (st : State) (ok : So (inRange (st .session .settings))) (lives : isClosed st ≡ false) (vcpu : ℕ) where
   abbrev n : ℕ
   n = st .session .settings .vcpus
 
@@ -170,11 +170,11 @@ module _ (st : State) (ok : So (inRange (st .session .settings))) (words : lengt
 
   module _ (d out guest : List ℕ) (seq : ℕ) where
     past : size ≤ vcpu → Agreed d out guest seq (judgedBy size vcpu cr on mark)
-    unfolding recordsOf crSet onRecord crVerdict judgedOf answering
+    unfolding recordsOf crSet onRecord crVerdict judgedOf answeringOf
     past h = rw (le-leb size vcpu h, each-length at-one 0 size, le-ltb vcpu size h) (refl, refl)
 
     there : vcpu < size → (i r : Bool) → isCr cr ≡ i → mark ≡ r → Agreed d out guest seq (judgedBy size vcpu cr on mark)
-    unfolding recordsOf crSet onRecord oneCr crVerdict judgedOf answering change
+    unfolding recordsOf crSet onRecord oneCr crVerdict judgedOf answeringOf change
     there h false r e f = rw (lt-leb size vcpu h, each-length at-one 0 size, lt-ltb vcpu size h, each-at at-one blank size vcpu h, e) (refl, again h)
     there h true false e f = rw (lt-leb size vcpu h, each-length at-one 0 size, lt-ltb vcpu size h, each-at at-one blank size vcpu h, e, marked, f) (refl, again h)
     there h true true e f = rw (lt-leb size vcpu h, each-length at-one 0 size, lt-ltb vcpu size h, each-at at-one blank size vcpu h, e, marked, f) (refl, switched h)
@@ -183,7 +183,7 @@ module _ (st : State) (ok : So (inRange (st .session .settings))) (words : lengt
     agreed = test (ltb vcpu size) (λ t. there (ltb-true vcpu size t) (isCr cr) mark refl refl) (λ t. past (ltb-false vcpu size t))
 
 -- an open session with settings in range, that allows command 11, and an output that a message can have
-module _ (st : State) (ok : So (inRange (st .session .settings))) (words : length (st .vcpus) ≡ vcpuWordCount) (lives : st .session .tool .closed ≡ 0)
+module _ (st : State) (ok : So (inRange (st .session .settings))) (words : length (st .vcpus) ≡ vcpuWordCount) (lives : isClosed st ≡ false)
     (allowed : allowsCommand (st .session .settings) 11 ≡ true) (seq vcpu cr : ℕ) (on : Bool) (s : seq < 2 ^ 32) (v : vcpu < 2 ^ 16) (c : cr < 2 ^ 32)
     (out guest : List ℕ) (long : 4112 ≤ length out) where
   as-judged : messageOf st (crMessage seq vcpu cr on) out guest

@@ -169,7 +169,7 @@ module _ (st : State) (g : WordsGood st) (few : st .session .settings .vcpus ≤
         model = refl;
         guest = refl;
         code = refl;
-        words = tool-kept st g _ refl (g .closed) (g .mode);
+        words = tool-kept st g _ refl (g .opened) (g .mode);
       })
 
   pub replies-meant : (mode : ReplyMode) (now : Bool) → Meant (change st guest d (SetReplies now mode)) (apply (modelOf st) guest d (SetReplies now mode))
@@ -179,7 +179,7 @@ module _ (st : State) (g : WordsGood st) (few : st .session .settings .vcpus ≤
         model = ap (λ (x : ReplyMode). withMode (modelOf st) x) (mode-back mode);
         guest = refl;
         code = refl;
-        words = tool-kept st g _ refl (g .closed) (mode-small mode);
+        words = tool-kept st g _ refl (g .opened) (mode-small mode);
       }
 
   pub pages-meant : (view n : ℕ) → view < 8 → So (every (λ (e : Entry). isAccess (e .access)) (entriesOf n (drop 8 d)))

@@ -1,54 +1,56 @@
 -- What a host call leaves as it was, whatever bits the session holds. Assumes nothing.
-use mathlib.Core.Path.{_≡_, refl, sym, ap, _∙_}
-use Prim.Native.Nat.{ℕ, zero, suc, _+_, _-_, _*_, _≤_, _<_}
-use native.Mathlib.Nat.{zero-add, le-refl}
+use mathlib.Core.Path.{_≡_, refl}
+use mathlib.Core.Logic.{_⊎_, inl, inr}
+use Prim.Native.Nat.{ℕ, _≤_, zero-le}
 use native.Mathlib.Omega.{arith}
 use mathlib.Core.List.{List, []}
-use mathlib.Core.Bool.{Bool, true, false, cond, not, _&&_}
-use mathlib.Core.Logic.{_≢_}
+use mathlib.Core.Bool.{true, cond, not}
 use lib.IntN.{ℤ}
-use lib.ListN.{length, drop}
+use lib.ListN.{length, getD, drop}
 use lib.Dec.{leb, ltb, eqb}
-use Rattle.wire.specs.Bytes.{store}
+use borrow.Author.Tests.{ltb-false, eqb-true, eqb-false, not-false}
 use Rattle.wire.specs.Header.{headerOf}
 use Rattle.wire.specs.declared.Header.{Header}
 use Rattle.wire.specs.declared.Header.the-variants.{Whole, Broken}
-use Rattle.wire.proofs.Laws.{drop-store}
+use Rattle.wire.proofs.Laws.{length-store, drop-store}
+use Rattle.kvmi.specs.declared.Settings.{Settings}
+use Rattle.kvmi.specs.declared.Facts.{Facts}
 use Rattle.kvmi.specs.declared.Signal.{Signal}
+use Rattle.kvmi.specs.declared.Signal.the-variants.{Quiet}
 use Rattle.kvmi.specs.declared.ReplyMode.{ReplyMode}
+use Rattle.kvmi.specs.declared.ReplyMode.the-variants.{On, Off, ErrorsOnly}
+use Rattle.kvmi.specs.declared.ReplyKind.{ReplyKind}
+use Rattle.kvmi.specs.declared.ReplyKind.the-variants.{CodeOnly, WithData, Silent}
 use Rattle.kvmi.specs.declared.Change.{Change}
+use Rattle.kvmi.specs.declared.Change.the-variants.{EndWait}
 use Rattle.kvmi.specs.declared.Verdict.{Verdict}
 use Rattle.kvmi.specs.declared.Verdict.the-variants.{Closes, Fails, Does}
-use Rattle.kvmi.specs.declared.Signal.the-variants.{Quiet}
-use Rattle.kvmi.specs.Message.{layoutOf, vcpuOf}
+use Rattle.kvmi.specs.Codes.{isError}
+use Rattle.kvmi.specs.Message.{layoutOf, vcpuOf, gpaOf, sizeOf}
 use Rattle.kvmi.specs.Change.{signalOf, modeFor}
-use Rattle.kvmi.specs.Reply.{replyData, pauseEvent, answerOf}
-use Rattle.kvmi.specs.Verdict.{verdict}
-use Rattle.store.specs.Words.{field, PAUSES, AWAITED}
+use Rattle.kvmi.specs.Reply.{replyData, pauseEvent, answerBytes, answerOf}
+use Rattle.kvmi.specs.Verdict.{inOnePage, changeOf, verdict}
 use Rattle.kvmi.specs.Mode.{modeOfNumber}
-use Rattle.session.specs.State.{State}
+use Rattle.store.specs.Words.{field, PAUSES, AWAITED}
+use Rattle.session.specs.State.{State, isClosed}
 use Rattle.session.specs.Calls.{Told, toldSame, toldWritten, toldClosing, readyOf}
-use Rattle.change.specs.Change.{Changed, change}
-use Rattle.message.specs.Message.{factsIn, answering, judgedOf, headedOf, messageOf}
+use Rattle.change.specs.Change.{change}
+use Rattle.message.specs.Message.{factsIn, answeringOf, judgedOf, headedOf, messageOf}
 use Rattle.entry.specs.Entry.{pausingOf, enterOf}
-use Rattle.laws.proofs.Verdicts.{pick}
+use Rattle.laws.proofs.Bool.{test}
+use Rattle.laws.proofs.Verdicts.{pick, Passed, verdict-cases, sound-of}
+use Rattle.reply.proofs.Lengths.{length-reply, length-command-error, length-pause-whole, length-answer}
+use Rattle.refine.specs.Frames.{Refuses, Past}
 
--- ---- "None": answers 2 to 6 change nothing in session, tables, output or guest memory
-abbrev Still : Told → State → List ℕ → List ℕ → Type 0
-Still r st out guest = (r .state ≡ st) × (r .out ≡ out) × (r .guest ≡ guest)
-
--- a call that refuses changes nothing, and one that does not answers 0 or 1
-abbrev Refuses : State → List ℕ → List ℕ → Told → Type 0
-Refuses st out guest r = 2 ≤ r .answer .number → Still r st out guest
-
-same-refuses : (k : ℕ) (st : State) (out guest : List ℕ) → Refuses st out guest (toldSame k st out guest)
-same-refuses k st out guest h = (refl, refl, refl)
+-- ---- "None": answers from 2 on change nothing in session, tables, output or guest memory
+pub same-refuses : (k : ℕ) (st : State) (out guest : List ℕ) → Refuses st out guest (toldSame k st out guest)
+same-refuses k st out guest h = record { answer = refl; state = refl; output = refl; memory = refl }
 
 acts : (st : State) (out guest : List ℕ) (r : Told) → r .answer .number ≤ 1 → Refuses st out guest r
 acts st out guest r h g = absurd (omega arith)
 
 judged-acts : (st : State) (id seq : ℕ) (d out guest : List ℕ) (v : Verdict) → judgedOf st id seq d out guest v .answer .number ≤ 1
-unfolding judgedOf answering
+unfolding judgedOf answeringOf
 judged-acts st id seq d out guest Closes = omega arith
 judged-acts st id seq d out guest (Fails code) = omega arith
 judged-acts st id seq d out guest (Does c) = omega arith
@@ -61,63 +63,97 @@ headed-acts st d out guest (Whole id size seq) = judged-acts st id seq d out gue
 pub message-refuses : (st : State) (msg out guest : List ℕ) → Refuses st out guest (messageOf st msg out guest)
 unfolding messageOf
 message-refuses st msg out guest =
-    pick (Refuses st out guest) (not (eqb (st .session .tool .closed) 0)) _ _ (λ _. same-refuses 2 st out guest)
+    pick (Refuses st out guest) (isClosed st) _ _ (λ _. same-refuses 2 st out guest)
     (λ _. pick (Refuses st out guest) (ltb (length out) 4112) _ _ (λ _. same-refuses 3 st out guest)
     (λ _. acts st out guest (headedOf st (drop 8 msg) out guest (headerOf msg)) (headed-acts st (drop 8 msg) out guest (headerOf msg))))
 
 pub ready-refuses : (st : State) (vcpu : ℕ) → Refuses st [] [] (readyOf st vcpu)
 unfolding readyOf
 ready-refuses st vcpu =
-    pick (Refuses st [] []) (not (eqb (st .session .tool .closed) 0)) _ _ (λ _. same-refuses 2 st [] [])
+    pick (Refuses st [] []) (isClosed st) _ _ (λ _. same-refuses 2 st [] [])
     (λ _. pick (Refuses st [] []) (leb (st .session .settings .vcpus) vcpu) _ _ (λ _. same-refuses 4 st [] []) (λ _ h. absurd (omega arith)))
 
 pub enter-refuses : (st : State) (vcpu : ℕ) (block out : List ℕ) → Refuses st out [] (enterOf st vcpu block out)
 unfolding enterOf pausingOf
 enter-refuses st vcpu block out =
-    pick (Refuses st out []) (not (eqb (st .session .tool .closed) 0)) _ _ (λ _. same-refuses 2 st out [])
+    pick (Refuses st out []) (isClosed st) _ _ (λ _. same-refuses 2 st out [])
     (λ _. pick (Refuses st out []) (leb (st .session .settings .vcpus) vcpu) _ _ (λ _. same-refuses 4 st out [])
     (λ _. pick (Refuses st out []) (not (eqb (length block) 536)) _ _ (λ _. same-refuses 5 st out [])
     (λ _. pick (Refuses st out []) (ltb (length out) 552) _ _ (λ _. same-refuses 3 st out [])
     (λ _. pick (Refuses st out []) (not (eqb (field (st .vcpus) vcpu AWAITED) 0)) _ _ (λ _. same-refuses 6 st out [])
     (λ _. pick (Refuses st out []) (leb 1 (field (st .vcpus) vcpu PAUSES)) _ _ (λ _ h. absurd (omega arith)) (λ _ h. absurd (omega arith)))))))
 
+-- ---- 4,112 bytes hold every answer
+-- an error has no data
+error-bytes : (mode : ReplyMode) (seq id commandSeq : ℕ) (code : ℤ) (d : List ℕ) → isError code ≡ true → length (answerBytes mode seq id commandSeq code d) ≤ 4112
+unfolding answerBytes
+error-bytes On seq id commandSeq code d e = let l = length-reply id commandSeq code d in let z : cond (isError code) 0 (length d) ≡ 0 = rw e in omega arith
+error-bytes Off seq id commandSeq code d e = omega arith
+error-bytes ErrorsOnly seq id commandSeq code d e = rw (e, length-command-error seq code commandSeq id) (omega arith)
+
+pub error-length : (kind : ReplyKind) (mode : ReplyMode) (seq id commandSeq : ℕ) (code : ℤ) (d : List ℕ) → isError code ≡ true → length (answerOf kind mode seq id commandSeq code d) ≤ 4112
+unfolding answerOf
+error-length CodeOnly mode seq id commandSeq code d e = error-bytes mode seq id commandSeq code d e
+error-length WithData mode seq id commandSeq code d e = error-bytes mode seq id commandSeq code d e
+error-length Silent mode seq id commandSeq code d e = omega arith
+
+-- the data of a message that passes fit a page
+pub data-fits : (s : Settings) (f : Facts) (id : ℕ) (d : List ℕ) → Passed s f id d → (inOnePage (gpaOf d) (sizeOf d) ≡ true) ⊎ (id ≡ 6 → ⊥)
+data-fits s f id d p =
+    test (eqb id 6) (λ e. let q = rw (eqb-true id 6 e) at p in inl (not-false _ (sound-of s 6 d (q .valid) .range))) (λ e. inr (eqb-false id 6 e))
+
 -- ---- "After answers 0 and 1, output past the count is untouched" (and after every other answer)
-abbrev Past : List ℕ → Told → Type 0
-Past out r = drop (r .answer .count) (r .out) ≡ drop (r .answer .count) out
+pub same-past : (k : ℕ) (st : State) (out guest : List ℕ) → Past out (toldSame k st out guest)
+same-past k st out guest = record { inside = zero-le; long = refl; rest = refl }
 
-written-past : (out bytes : List ℕ) → drop (length bytes) (store out 0 bytes) ≡ drop (length bytes) out
-written-past out bytes = drop-store (length bytes) out 0 bytes (omega arith)
+pub written-past : (bytes : List ℕ) (g : Signal) (st : State) (out guest : List ℕ) → length bytes ≤ length out → Past out (toldWritten bytes g st out guest)
+written-past bytes g st out guest h =
+    record { inside = h; long = length-store out 0 bytes; rest = drop-store (length bytes) out 0 bytes (omega arith) }
 
-answering-past : (mode : ReplyMode) (id seq : ℕ) (code : ℤ) (d : List ℕ) (g : Signal) (out guest : List ℕ) (st : State) → Past out (answering mode id seq code d g out guest st)
-unfolding answering
-answering-past mode id seq code d g out guest st =
-    written-past out (answerOf (layoutOf id .reply) mode (st .session .tool .seq) id seq code (replyData (st .session .settings) guest id d))
+module _ (st : State) (d out guest : List ℕ) (long : 4112 ≤ length out) where
+  does-past : (id seq : ℕ) (c : Change) → (inOnePage (gpaOf d) (sizeOf d) ≡ true) ⊎ (id ≡ 6 → ⊥) → Past out (judgedOf st id seq d out guest (Does c))
+  unfolding judgedOf answeringOf
+  does-past id seq c fits =
+      let r = change st guest d c in
+      let mode = modeFor (modeOfNumber (st .session .tool .mode)) c in
+      let l = length-answer (layoutOf id .reply) mode (r .state .session .tool .seq) id seq (r .code) (r .state .session .settings) (r .guest) d fits in
+      written-past _ (signalOf c) _ out (r .guest) (omega arith)
 
-judged-past : (st : State) (id seq : ℕ) (d out guest : List ℕ) (v : Verdict) → Past out (judgedOf st id seq d out guest v)
-unfolding judgedOf
-judged-past st id seq d out guest Closes = refl
-judged-past st id seq d out guest (Fails code) = answering-past (modeOfNumber (st .session .tool .mode)) id seq code d Quiet out guest st
-judged-past st id seq d out guest (Does c) =
-    let a = change st guest d c in
-    answering-past (modeFor (modeOfNumber (st .session .tool .mode)) c) id seq (a .code) d (signalOf c) out (a .guest) (a .state)
+  fails-past : (id seq : ℕ) (code : ℤ) → isError code ≡ true → Past out (judgedOf st id seq d out guest (Fails code))
+  unfolding judgedOf answeringOf
+  fails-past id seq code e =
+      let mode = modeOfNumber (st .session .tool .mode) in
+      let l = error-length (layoutOf id .reply) mode (st .session .tool .seq) id seq code (replyData (st .session .settings) guest id d) e in
+      written-past _ Quiet _ out guest (omega arith)
 
-headed-past : (st : State) (d out guest : List ℕ) (h : Header) → Past out (headedOf st d out guest h)
-unfolding headedOf
-headed-past st d out guest Broken = refl
-headed-past st d out guest (Whole id size seq) = judged-past st id seq d out guest (verdict (st .session .settings) (factsIn st (length guest) (vcpuOf d)) id seq d)
+  closes-past : Past out (toldClosing st out guest)
+  closes-past = record { inside = zero-le; long = refl; rest = refl }
+
+  headed-past : (h : Header) → Past out (headedOf st d out guest h)
+  unfolding headedOf judgedOf
+  headed-past Broken = closes-past
+  headed-past (Whole id size seq) =
+      let f = factsIn st (length guest) (vcpuOf d) in
+      verdict-cases (λ v. Past out (judgedOf st id seq d out guest v)) (st .session .settings) f id seq d closes-past (λ code e. fails-past id seq code e)
+      (λ p. does-past id seq (changeOf id d) (data-fits (st .session .settings) f id d p))
+      (λ p. let e = p .reply in does-past id seq (EndWait (eqb (getD d 8 0) 2) (vcpuOf d)) (inr (λ q. omega arith)))
 
 pub message-past : (st : State) (msg out guest : List ℕ) → Past out (messageOf st msg out guest)
 unfolding messageOf
 message-past st msg out guest =
-    pick (Past out) (not (eqb (st .session .tool .closed) 0)) _ _ (λ _. refl)
-    (λ _. pick (Past out) (ltb (length out) 4112) _ _ (λ _. refl) (λ _. headed-past st (drop 8 msg) out guest (headerOf msg)))
+    pick (Past out) (isClosed st) _ _ (λ _. same-past 2 st out guest)
+    (λ _. pick (Past out) (ltb (length out) 4112) _ _ (λ _. same-past 3 st out guest)
+    (λ h. headed-past st (drop 8 msg) out guest (ltb-false (length out) 4112 h) (headerOf msg)))
 
 pub enter-past : (st : State) (vcpu : ℕ) (block out : List ℕ) → Past out (enterOf st vcpu block out)
 unfolding enterOf pausingOf
 enter-past st vcpu block out =
-    pick (Past out) (not (eqb (st .session .tool .closed) 0)) _ _ (λ _. refl)
-    (λ _. pick (Past out) (leb (st .session .settings .vcpus) vcpu) _ _ (λ _. refl)
-    (λ _. pick (Past out) (not (eqb (length block) 536)) _ _ (λ _. refl)
-    (λ _. pick (Past out) (ltb (length out) 552) _ _ (λ _. refl)
-    (λ _. pick (Past out) (not (eqb (field (st .vcpus) vcpu AWAITED) 0)) _ _ (λ _. refl)
-    (λ _. pick (Past out) (leb 1 (field (st .vcpus) vcpu PAUSES)) _ _ (λ _. written-past out (pauseEvent (st .session .tool .seq) vcpu block)) (λ _. written-past out []))))))
+    pick (Past out) (isClosed st) _ _ (λ _. same-past 2 st out [])
+    (λ _. pick (Past out) (leb (st .session .settings .vcpus) vcpu) _ _ (λ _. same-past 4 st out [])
+    (λ _. pick (Past out) (not (eqb (length block) 536)) _ _ (λ _. same-past 5 st out [])
+    (λ w. pick (Past out) (ltb (length out) 552) _ _ (λ _. same-past 3 st out [])
+    (λ l. let own = length-pause-whole (st .session .tool .seq) vcpu block (eqb-true (length block) 536 (not-false _ w)) in
+    let room = ltb-false (length out) 552 l in
+    pick (Past out) (not (eqb (field (st .vcpus) vcpu AWAITED) 0)) _ _ (λ _. same-past 6 st out [])
+    (λ _. pick (Past out) (leb 1 (field (st .vcpus) vcpu PAUSES)) _ _
+    (λ _. written-past (pauseEvent (st .session .tool .seq) vcpu block) Quiet _ out [] (omega arith)) (λ _. written-past [] Quiet st out [] zero-le))))))

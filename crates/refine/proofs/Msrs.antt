@@ -14,7 +14,7 @@ use Rattle.kvmi.specs.Bits.{every, isOn, putBit}
 use Rattle.kvmi.specs.Ascending.{rising, put, forget}
 use Rattle.kvmi.specs.Tables.{Msr, msrKey, isMsr, msrIn}
 use Rattle.kvmi.specs.Change.{setMsr}
-use Rattle.store.specs.Words.{field, setField, msrSlot, msrWord, msrBitOn, setMsrBit}
+use Rattle.store.specs.Words.{field, setField, msrSlot, msrWord, msrSlotOn, setMsrSlot, setMsrBit}
 use Rattle.store.specs.Meaning.{msrAt, switchesOn, msrsOf}
 use Rattle.laws.proofs.Bool.{and-l, and-r, and-i, or-l, or-r, either, test, clash, same-test, every-cons, every-imp}
 use Rattle.laws.proofs.Bits.{on-none, on-put, on-put-other}
@@ -161,8 +161,8 @@ module _ (w : List ℕ) where
   msrs-numbered n =
       every-imp (λ (m : Msr). ltb (m .msr) (2 ^ 32)) numbered (λ m h. lt-ltb (m .msr) (2 ^ 64) (omega (arith, ltb-true (m .msr) (2 ^ 32) h))) (msrsOf w 0 n) (msrs-small n)
 
-  pub msrs-look : (n v m : ℕ) → msrIn (msrsOf w 0 n) v m ≡ (ltb v n && isMsr m && msrBitOn w v m)
-  unfolding msrBitOn msrWord
+  pub msrs-look : (n v m : ℕ) → msrIn (msrsOf w 0 n) v m ≡ (ltb v n && isMsr m && msrSlotOn w v m)
+  unfolding msrSlotOn msrWord
   msrs-look n v m =
       test (ltb v n)
       (λ a. test (isMsr m)
@@ -206,28 +206,29 @@ module _ (w : List ℕ) (v : ℕ) where
 
   -- ---- an MSR's switch set
   pub bit-length : (m : ℕ) (on : Bool) → length (setMsrBit w v m on) ≡ length w
-  unfolding setMsrBit
-  bit-length m on = length-set w _ _
+  unfolding setMsrBit setMsrSlot
+  bit-length m on = test (isMsr m) (λ h. rw h (length-set w _ _)) (λ h. rw h)
 
   module _ (m : ℕ) (on : Bool) (h : So (isMsr m)) where
     pub bit-field : (i k : ℕ) → k < 16 → field (setMsrBit w v m on) i k ≡ field w i k
-    unfolding field setMsrBit msrWord
+    unfolding field setMsrBit setMsrSlot msrWord
     bit-field i k l =
-        getD-set-other w _ (i * 272 + k) _ 0
-        (λ e. let s = block-same i k v (16 + msrSlot m / 64) (omega arith) (omega (arith, slot-below m h)) (omega arith) in omega arith)
+        rw h
+        (getD-set-other w _ (i * 272 + k) _ 0
+        (λ e. let s = block-same i k v (16 + msrSlot m / 64) (omega arith) (omega (arith, slot-below m h)) (omega arith) in omega arith))
 
     pub bit-block : (i : ℕ) → i ≢ v → take 272 (drop (i * 272) (setMsrBit w v m on)) ≡ take 272 (drop (i * 272) w)
-    unfolding setMsrBit msrWord
-    bit-block i d = block-set w v i _ _ (omega arith) (omega (arith, slot-below m h)) d
+    unfolding setMsrBit setMsrSlot msrWord
+    bit-block i d = rw h (block-set w v i _ _ (omega arith) (omega (arith, slot-below m h)) d)
 
     module _ (l : v * 272 + 272 ≤ length w) where
       word-inside : msrWord v m < length w
       unfolding msrWord
       word-inside = omega (arith, slot-below m h)
 
-      pub bit-set : msrBitOn (setMsrBit w v m on) v m ≡ on
-      unfolding msrBitOn setMsrBit
-      bit-set = rw (getD-set-same w (msrWord v m) _ 0 word-inside) (on-put _ (msrSlot m % 64) on)
+      pub bit-set : msrSlotOn (setMsrBit w v m on) v m ≡ on
+      unfolding msrSlotOn setMsrBit setMsrSlot
+      bit-set = rw (h, getD-set-same w (msrWord v m) _ 0 word-inside) (on-put _ (msrSlot m % 64) on)
 
       -- the same word, so the same vCPU and another bit
       bit-beside : (u k : ℕ) → So (isMsr k) → (v ≡ u → m ≡ k → ⊥) → msrWord u k ≡ msrWord v m → msrSlot k % 64 ≢ msrSlot m % 64
@@ -237,13 +238,13 @@ module _ (w : List ℕ) (v : ℕ) where
           let slots : msrSlot m ≡ msrSlot k = omega arith in
           d (sym (s .0)) (sym (at-slot m h) ∙ ap msrAt slots ∙ at-slot k g)
 
-      pub bit-other : (u k : ℕ) → So (isMsr k) → (v ≡ u → m ≡ k → ⊥) → msrBitOn (setMsrBit w v m on) u k ≡ msrBitOn w u k
-      unfolding msrBitOn setMsrBit
+      pub bit-other : (u k : ℕ) → So (isMsr k) → (v ≡ u → m ≡ k → ⊥) → msrSlotOn (setMsrBit w v m on) u k ≡ msrSlotOn w u k
+      unfolding msrSlotOn setMsrBit setMsrSlot
       bit-other u k g d =
           test (eqb (msrWord u k) (msrWord v m))
           (λ t. let e = eqb-true (msrWord u k) (msrWord v m) t in
-          rw (e, getD-set-same w (msrWord v m) _ 0 word-inside) (on-put-other _ (msrSlot m % 64) (msrSlot k % 64) on (bit-beside u k g d e)))
-          (λ t. rw (getD-set-other w (msrWord v m) (msrWord u k) _ 0 (eqb-false (msrWord u k) (msrWord v m) t)))
+          rw (h, e, getD-set-same w (msrWord v m) _ 0 word-inside) (on-put-other _ (msrSlot m % 64) (msrSlot k % 64) on (bit-beside u k g d e)))
+          (λ t. rw (h, getD-set-other w (msrWord v m) (msrWord u k) _ 0 (eqb-false (msrWord u k) (msrWord v m) t)))
 
 -- ---- a switch set is an entry put or forgotten
 module _ (w : List ℕ) (n v m : ℕ) (l : n * 272 ≤ length w) (a : v < n) (h : So (isMsr m)) where
@@ -317,6 +318,6 @@ unfolding field
 zeros-field k i j = zeros-at k (i * 272 + j)
 
 pub zeros-msrs : (k n : ℕ) → msrsOf (replicate k 0) 0 n ≡ []
-unfolding msrBitOn msrIn
+unfolding msrSlotOn msrIn
 zeros-msrs k n =
     msr-ext _ [] (msrs-rising (replicate k 0) n) (msrs-numbered (replicate k 0) n) refl refl (λ v m. msrs-look (replicate k 0) n v m ∙ rw (zeros-at, on-none) (and-false (ltb v n && isMsr m)))

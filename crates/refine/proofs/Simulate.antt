@@ -1,6 +1,6 @@
 -- On a well-formed session each call gives the model's answer, output and guest memory, moves as the model moves, and stays well formed. Assumes nothing.
 use mathlib.Core.Path.{_≡_, refl, sym, ap, _∙_, subst}
-use mathlib.Core.Logic.{_⊎_, inl, inr}
+use mathlib.Core.Logic.{_⊎_, inr}
 use Prim.Native.Nat.{ℕ, zero, suc, _+_, _-_, _*_, _/_, _%_, _^_, _≤_, _<_, zero-le}
 use native.Mathlib.Omega.{arith}
 use mathlib.Core.List.{List, [], _∷_, _++_}
@@ -11,7 +11,7 @@ use lib.ListN.{length, getD, set, take, drop, replicate, length-replicate, getD-
 use lib.Seq.{take-nil}
 use lib.Pow.{pow-pos}
 use lib.Dec.{ltb, leb, eqb}
-use borrow.Author.Tests.{ltb-true, ltb-false, leb-true, leb-false, lt-ltb, eqb-true, eqb-false, eq-eqb, ne-eqb, not-false}
+use borrow.Author.Tests.{ltb-true, ltb-false, leb-true, leb-false, lt-ltb, eqb-true, eq-eqb, ne-eqb, not-false}
 use Rattle.wire.specs.Bytes.{store}
 use Rattle.wire.specs.Header.{headerOf}
 use Rattle.wire.specs.declared.Header.{Header}
@@ -21,9 +21,6 @@ use Rattle.kvmi.specs.declared.Settings.{Settings}
 use Rattle.kvmi.specs.declared.Signal.{Signal}
 use Rattle.kvmi.specs.declared.Signal.the-variants.{Quiet}
 use Rattle.kvmi.specs.declared.ReplyMode.{ReplyMode}
-use Rattle.kvmi.specs.declared.ReplyMode.the-variants.{On, Off, ErrorsOnly}
-use Rattle.kvmi.specs.declared.ReplyKind.{ReplyKind}
-use Rattle.kvmi.specs.declared.ReplyKind.the-variants.{CodeOnly, WithData, Silent}
 use Rattle.kvmi.specs.declared.Change.{Change}
 use Rattle.kvmi.specs.declared.Change.the-variants.{SetVmEvent, QueuePause, SetVcpuEvent, SetCr, SetMsr, SetPages, SetSinglestep, EndWait}
 use Rattle.kvmi.specs.declared.Verdict.{Verdict}
@@ -37,7 +34,7 @@ use Rattle.kvmi.specs.Model.{Awaited, awaiting, Model, fresh, closedModel, with
 use Rattle.kvmi.specs.Message.{layoutOf, namesVcpu, vcpuOf, enables, eventOf, registerOf, gpaOf, sizeOf, countOf, countFits, viewOf, Entry, entriesOf, isVmEvent, isVcpuEvent, takesEvent}
 use Rattle.kvmi.specs.Verdict.{factsOf, isAccess, inOnePage, isInvalid, isBusy, modeOf, changeOf, verdict}
 use Rattle.kvmi.specs.Change.{Applied, applied, apply, signalOf, modeFor}
-use Rattle.kvmi.specs.Reply.{replyBytes, replyData, commandErrorEvent, pauseEvent, answerBytes, answerOf, answerSeq}
+use Rattle.kvmi.specs.Reply.{replyBytes, replyData, commandErrorEvent, pauseEvent, answerOf, answerSeq}
 use Rattle.kvmi.specs.Valid.{Valid}
 use Rattle.kvmi.specs.Call as model
 use Rattle.store.specs.Words.{field, setField, putBit64, cleared, SINGLESTEP, PAUSES, AWAITED, AWAITED-SEQ, vcpuWordCount}
@@ -46,18 +43,19 @@ use Rattle.page_words.specs.Meaning.{pagesOf, PagesGood}
 use Rattle.session.specs.declared.Session.{Session}
 use Rattle.kvmi.specs.Mode.{modeOfNumber}
 use Rattle.page_words.specs.PageWords.{pageWordCount}
-use Rattle.session.specs.State.{State, state, freshSession, closedSession, clearedState, withReadyBits, withSeqOf, withField}
+use Rattle.session.specs.State.{State, state, freshSession, closedSession, clearedState, withReadyBits, withSeqOf, withField, isClosed}
 use Rattle.session.specs.Calls.{Told, toldSame, toldWritten, toldClosing, freshOf, readyOf}
 use Rattle.change.specs.Change.{Changed, changed, change}
 use Rattle.change.proofs.Laws.{change-keeps}
-use Rattle.message.specs.Message.{factsIn, answering, judgedOf, headedOf, messageOf}
+use Rattle.message.specs.Message.{factsIn, answeringOf, judgedOf, headedOf, messageOf}
 use Rattle.entry.specs.Entry.{pausingOf, enterOf}
 use Rattle.session.specs.Meaning.{awaitedIn, awaitedOf, tablesOf, modelOf, WordsGood, WellFormed}
-use Rattle.laws.proofs.Bool.{and-l, and-r, test}
+use Rattle.laws.proofs.Bool.{and-l, and-r}
 use Rattle.laws.proofs.Bits.{put-below}
 use Rattle.laws.proofs.Verdicts.{pick, and-false, or-false-l, Passed, verdict-cases, sound-of}
 use Rattle.laws.proofs.Steps.{step-kept}
-use Rattle.reply.proofs.Lengths.{length-reply, length-pause-whole, length-command-error, length-answer}
+use Rattle.reply.proofs.Lengths.{length-pause-whole, length-answer}
+use Rattle.refine.proofs.Frames.{error-length, data-fits}
 use Rattle.refine.proofs.Pages.{none-good}
 use Rattle.refine.proofs.Msrs.{zeros-field, zeros-msrs}
 use Rattle.refine.proofs.Vcpus.{zeros-vcpus, vcpus-ready, vcpus-pauses}
@@ -158,14 +156,14 @@ pub same-simulates : (k : ℕ) (st : State) (out guest : List ℕ) → WordsGood
 same-simulates k st out guest g = record { answer = refl; out = refl; guest = refl; model = refl; settings = refl; words = g }
 
 -- all words 0
-pub zero-words : (s : Settings) (x : Session) (vcpus pages : List ℕ) → length vcpus ≡ vcpuWordCount → length pages ≡ pageWordCount → x .tool .closed ≤ 1 → x .tool .mode ≤ 2 → x .shared .ready ≡ 0 → x .tool .pages ≡ 0
+pub zero-words : (s : Settings) (x : Session) (vcpus pages : List ℕ) → length vcpus ≡ vcpuWordCount → length pages ≡ pageWordCount → x .tool .opened ≤ 1 → x .tool .mode ≤ 2 → x .shared .ready ≡ 0 → x .tool .pages ≡ 0
     → WordsGood (clearedState x vcpus pages)
 unfolding cleared field
 zero-words s x vcpus pages v p c m r k =
     record {
       vcpuWords = length-replicate (length vcpus) 0 ∙ v;
       pageWords = length-replicate (length pages) 0 ∙ p;
-      closed = c;
+      opened = c;
       mode = m;
       ready = rw r (pow-pos (x .settings .vcpus));
       pages = rw k (none-good (length pages));
@@ -209,13 +207,13 @@ written-simulates st st′ bytes sig out guest h e g = record { answer = refl; o
 
 -- the next event's seq is no part of the words
 seq-kept : (st : State) (x : ℕ) → WordsGood st → WordsGood (withSeqOf st x)
-seq-kept st x g = tool-kept st g _ refl (g .closed) (g .mode)
+seq-kept st x g = tool-kept st g _ refl (g .opened) (g .mode)
 
 answering-simulates : (st st′ : State) (mode : ReplyMode) (id seq : ℕ) (code : ℤ) (d : List ℕ) (sig : Signal) (out guest : List ℕ)
     → length (answerOf (layoutOf id .reply) mode (st′ .session .tool .seq) id seq code (replyData (st′ .session .settings) guest id d)) ≤ length out
     → st′ .session .settings ≡ st .session .settings → WordsGood st′
-    → Simulates st (answering mode id seq code d sig out guest st′) (model.answering (st .session .settings) mode id seq code d sig out guest (modelOf st′))
-unfolding answering model.answering
+    → Simulates st (answeringOf mode id seq code d sig out guest st′) (model.answering (st .session .settings) mode id seq code d sig out guest (modelOf st′))
+unfolding answeringOf model.answering
 answering-simulates st st′ mode id seq code d sig out guest h e g =
     let bytes : Settings → List ℕ = λ x. answerOf (layoutOf id .reply) mode (st′ .session .tool .seq) id seq code (replyData x guest id d) in
     record {
@@ -227,19 +225,6 @@ answering-simulates st st′ mode id seq code d sig out guest h e g =
       words = seq-kept st′ _ g;
     }
 
--- an error has no data
-error-bytes : (mode : ReplyMode) (seq id commandSeq : ℕ) (code : ℤ) (d : List ℕ) → isError code ≡ true → length (answerBytes mode seq id commandSeq code d) ≤ 4112
-unfolding answerBytes
-error-bytes On seq id commandSeq code d e = let l = length-reply id commandSeq code d in let z : cond (isError code) 0 (length d) ≡ 0 = rw e in omega arith
-error-bytes Off seq id commandSeq code d e = omega arith
-error-bytes ErrorsOnly seq id commandSeq code d e = rw (e, length-command-error seq code commandSeq id) (omega arith)
-
-error-length : (kind : ReplyKind) (mode : ReplyMode) (seq id commandSeq : ℕ) (code : ℤ) (d : List ℕ) → isError code ≡ true → length (answerOf kind mode seq id commandSeq code d) ≤ 4112
-unfolding answerOf
-error-length CodeOnly mode seq id commandSeq code d e = error-bytes mode seq id commandSeq code d e
-error-length WithData mode seq id commandSeq code d e = error-bytes mode seq id commandSeq code d e
-error-length Silent mode seq id commandSeq code d e = omega arith
-
 -- ---- a message
 module _ (st : State) (f : WellFormed st) (out guest : List ℕ) where
   abbrev S : Told → model.Step → Type 0
@@ -247,13 +232,6 @@ module _ (st : State) (f : WellFormed st) (out guest : List ℕ) where
 
   abbrev cfg : Settings
   cfg = st .session .settings
-
-  -- the data of a message that passes fit a page
-  data-fits : (id : ℕ) (d : List ℕ) → Passed cfg (factsOf (modelOf st) (length guest) (vcpuOf d)) id d → (inOnePage (gpaOf d) (sizeOf d) ≡ true) ⊎ (id ≡ 6 → ⊥)
-  data-fits id d p =
-      test (eqb id 6)
-      (λ e. let q = rw (eqb-true id 6 e) at p in inl (not-false _ (sound-of cfg 6 d (q .valid) .range)))
-      (λ e. inr (eqb-false id 6 e))
 
   does-simulates : (id seq : ℕ) (d : List ℕ) → 4112 ≤ length out → (c : Change) → (inOnePage (gpaOf d) (sizeOf d) ≡ true) ⊎ (id ≡ 6 → ⊥)
       → Meant (change st guest d c) (apply (modelOf st) guest d c) → S (judgedOf st id seq d out guest (Does c)) (model.judged cfg (modelOf st) id seq d out guest (Does c))
@@ -263,9 +241,9 @@ module _ (st : State) (f : WellFormed st) (out guest : List ℕ) where
       let mode = modeFor (modeOfNumber (st .session .tool .mode)) c in
       let l = length-answer (layoutOf id .reply) mode (r .state .session .tool .seq) id seq (r .code) (r .state .session .settings) (r .guest) d fits in
       let here = answering-simulates st (r .state) mode id seq (r .code) d (signalOf c) out (r .guest) (omega arith) (change-keeps st guest d c) (m .words) in
-      subst (λ (x : Model). S (answering mode id seq (r .code) d (signalOf c) out (r .guest) (r .state)) (model.answering cfg mode id seq (apply (modelOf st) guest d c .code) d (signalOf c) out (apply (modelOf st) guest d c .guest) x)) (m .model)
-      (subst (λ (x : List ℕ). S (answering mode id seq (r .code) d (signalOf c) out (r .guest) (r .state)) (model.answering cfg mode id seq (apply (modelOf st) guest d c .code) d (signalOf c) out x (modelOf (r .state)))) (m .guest)
-      (subst (λ (x : ℤ). S (answering mode id seq (r .code) d (signalOf c) out (r .guest) (r .state)) (model.answering cfg mode id seq x d (signalOf c) out (r .guest) (modelOf (r .state)))) (m .code) here))
+      subst (λ (x : Model). S (answeringOf mode id seq (r .code) d (signalOf c) out (r .guest) (r .state)) (model.answering cfg mode id seq (apply (modelOf st) guest d c .code) d (signalOf c) out (apply (modelOf st) guest d c .guest) x)) (m .model)
+      (subst (λ (x : List ℕ). S (answeringOf mode id seq (r .code) d (signalOf c) out (r .guest) (r .state)) (model.answering cfg mode id seq (apply (modelOf st) guest d c .code) d (signalOf c) out x (modelOf (r .state)))) (m .guest)
+      (subst (λ (x : ℤ). S (answeringOf mode id seq (r .code) d (signalOf c) out (r .guest) (r .state)) (model.answering cfg mode id seq x d (signalOf c) out (r .guest) (modelOf (r .state)))) (m .code) here))
 
   fails-simulates : (id seq : ℕ) (d : List ℕ) → 4112 ≤ length out → (code : ℤ) → isError code ≡ true
       → S (judgedOf st id seq d out guest (Fails code)) (model.judged cfg (modelOf st) id seq d out guest (Fails code))
@@ -284,7 +262,7 @@ module _ (st : State) (f : WellFormed st) (out guest : List ℕ) where
   judged-simulates id seq d long =
       verdict-cases (λ v. S (judgedOf st id seq d out guest v) (model.judged cfg (modelOf st) id seq d out guest v)) cfg (factsOf (modelOf st) (length guest) (vcpuOf d)) id seq d
       (closes-simulates id seq d) (λ code e. fails-simulates id seq d long code e)
-      (λ p. does-simulates id seq d long (changeOf id d) (data-fits id d p) (change-meant st (f .words) (f .settings) guest d id p))
+      (λ p. does-simulates id seq d long (changeOf id d) (data-fits cfg (factsOf (modelOf st) (length guest) (vcpuOf d)) id d p) (change-meant st (f .words) (f .settings) guest d id p))
       (λ p. let e = p .reply in
       does-simulates id seq d long (EndWait (eqb (getD d 8 0) 2) (vcpuOf d)) (inr (λ q. omega arith))
       (end-meant st (f .words) (few-vcpus cfg (f .settings)) guest d (vcpuOf d) (eqb (getD d 8 0) 2)))
@@ -297,7 +275,7 @@ module _ (st : State) (f : WellFormed st) (out guest : List ℕ) where
   pub message-simulates : (msg : List ℕ) → S (messageOf st msg out guest) (model.messageStep cfg (modelOf st) msg out guest)
   unfolding messageOf model.messageStep
   message-simulates msg =
-      both S (not (eqb (st .session .tool .closed) 0)) _ _ _ _ (λ _. same-simulates 2 st out guest (f .words))
+      both S (isClosed st) _ _ _ _ (λ _. same-simulates 2 st out guest (f .words))
       (λ _. both S (ltb (length out) 4112) _ _ _ _ (λ _. same-simulates 3 st out guest (f .words))
       (λ h. headed-simulates (drop 8 msg) (ltb-false (length out) 4112 h) (headerOf msg)))
 
@@ -317,7 +295,7 @@ module _ (st : State) (f : WellFormed st) where
   pub ready-simulates : (v : ℕ) → Simulates st (readyOf st v) (model.readyStep (st .session .settings) (modelOf st) v)
   unfolding readyOf model.readyStep putBit64
   ready-simulates v =
-      both (Simulates st) (not (eqb (st .session .tool .closed) 0)) _ _ _ _ (λ _. same-simulates 2 st [] [] (f .words))
+      both (Simulates st) (isClosed st) _ _ _ _ (λ _. same-simulates 2 st [] [] (f .words))
       (λ _. both (Simulates st) (leb (st .session .settings .vcpus) v) _ _ _ _ (λ _. same-simulates 4 st [] [] (f .words))
       (λ h. let inside = leb-false (st .session .settings .vcpus) v h in
       let few = few-vcpus (st .session .settings) (f .settings) in
@@ -387,7 +365,7 @@ pub enter-simulates : (st : State) → WellFormed st → (v : ℕ) (block out : 
 unfolding enterOf model.enterStep vcpuOfWords
 enter-simulates st f v block out =
     let own : vcpuAt (tablesOf st) v .pauses ≡ field (st .vcpus) v PAUSES = ap (λ (x : Vcpu). x .pauses) (vcpu-means st (f .words) v) in
-    both (Simulates st) (not (eqb (st .session .tool .closed) 0)) _ _ _ _ (λ _. same-simulates 2 st out [] (f .words))
+    both (Simulates st) (isClosed st) _ _ _ _ (λ _. same-simulates 2 st out [] (f .words))
     (λ _. both (Simulates st) (leb (st .session .settings .vcpus) v) _ _ _ _ (λ _. same-simulates 4 st out [] (f .words))
     (λ h. both (Simulates st) (not (eqb (length block) 536)) _ _ _ _ (λ _. same-simulates 5 st out [] (f .words))
     (λ w. both (Simulates st) (ltb (length out) 552) _ _ _ _ (λ _. same-simulates 3 st out [] (f .words))

@@ -1,48 +1,44 @@
 -- The theorems on sessions. A session that fresh makes, on whatever words were lent, is well formed, and every call leaves one that is; so is one
 -- that an accepted image makes (`history/Images`). Assumes nothing.
 use mathlib.Core.Path.{_≡_, refl, sym, ap, _∙_, subst}
-use mathlib.Core.Logic.{_≢_, _⊎_, inl, inr}
+use mathlib.Core.Logic.{_≢_, inl, inr}
 use Prim.Native.Nat.{ℕ, zero, suc, _+_, _*_, _≤_, _<_}
 use native.Mathlib.Omega.{arith}
 use mathlib.Core.List.{List, [], _∷_}
 use mathlib.Core.Bool.{Bool, true, false, cond, not, _&&_, So, false≢true}
 use mathlib.Core.Option.{Option, none, some}
-use lib.IntN.{ℤ}
 use lib.ListN.{length, getD, take, drop, replicate, length-replicate}
 use lib.Dec.{ltb, leb, eqb}
 use borrow.Author.Tests.{eqb-true, not-false}
-use Rattle.wire.specs.Bytes.{store}
 use Rattle.wire.specs.Header.{headerOf}
 use Rattle.wire.specs.declared.Header.{Header}
 use Rattle.wire.specs.declared.Header.the-variants.{Whole, Broken}
 use Rattle.kvmi.specs.declared.Settings.{Settings}
-use Rattle.kvmi.specs.declared.ReplyMode.{ReplyMode}
 use Rattle.kvmi.specs.declared.Facts.{Facts}
 use Rattle.kvmi.specs.declared.Signal.the-variants.{Quiet}
 use Rattle.kvmi.specs.declared.Change.{Change}
 use Rattle.kvmi.specs.declared.Change.the-variants.{Nothing, SetVmEvent, WritePhysical, QueuePause, SetVcpuEvent, SetCr, SetMsr, SetPages, SetSinglestep, SetReplies, EndWait}
 use Rattle.kvmi.specs.declared.Verdict.{Verdict}
-use Rattle.kvmi.specs.declared.Verdict.the-variants.{Closes, Fails, Does}
 use Rattle.kvmi.specs.Answer.{handled}
 use Rattle.kvmi.specs.Limits.{pageLimit}
 use Rattle.kvmi.specs.Codes.{isError, OK, ENOMEM}
 use Rattle.kvmi.specs.Settings.{inRange}
 use Rattle.kvmi.specs.Tables.{Tables, resting, isMsr, emptyTables, withVcpus, withMsrs, withPages}
 use Rattle.kvmi.specs.Model.{Model, fresh, withTables, withAwaited}
-use Rattle.kvmi.specs.Message.{namesVcpu, vcpuOf, enables, registerOf, countOf, viewOf, entriesOf, layoutOf}
+use Rattle.kvmi.specs.Message.{namesVcpu, vcpuOf, enables, registerOf, countOf, viewOf, entriesOf}
 use Rattle.kvmi.specs.Verdict.{changeOf, modeOf, verdict}
-use Rattle.kvmi.specs.Reply.{answerSeq, answerOf}
 use Rattle.kvmi.specs.Valid.{Valid}
 use Rattle.kvmi.specs.Call as model
 use Rattle.store.specs.Words.{field, setField, setMsrBit, cleared, SINGLESTEP, CRS, EVENTS, PAUSES, AWAITED, AWAITED-SEQ, vcpuWordCount}
 use Rattle.page_words.specs.PageWords.{runEntries, pageWordCount}
 use Rattle.kvmi.specs.Mode.{modeOfNumber}
-use Rattle.session.specs.State.{State, state, freshSession, clearedState, withField, withSeqOf}
+use Rattle.session.specs.State.{State, state, freshSession, clearedState, withField, withSeqOf, isClosed}
 use Rattle.session.specs.Calls.{Told, toldSame, freshOf, readyOf}
 use Rattle.change.specs.Change.{change}
-use Rattle.message.specs.Message.{factsIn, answering, judgedOf, headedOf, messageOf}
+use Rattle.message.specs.Message.{factsIn, answeringOf, judgedOf, headedOf, messageOf}
 use Rattle.entry.specs.Entry.{enterOf}
 use Rattle.session.specs.Meaning.{tablesOf, modelOf, WordsGood, WellFormed}
+use Rattle.refine.specs.Errors.{codeBy, codeHeaded, codeOf, withPagesOf, ErrorSpares}
 use Rattle.laws.proofs.Verdicts.{pick, Passed, verdict-cases, sound-of}
 use Rattle.laws.proofs.Kept.{empty-valid}
 use Rattle.laws.proofs.Steps.{message-kept, ready-kept, enter-kept}
@@ -144,7 +140,7 @@ module _ (st : State) (guest d : List ℕ) (i : ℕ) (other : i ≢ vcpuOf d) wh
   ready-kept-by (EndWait crash vcpu) = refl
 
   judged-apart : (id seq : ℕ) (out : List ℕ) (f : Facts) → Spares (judgedOf st id seq d out guest (verdict (st .session .settings) f id seq d))
-  unfolding judgedOf answering
+  unfolding judgedOf answeringOf
   judged-apart id seq out f =
       verdict-cases (λ v. Spares (judgedOf st id seq d out guest v)) (st .session .settings) f id seq d (λ h. absurd (h refl)) (λ code _ _. (refl, refl))
       (λ p _. (change-apart id f p, ready-kept-by (changeOf id d))) (λ _ _. (end-apart (eqb (getD d 8 0) 2), ready-kept-by (EndWait (eqb (getD d 8 0) 2) (vcpuOf d))))
@@ -153,7 +149,7 @@ pub message-apart : (st : State) (msg out guest : List ℕ) (i : ℕ) → i ≢ 
     → (block (messageOf st msg out guest .state .vcpus) i ≡ block (st .vcpus) i) × (messageOf st msg out guest .state .session .shared .ready ≡ st .session .shared .ready)
 unfolding messageOf headedOf
 message-apart st msg out guest i other =
-    pick (Spares st guest (drop 8 msg) i other) (not (eqb (st .session .tool .closed) 0)) _ _ (λ _ _. (refl, refl))
+    pick (Spares st guest (drop 8 msg) i other) (isClosed st) _ _ (λ _ _. (refl, refl))
     (λ _. pick (Spares st guest (drop 8 msg) i other) (ltb (length out) 4112) _ _ (λ _ _. (refl, refl)) (λ _. by-header (headerOf msg)))
   where
     by-header : (h : Header) → Spares st guest (drop 8 msg) i other (headedOf st (drop 8 msg) out guest h)
@@ -161,34 +157,19 @@ message-apart st msg out guest i other =
     by-header (Whole id size seq) = judged-apart st guest (drop 8 msg) i other id seq out (factsIn st (length guest) (vcpuOf (drop 8 msg)))
 
 -- ---- an error changes no tables and no guest memory, message 13 with -12 excepted
--- the code with which a message is answered, where it is: that of its verdict, or of its change
-abbrev pub codeBy : State → List ℕ → List ℕ → Verdict → ℤ
-codeBy st guest d Closes = OK
-codeBy st guest d (Fails code) = code
-codeBy st guest d (Does c) = change st guest d c .code
-
-abbrev pub codeHeaded : State → List ℕ → List ℕ → Header → ℤ
-codeHeaded st guest d Broken = OK
-codeHeaded st guest d (Whole id size seq) = codeBy st guest d (verdict (st .session .settings) (factsIn st (length guest) (vcpuOf d)) id seq d)
-
--- of a message; one that is refused is not answered
-abbrev pub codeOf : State → List ℕ → List ℕ → List ℕ → ℤ
-codeOf st msg out guest =
-    cond (not (eqb (st .session .tool .closed) 0)) OK (cond (ltb (length out) 4112) OK (codeHeaded st guest (drop 8 msg) (headerOf msg)))
-
--- what an error leaves: all but the next event's seq as it was; or message 13 ran into the limit, and guest memory is as it was
-abbrev pub Spared : State → List ℕ → List ℕ → ℤ → Told → Type 0
-Spared st msg guest code r =
-    ((r .state ≡ withSeqOf st (r .state .session .tool .seq)) × (r .guest ≡ guest))
-    ⊎ ((size : ℕ) × (seq : ℕ) × (headerOf msg ≡ Whole 13 size seq) × (code ≡ ENOMEM) × (r .guest ≡ guest))
-
 limit-code : (b : Bool) → isError (cond b ENOMEM OK) ≡ true → cond b ENOMEM OK ≡ ENOMEM
 limit-code true e = refl
 limit-code false e = absurd (false≢true e)
 
+-- pages and the next event's seq can be changed in either order
+pages-seq : (st x : State) (seq : ℕ) → x ≡ withPagesOf st (x .session .tool .pages) (x .pages) → withSeqOf x seq ≡ withPagesOf (withSeqOf st seq) (x .session .tool .pages) (x .pages)
+pages-seq st x seq e = ap (λ (y : State). withSeqOf y seq) e
+
 module _ (st : State) (guest d : List ℕ) where
   abbrev Only-13 : ℕ → Change → Type 0
-  Only-13 id c = isError (change st guest d c .code) ≡ true → (id ≡ 13) × (change st guest d c .code ≡ ENOMEM) × (change st guest d c .guest ≡ guest)
+  Only-13 id c =
+      let r = change st guest d c in
+      isError (r .code) ≡ true → (id ≡ 13) × (r .code ≡ ENOMEM) × (r .guest ≡ guest) × (r .state ≡ withPagesOf st (r .state .session .tool .pages) (r .state .pages))
 
   only-13 : (id : ℕ) → Only-13 id (changeOf id d)
   unfolding changeOf change
@@ -199,62 +180,37 @@ module _ (st : State) (guest d : List ℕ) where
       (λ _. pick (Only-13 id) (eqb id 10) _ _ (λ _ e. absurd (false≢true e))
       (λ _. pick (Only-13 id) (eqb id 11) _ _ (λ _ e. absurd (false≢true e))
       (λ _. pick (Only-13 id) (eqb id 12) _ _ (λ _ e. absurd (false≢true e))
-      (λ _. pick (Only-13 id) (eqb id 13) _ _ (λ h e. (eqb-true id 13 h, limit-code (runEntries pageLimit (viewOf d) (entriesOf (countOf d) (drop 8 d)) (st .pages) (st .session .tool .pages) .skipped) e, refl))
+      (λ _. pick (Only-13 id) (eqb id 13) _ _ (λ h e. (eqb-true id 13 h, limit-code (runEntries pageLimit (viewOf d) (entriesOf (countOf d) (drop 8 d)) (st .pages) (st .session .tool .pages) .skipped) e, refl, refl))
       (λ _. pick (Only-13 id) (eqb id 14) _ _ (λ _ e. absurd (false≢true e))
       (λ _. pick (Only-13 id) (eqb id 15) _ _ (λ _ e. absurd (false≢true e)) (λ _ e. absurd (false≢true e))))))))))
 
   -- by the verdict of a message with a whole header
   abbrev Spared-by : List ℕ → ℕ → ℕ → ℕ → List ℕ → Verdict → Type 0
-  Spared-by msg id size seq out v = isError (codeBy st guest d v) ≡ true → Spared st msg guest (codeBy st guest d v) (judgedOf st id seq d out guest v)
+  Spared-by msg id size seq out v = isError (codeBy st guest d v) ≡ true → ErrorSpares st msg guest (codeBy st guest d v) (judgedOf st id seq d out guest v)
 
   spared-by : (msg : List ℕ) (id size seq : ℕ) (out : List ℕ) (f : Facts) → headerOf msg ≡ Whole id size seq → Spared-by msg id size seq out (verdict (st .session .settings) f id seq d)
-  unfolding judgedOf answering change
+  unfolding judgedOf answeringOf change
   spared-by msg id size seq out f w =
       verdict-cases (Spared-by msg id size seq out) (st .session .settings) f id seq d (λ e. absurd (false≢true e)) (λ code _ _. inl (refl, refl))
-      (λ _ e. let o = only-13 id e in inr (size, seq, w ∙ ap (λ (n : ℕ). Whole n size seq) (o .0), o .1, o .2))
+      (λ _ e. let o = only-13 id e in
+      inr ((size, seq, w ∙ ap (λ (n : ℕ). Whole n size seq) (o .0)), o .1, (o .2, pages-seq st _ _ (o .3))))
       (λ _ e. absurd (false≢true e))
 
 -- a message that is answered with an error
-pub error-spares : (st : State) (msg out guest : List ℕ) → isError (codeOf st msg out guest) ≡ true → Spared st msg guest (codeOf st msg out guest) (messageOf st msg out guest)
+pub error-spares : (st : State) (msg out guest : List ℕ) → isError (codeOf st msg out guest) ≡ true → ErrorSpares st msg guest (codeOf st msg out guest) (messageOf st msg out guest)
 unfolding messageOf headedOf
-error-spares st msg out guest = by-refusal (not (eqb (st .session .tool .closed) 0)) (ltb (length out) 4112)
+error-spares st msg out guest = by-refusal (isClosed st) (ltb (length out) 4112)
   where
     d : List ℕ
     d = drop 8 msg
 
-    by-header : (h : Header) → headerOf msg ≡ h → isError (codeHeaded st guest d h) ≡ true → Spared st msg guest (codeHeaded st guest d h) (headedOf st d out guest h)
+    by-header : (h : Header) → headerOf msg ≡ h → isError (codeHeaded st guest d h) ≡ true → ErrorSpares st msg guest (codeHeaded st guest d h) (headedOf st d out guest h)
     by-header Broken w e = absurd (false≢true e)
     by-header (Whole id size seq) w e = spared-by st guest d msg id size seq out (factsIn st (length guest) (vcpuOf d)) w e
 
     by-refusal : (closed short : Bool) → isError (cond closed OK (cond short OK (codeHeaded st guest d (headerOf msg)))) ≡ true
-        → Spared st msg guest (cond closed OK (cond short OK (codeHeaded st guest d (headerOf msg))))
+        → ErrorSpares st msg guest (cond closed OK (cond short OK (codeHeaded st guest d (headerOf msg))))
         (cond closed (toldSame 2 st out guest) (cond short (toldSame 3 st out guest) (headedOf st d out guest (headerOf msg))))
     by-refusal true short e = absurd (false≢true e)
     by-refusal false true e = absurd (false≢true e)
     by-refusal false false e = by-header (headerOf msg) refl e
-
--- that code is the one that the message writes, in a reply or an event, where it writes any
-abbrev pub Writes-code : List ℕ → ℕ → ℕ → ℤ → Told → Type 0
-Writes-code out id seq code r =
-    r .answer .number ≡ 0 → (mode : ReplyMode) × (next : ℕ) × (rest : List ℕ) × (r .out ≡ store out 0 (answerOf (layoutOf id .reply) mode next id seq code rest))
-
-writes-by : (st : State) (guest d out : List ℕ) (id seq : ℕ) (v : Verdict) → Writes-code out id seq (codeBy st guest d v) (judgedOf st id seq d out guest v)
-unfolding judgedOf answering
-writes-by st guest d out id seq Closes e = absurd (omega (arith, e))
-writes-by st guest d out id seq (Fails code) e = (_, _, _, refl)
-writes-by st guest d out id seq (Does c) e = (_, _, _, refl)
-
-pub code-written : (st : State) (msg out guest : List ℕ) (id size seq : ℕ) → headerOf msg ≡ Whole id size seq
-    → Writes-code out id seq (codeOf st msg out guest) (messageOf st msg out guest)
-unfolding messageOf headedOf
-code-written st msg out guest id size seq w = rw w (by-refusal (not (eqb (st .session .tool .closed) 0)) (ltb (length out) 4112))
-  where
-    d : List ℕ
-    d = drop 8 msg
-
-    by-refusal : (closed short : Bool)
-        → Writes-code out id seq (cond closed OK (cond short OK (codeHeaded st guest d (Whole id size seq))))
-        (cond closed (toldSame 2 st out guest) (cond short (toldSame 3 st out guest) (headedOf st d out guest (Whole id size seq))))
-    by-refusal true short e = absurd (omega (arith, e))
-    by-refusal false true e = absurd (omega (arith, e))
-    by-refusal false false e = writes-by st guest d out id seq (verdict (st .session .settings) (factsIn st (length guest) (vcpuOf d)) id seq d) e

@@ -53,7 +53,7 @@ module _ (r s : ℕ) (w x : List ℕ) where
       q i gone ∙ sym (getD-set-other (vcpusOf r w 0 n) v i a resting gone ∙ vcpus-at r w n i l)))
 
 -- the four fields of a record, and its ready bit
-fields-same : (r s : ℕ) (w x : List ℕ) (i : ℕ) → isOn s i ≡ isOn r i → ((j : ℕ) → j < 4 → field x i j ≡ field w i j) → vcpuOfWords s x i ≡ vcpuOfWords r w i
+pub fields-same : (r s : ℕ) (w x : List ℕ) (i : ℕ) → isOn s i ≡ isOn r i → ((j : ℕ) → j < 4 → field x i j ≡ field w i j) → vcpuOfWords s x i ≡ vcpuOfWords r w i
 unfolding vcpuOfWords
 fields-same r s w x i e f = rw (e, f SINGLESTEP (omega arith), f CRS (omega arith), f EVENTS (omega arith), f PAUSES (omega arith))
 

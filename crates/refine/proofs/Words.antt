@@ -16,7 +16,7 @@ use Rattle.kvmi.specs.Settings.{inRange}
 use Rattle.kvmi.specs.Tables.{Vcpu, resting, vcpuAt, isMsr}
 use Rattle.kvmi.specs.Model.{Awaited, awaitedBy}
 use Rattle.kvmi.specs.Verdict.{awaitedEvent, awaitedSeq, factsOf}
-use Rattle.store.specs.Words.{field, setField, msrWord, msrSlot, setMsrBit, SINGLESTEP, CRS, EVENTS, PAUSES, AWAITED, AWAITED-SEQ, vcpuWordCount}
+use Rattle.store.specs.Words.{field, setField, msrWord, msrSlot, setMsrSlot, setMsrBit, SINGLESTEP, CRS, EVENTS, PAUSES, AWAITED, AWAITED-SEQ, vcpuWordCount}
 use Rattle.store.specs.Meaning.{vcpuOfWords, vcpusOf}
 use Rattle.page_words.specs.Meaning.{PagesGood}
 use Rattle.page_words.specs.PageWords.{pageWordCount}
@@ -43,12 +43,12 @@ module _ (st : State) (g : WordsGood st) where
 
   -- ---- what must be shown again where one part is another
   -- the tool's numbers, but for the count of its pages
-  pub tool-kept : (t : Tool) → t .pages ≡ st .session .tool .pages → t .closed ≤ 1 → t .mode ≤ 2 → WordsGood (state (withTool (st .session) t) w (st .pages))
-  tool-kept t same closed mode =
+  pub tool-kept : (t : Tool) → t .pages ≡ st .session .tool .pages → t .opened ≤ 1 → t .mode ≤ 2 → WordsGood (state (withTool (st .session) t) w (st .pages))
+  tool-kept t same opened mode =
       record {
         vcpuWords = g .vcpuWords;
         pageWords = g .pageWords;
-        closed = closed;
+        opened = opened;
         mode = mode;
         ready = g .ready;
         pages = rw same (g .pages);
@@ -65,7 +65,7 @@ module _ (st : State) (g : WordsGood st) where
       record {
         vcpuWords = g .vcpuWords;
         pageWords = long;
-        closed = g .closed;
+        opened = g .opened;
         mode = g .mode;
         ready = g .ready;
         pages = good;
@@ -81,7 +81,7 @@ module _ (st : State) (g : WordsGood st) where
       record {
         vcpuWords = g .vcpuWords;
         pageWords = g .pageWords;
-        closed = g .closed;
+        opened = g .opened;
         mode = g .mode;
         ready = below;
         pages = g .pages;
@@ -98,7 +98,7 @@ module _ (st : State) (g : WordsGood st) where
       record {
         vcpuWords = long;
         pageWords = g .pageWords;
-        closed = g .closed;
+        opened = g .opened;
         mode = g .mode;
         ready = g .ready;
         pages = g .pages;
@@ -179,12 +179,12 @@ module _ (st : State) (g : WordsGood st) where
 
     -- an MSR's switch
     pub msr-kept : (m : ℕ) (on : Bool) → So (isMsr m) → WordsGood (withVcpuWords st (setMsrBit w v m on))
-    unfolding setMsrBit msrWord
+    unfolding setMsrBit setMsrSlot msrWord
     msr-kept m on h =
         let same : (i j : ℕ) → j < 16 → field (setMsrBit w v m on) i j ≡ field w i j = λ i j b. bit-field w v m on h i j b in
         vcpus-kept (setMsrBit w v m on) (bit-length w v m on ∙ g .vcpuWords) (λ i. rw (same i SINGLESTEP (omega arith)) (g .flag i))
         (λ i e. same i AWAITED-SEQ (omega arith) ∙ g .waits i (sym (same i AWAITED (omega arith)) ∙ e)) (λ i j b c. same i j c ∙ g .spare i j b c)
-        (past-set (v * 272 + 16 + msrSlot m / 64) _ (omega (arith, slot-below m h)))
+        (rw h (past-set (v * 272 + 16 + msrSlot m / 64) _ (omega (arith, slot-below m h))))
 
     -- the awaited event and its seq together
     pub awaited-kept : (event seq : ℕ) → (event ≡ 0 → seq ≡ 0) → WordsGood (withField (withField st v AWAITED event) v AWAITED-SEQ seq)
