@@ -1,7 +1,7 @@
 -- The MSR switches of all vCPUs as one row of places, 16,384 for each vCPU, and the bytes of their records.
 use mathlib.Core.Path.{_≡_}
-use Prim.Native.Nat.{ℕ, zero, suc, _+_, _*_, _/_, _%_, _≤_, _<_}
-use mathlib.Core.List.{List, [], _∷_}
+use Prim.Native.Nat.{ℕ, zero, suc, _+_, _*_, _/_, _%_, _<_}
+use mathlib.Core.List.{List, [], _∷_, _++_}
 use mathlib.Core.Bool.{Bool, cond}
 use lib.Dec.{eqb}
 use lib.ListN.{length, getD}
@@ -12,6 +12,7 @@ use Rattle.kvmi.specs.Tables.{Msr}
 use Rattle.kvmi.specs.Image.{onto, msRecord}
 use Rattle.store.specs.Words.{field}
 use Rattle.store.specs.Meaning.{msrAt}
+use Rattle.image_msrs.specs.declared.Four.{Four}
 
 -- ---- the bytes of their records
 unfoldable pub msBytes : List Msr → List ℕ
@@ -29,22 +30,38 @@ unfoldable pub switchesFrom : List ℕ → ℕ → ℕ → List Msr
 switchesFrom w g zero = []
 switchesFrom w g (suc n) = cond (switchAt w g) (msrOfPlace g ∷ switchesFrom w (suc g) n) (switchesFrom w (suc g) n)
 
--- those that are on among the n lowest bits of a word, whose lowest has the place g
-unfoldable pub bitsFrom : ℕ → ℕ → ℕ → List Msr
-bitsFrom x g zero = []
-bitsFrom x g (suc n) = cond (eqb (x % 2) 1) (msrOfPlace g ∷ bitsFrom (x / 2) (suc g) n) (bitsFrom (x / 2) (suc g) n)
+-- ---- bits of a number
+-- what stands at those that are on among the n lowest, of which the lowest has the place g
+unfoldable pub bitsFrom : (ℕ → List Msr) → ℕ → ℕ → ℕ → List Msr
+bitsFrom f x g zero = []
+bitsFrom f x g (suc n) = cond (eqb (x % 2) 1) (f g ++ bitsFrom f (x / 2) (suc g) n) (bitsFrom f (x / 2) (suc g) n)
 
--- ---- words that are 0
--- all of them from one up to another
-pub record Blank (w : List ℕ) (from to : ℕ) : Type 0 where
-  pub zeros : (j : ℕ) → from ≤ j → j < to → getD w j 0 ≡ 0
+-- in a word, a switch
+abbrev pub oneAt : ℕ → List Msr
+oneAt g = msrOfPlace g ∷ []
 
--- r is the end, or the place of a word, and all words before it are 0
-pub record Scanned (w : List ℕ) (from to r : ℕ) : Type 0 where
-  pub after : from ≤ r
-  pub inside : r ≤ to
-  pub there : r < to → r < length w
-  pub blank : Blank w from r
+-- ---- four words side by side
+-- those from one on; a word past the end is 0
+abbrev pub fourAt : List ℕ → ℕ → Four
+fourAt w at = record { a = getD w at 0; b = getD w (at + 1) 0; c = getD w (at + 2) 0; d = getD w (at + 3) 0 }
+
+-- the switches that are on in them, where the first has the place g
+unfoldable pub fourBits : Four → ℕ → List Msr
+fourBits f g = bitsFrom oneAt (f .a) g 64 ++ (bitsFrom oneAt (f .b) (g + 64) 64 ++ (bitsFrom oneAt (f .c) (g + 128) 64 ++ bitsFrom oneAt (f .d) (g + 192) 64))
+
+-- the switches that are on in four j of a vCPU's 64
+unfoldable pub fourOf : List ℕ → ℕ → ℕ → List Msr
+fourOf w v j = switchesFrom w (v * 16384 + 256 * j) 256
+
+-- ---- marked fours
+-- a vCPU has so many switches that are on, and the fours that are marked have all of them
+pub record Marked (w : List ℕ) (v on fours : ℕ) : Type 0 where
+  pub count : on ≡ length (switchesFrom w (v * 16384) 16384)
+  pub all : bitsFrom (fourOf w v) fours 0 64 ≡ switchesFrom w (v * 16384) 16384
+
+-- the marks of each of n vCPUs
+pub record Marks (w : List ℕ) (n : ℕ) (marks : List ℕ) : Type 0 where
+  pub all : (v : ℕ) → v < n → bitsFrom (fourOf w v) (getD marks v 0) 0 64 ≡ switchesFrom w (v * 16384) 16384
 
 -- ---- records written
 -- what was s has the MS records at a place, and r is the place behind them

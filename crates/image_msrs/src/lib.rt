@@ -1,83 +1,91 @@
-// The MS records of an image, from the lent words: one pass over them to count, and one to write. Both skip the words that are 0, and a
-// record is stored into the part of the output that it fills, so that its stores need no tests.
+// The MS records of an image, from the lent words: one pass over them counts, and marks the fours of words that have a switch on; the next
+// writes, and reads these fours alone. A record is stored into the part of the output that it fills, so that its stores need no tests.
 use store::words::BLOCK_WORDS;
 use store::words::MSRS;
 ghost use mathlib.Core.Path.{_≡_};
-ghost use mathlib.Core.Bool.{true};
-ghost use Prim.Native.Nat.{_+_, _*_, _≤_, _<_, min};
+ghost use Prim.Native.Nat.{ℕ, _+_, _*_, _≤_, _<_, min};
 ghost use lib.ListN.{length};
 ghost use Rattle.wire.specs.Bytes.{store};
 ghost use Rattle.kvmi.specs.Record.{write};
 ghost use Rattle.kvmi.specs.Image.{msRecord};
-ghost use Rattle.store.specs.Words.{vcpuWordCount};
 ghost use Rattle.store.specs.Meaning.{msrAt, msrsOf};
-ghost use Rattle.image_msrs.specs.Switches.{msBytes, msrOfPlace, switchesFrom, bitsFrom, Blank, Scanned, Put};
+ghost use Rattle.image_msrs.specs.Switches.{msBytes, msrOfPlace, oneAt, switchesFrom, bitsFrom, fourAt, fourBits, fourOf, Marked, Marks, Put};
 
 // How many MSR switches a vCPU has.
 const SWITCHES: usize = 16384;
 
-// How many switches a word has.
-const BITS: usize = 64;
+// How many switches four words have, 64 each.
+const FOUR: usize = 256;
 
-// The smaller of two numbers.
-pub fn smaller(a: usize, b: usize) -> usize
-    ensures { λ r. ⌜ r ≡ min a b ⌝ }
-{
-    if a < b { a } else { b }
+// Four words side by side: all words of switches are looked at in fours, of which most are 0.
+struct Four {
+    a: u64,
+    b: u64,
+    c: u64,
+    d: u64,
 }
 
-// Whether the 4 words at a place are all 0.
-fn blank(words: &[u64], i: usize) -> bool
-    requires { ⌜ i + 4 ≤ length (now words) ⌝ }
-    ensures { λ r. ⌜ (r ≡ true → Blank (now (words .entry)) i (i + 4)) ⌝ }
-{
-    (words[i] | words[i + 1] | words[i + 2] | words[i + 3]) == 0
+// What is found in a vCPU's words: how many switches are on, and which fours have one, the first in the lowest bit.
+struct Found {
+    on: usize,
+    fours: u64,
 }
 
-// The place of the first word that is not 0, from one on, or the end. Words past the end of the slice count as 0.
-fn scan(words: &[u64], from: usize, to: usize) -> usize
-    requires { ⌜ (from ≤ to) × (to ≤ vcpuWordCount) ⌝ }
-    ensures { λ r. ⌜ Scanned (now (words .entry)) from to r ⌝ }
+// Four j of a vCPU's words. Words past the end of the slice count as 0.
+fn read_four(words: &[u64], v: usize, j: usize) -> Four
+    requires { ⌜ (v < 16) × (j < 64) ⌝ }
+    ensures { λ r. ⌜ r ≡ fourAt (now (words .entry)) (v * 272 + 16 + 4 * j) ⌝ }
 {
-    let last = smaller(to, words.len());
-    let mut i = from;
-    while i + 4 <= last && blank(words, i) {
-        i += 4;
+    let at = v * BLOCK_WORDS + MSRS + 4 * j;
+    Four {
+        a: store::words::word(words, at),
+        b: store::words::word(words, at + 1),
+        c: store::words::word(words, at + 2),
+        d: store::words::word(words, at + 3),
     }
-    while i < last {
-        if words[i] != 0 {
-            return i;
-        }
-        i += 1;
-    }
-    to
 }
 
-// How many switches of a vCPU are on.
-fn count_vcpu(words: &[u64], v: usize) -> usize
+// How many bits of four words are on, whatever their places are.
+fn count_four(f: Four) -> usize
+    ensures { λ r. ⌜ ((g : ℕ) → r ≡ length (fourBits f g)) ⌝ }
+{
+    if (f.a | f.b | f.c | f.d) == 0 {
+        return 0;
+    }
+    (u64::count_ones(f.a)
+        + u64::count_ones(f.b)
+        + u64::count_ones(f.c)
+        + u64::count_ones(f.d)) as usize
+}
+
+// The switches of a vCPU, from its last four to its first.
+fn find(words: &[u64], v: usize) -> Found
     requires { ⌜ v < 16 ⌝ }
-    ensures { λ r. ⌜ r ≡ length (switchesFrom (now (words .entry)) (v * 16384) 16384) ⌝ }
+    ensures { λ r. ⌜ Marked (now (words .entry)) v (r .on) (r .fours) ⌝ }
 {
-    let first = v * BLOCK_WORDS + MSRS;
-    let end = v * BLOCK_WORDS + BLOCK_WORDS;
-    let mut n = 0;
-    let mut i = scan(words, first, end);
-    while i < end {
-        n += u64::count_ones(words[i]) as usize;
-        i = scan(words, i + 1, end);
+    let mut on = 0;
+    let mut fours = 0;
+    let mut j = 64;
+    while 0 < j {
+        j -= 1;
+        let more = count_four(read_four(words, v, j));
+        on += more;
+        fours = if more == 0 { 2 * fours } else { 2 * fours + 1 };
     }
-    n
+    Found { on, fours }
 }
 
-// How many switches of the first n vCPUs are on.
-fn count_on(words: &[u64], n: usize) -> usize
-    requires { ⌜ n ≤ 16 ⌝ }
-    ensures { λ r. ⌜ r ≡ length (switchesFrom (now (words .entry)) 0 (n * 16384)) ⌝ }
+// How many switches of the first n vCPUs are on, with the marks of their fours.
+fn find_all(words: &[u64], n: usize, marks: &mut [u64]) -> usize
+    requires { ⌜ (n ≤ 16) × (n ≤ length (now marks)) ⌝ }
+    ensures { λ r. ⌜ (r ≡ length (switchesFrom (now (words .entry)) 0 (n * 16384))) × Marks (now (words .entry)) n (now (marks .exit)) ⌝ }
 {
     let mut on = 0;
     let mut v = 0;
     while v < n {
-        on += count_vcpu(words, v);
+        let found = find(words, v);
+        marks[v] = found.fours;
+        on += found.on;
         v += 1;
     }
     on
@@ -107,8 +115,8 @@ fn put_ms(out: &mut [u8], at: usize, g: usize)
 
 // The MS records of the bits of a word, whose lowest has the place g. Gives the place behind them.
 fn put_bits(out: &mut [u8], at: usize, g: usize, w: u64) -> usize
-    requires { ⌜ (g + 64 ≤ 262144) × (at + 8 * length (bitsFrom w g 64) ≤ length (now out)) ⌝ }
-    ensures { λ r. ⌜ Put (now (out .entry)) at (bitsFrom w g 64) (now (out .exit)) r ⌝ }
+    requires { ⌜ (g + 64 ≤ 262144) × (at + 8 * length (bitsFrom oneAt w g 64) ≤ length (now out)) ⌝ }
+    ensures { λ r. ⌜ Put (now (out .entry)) at (bitsFrom oneAt w g 64) (now (out .exit)) r ⌝ }
 {
     let mut to = at;
     let mut p = g;
@@ -123,31 +131,45 @@ fn put_bits(out: &mut [u8], at: usize, g: usize, w: u64) -> usize
     to
 }
 
-// The MS records of a vCPU. Gives the place behind them.
-fn put_vcpu(out: &mut [u8], at: usize, words: &[u64], v: usize) -> usize
-    requires { ⌜ (v < 16) × (at + 8 * length (switchesFrom (now words) (v * 16384) 16384) ≤ length (now out)) ⌝ }
-    ensures { λ r. ⌜ Put (now (out .entry)) at (switchesFrom (now (words .entry)) (v * 16384) 16384) (now (out .exit)) r ⌝ }
+// The MS records of the bits of four words, whose lowest has the place g. Gives the place behind them.
+fn put_four(out: &mut [u8], at: usize, g: usize, f: Four) -> usize
+    requires { ⌜ (g + 256 ≤ 262144) × (at + 8 * length (fourBits f g) ≤ length (now out)) ⌝ }
+    ensures { λ r. ⌜ Put (now (out .entry)) at (fourBits f g) (now (out .exit)) r ⌝ }
 {
-    let first = v * BLOCK_WORDS + MSRS;
-    let end = v * BLOCK_WORDS + BLOCK_WORDS;
+    let b = put_bits(out, at, g, f.a);
+    let c = put_bits(out, b, g + 64, f.b);
+    let d = put_bits(out, c, g + 128, f.c);
+    put_bits(out, d, g + 192, f.d)
+}
+
+// The MS records of the fours of a vCPU that are marked. Gives the place behind them.
+fn put_vcpu(out: &mut [u8], at: usize, words: &[u64], v: usize, fours: u64) -> usize
+    requires { ⌜ (v < 16) × (at + 8 * length (bitsFrom (fourOf (now words) v) fours 0 64) ≤ length (now out)) ⌝ }
+    ensures { λ r. ⌜ Put (now (out .entry)) at (bitsFrom (fourOf (now (words .entry)) v) fours 0 64) (now (out .exit)) r ⌝ }
+{
     let mut to = at;
-    let mut i = scan(words, first, end);
-    while i < end {
-        to = put_bits(out, to, v * SWITCHES + (i - first) * BITS, words[i]);
-        i = scan(words, i + 1, end);
+    let mut j = 0;
+    let mut x = fours;
+    while x != 0 {
+        let k = u64::trailing_zeros(x) as usize;
+        let i = j + k;
+        let f = read_four(words, v, i);
+        to = put_four(out, to, v * SWITCHES + FOUR * i, f);
+        j += k + 1;
+        x = x >> k >> 1;
     }
     to
 }
 
-// The MS records of the first n vCPUs.
-fn put_switches(out: &mut [u8], at: usize, words: &[u64], n: usize)
-    requires { ⌜ (n ≤ 16) × (at + 8 * length (switchesFrom (now words) 0 (n * 16384)) ≤ length (now out)) ⌝ }
+// The MS records of the first n vCPUs, by the marks of their fours.
+fn put_switches(out: &mut [u8], at: usize, words: &[u64], n: usize, marks: &[u64])
+    requires { ⌜ (n ≤ 16) × (n ≤ length (now marks)) × Marks (now words) n (now marks) × (at + 8 * length (switchesFrom (now words) 0 (n * 16384)) ≤ length (now out)) ⌝ }
     ensures { λ _. ⌜ now (out .exit) ≡ store (now (out .entry)) at (msBytes (switchesFrom (now (words .entry)) 0 (n * 16384))) ⌝ }
 {
     let mut to = at;
     let mut v = 0;
     while v < n {
-        to = put_vcpu(out, to, words, v);
+        to = put_vcpu(out, to, words, v, marks[v]);
         v += 1;
     }
 }
@@ -156,7 +178,8 @@ fn put_switches(out: &mut [u8], at: usize, words: &[u64], n: usize)
 pub fn count(words: &[u64], n: u16) -> usize
     ensures { λ r. ⌜ r ≡ length (msrsOf (now (words .entry)) 0 (min n 16)) ⌝ }
 {
-    count_on(words, smaller(n as usize, 16))
+    let mut marks = [0u64; 16];
+    find_all(words, wire::smaller(n as usize, 16), &mut marks)
 }
 
 // The MS records of these switches at a place, where there is room for all of them. Gives how many there are.
@@ -164,13 +187,14 @@ pub fn put(out: &mut [u8], at: usize, words: &[u64], n: u16) -> usize
     ensures { λ r. ⌜ r ≡ length (msrsOf (now (words .entry)) 0 (min n 16)) ⌝ }
     ensures { λ r. ⌜ now (out .exit) ≡ store (now (out .entry)) at (msBytes (msrsOf (now (words .entry)) 0 (min n 16))) ⌝ }
 {
-    let held = smaller(n as usize, 16);
-    let on = count_on(words, held);
+    let held = wire::smaller(n as usize, 16);
+    let mut marks = [0u64; 16];
+    let on = find_all(words, held, &mut marks);
     if out.len() < at {
         return on;
     }
     if 8 * on <= out.len() - at {
-        put_switches(out, at, words, held);
+        put_switches(out, at, words, held, &marks);
     }
     on
 }

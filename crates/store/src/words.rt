@@ -39,7 +39,7 @@ pub struct Pending {
 }
 
 // The word at a place, or 0 past the end.
-fn word(words: &[u64], at: usize) -> u64
+pub fn word(words: &[u64], at: usize) -> u64
     ensures { λ r. ⌜ r ≡ getD (now (words .entry)) at 0 ⌝ }
 {
     if at < words.len() { words[at] } else { 0 }

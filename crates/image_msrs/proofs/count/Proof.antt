@@ -7,11 +7,15 @@ use Rattle.image_msrs.proofs.count.Tie as tie
 smaller-requires : tie.Need-smaller-requires
 smaller-requires c κs = search needs
 
-count-on-requires : tie.Need-count-on-requires
-count-on-requires c κs = search needs
+slice-aggregate-find-all : tie.Need-slice-aggregate-find-all
+slice-aggregate-find-all c = search needs
+
+find-all-requires : tie.Need-find-all-requires
+find-all-requires c κs = search needs
 
 returns : tie.Need-returns
-returns c = counted _ _ (c .before .smaller .ensures) (c .count-on .ensures)
+returns c = counted _ _ (c .before .before .before .smaller .ensures) (c .before .find-all .ensures .0)
 
 pub count-spec : {M : Type 1} → statement M
-count-spec = tie.close (tie.spec smaller-requires count-on-requires returns)
+count-spec =
+    tie.close (tie.spec smaller-requires slice-aggregate-find-all find-all-requires returns)

@@ -5,14 +5,14 @@ use native.Mathlib.Omega.{arith}
 use lib.Count.{trailingZeros, trailing-le}
 use Rattle.kvmi.specs.Record.{MS}
 use Rattle.laws.proofs.Record.{length-write}
-use Rattle.image_msrs.specs.Switches.{msBytes, bitsFrom}
+use Rattle.image_msrs.specs.Switches.{msBytes, bitsFrom, oneAt}
 use Rattle.image_msrs.proofs.Stores.{Going, going-start, going-step}
 use Rattle.image_msrs.proofs.Switches.{going-put, lowest, bits-none, ms-first, ms-nil, ms-room, length-ms}
 use Rattle.image_msrs.proofs.put_bits.Statement.{statement}
 use Rattle.image_msrs.proofs.put_bits.Tie as tie
 
 abbrev Inv-loop : tie.InvT-loop
-Inv-loop out₀ at g w to₀ p₀ x₀ out to p x = (g ≤ p) × (p ≤ g + 64) × (x < 2 ^ (g + 64 - p)) × Going out₀ at (msBytes (bitsFrom w g 64)) out to (msBytes (bitsFrom x p (g + 64 - p)))
+Inv-loop out₀ at g w to₀ p₀ x₀ out to p x = (g ≤ p) × (p ≤ g + 64) × (x < 2 ^ (g + 64 - p)) × Going out₀ at (msBytes (bitsFrom oneAt w g 64)) out to (msBytes (bitsFrom oneAt x p (g + 64 - p)))
 
 abbrev μ-loop : tie.MeasureT-loop
 μ-loop out₀ at g w to₀ p₀ x₀ out to p x = g + 64 - p
@@ -30,14 +30,14 @@ add-put-ms c = omega (arith, trailing-le 64 (c .before .before .loop .x))
 
 put-ms-requires : tie.Need-put-ms-requires Inv-loop μ-loop
 put-ms-requires c κs =
-    let low = lowest (c .before .before .loop .x) (c .before .before .loop .p) (c .before .before .before .before .args .g + 64 - c .before .before .loop .p) 64 (c .before .loop-test .taken) (c .before .before .loop .inv .2) (omega arith) in
+    let low = lowest oneAt (c .before .before .loop .x) (c .before .before .loop .p) (c .before .before .before .before .args .g + 64 - c .before .before .loop .p) 64 (c .before .loop-test .taken) (c .before .before .loop .inv .2) (omega arith) in
     let room = ms-room low in
     let g = c .before .before .loop .inv .3 in
     omega (arith, low .inside, room, g .room, g .kept)
 
 add-to : tie.Need-add-to Inv-loop μ-loop
 add-to c =
-    let low = lowest (c .before .before .before .before .before .loop .x) (c .before .before .before .before .before .loop .p) (c .before .before .before .before .before .before .before .args .g + 64 - c .before .before .before .before .before .loop .p) 64 (c .before .before .before .before .loop-test .taken) (c .before .before .before .before .before .loop .inv .2) (omega arith) in
+    let low = lowest oneAt (c .before .before .before .before .before .loop .x) (c .before .before .before .before .before .loop .p) (c .before .before .before .before .before .before .before .args .g + 64 - c .before .before .before .before .before .loop .p) 64 (c .before .before .before .before .loop-test .taken) (c .before .before .before .before .before .loop .inv .2) (omega arith) in
     let room = ms-room low in
     let g = c .before .before .before .before .before .loop .inv .3 in
     omega (arith, room, g .room, g .kept, c .before .before .before .before .before .before .before .good .0 .0)
@@ -50,17 +50,17 @@ add-p-2 c = omega (arith, trailing-le 64 (c .before .before .before .before .bef
 
 shr-x : tie.Need-shr-x Inv-loop μ-loop
 shr-x c =
-    let low = lowest (c .before .before .before .before .before .loop .x) (c .before .before .before .before .before .loop .p) (c .before .before .before .before .before .before .before .args .g + 64 - c .before .before .before .before .before .loop .p) 64 (c .before .before .before .before .loop-test .taken) (c .before .before .before .before .before .loop .inv .2) (omega arith) in
+    let low = lowest oneAt (c .before .before .before .before .before .loop .x) (c .before .before .before .before .before .loop .p) (c .before .before .before .before .before .before .before .args .g + 64 - c .before .before .before .before .before .loop .p) 64 (c .before .before .before .before .loop-test .taken) (c .before .before .before .before .before .loop .inv .2) (omega arith) in
     omega (arith, low .inside)
 
 loop-less : tie.Need-loop-less Inv-loop μ-loop
 loop-less c =
-    let low = lowest (c .before .before .before .before .before .loop .x) (c .before .before .before .before .before .loop .p) (c .before .before .before .before .before .before .before .args .g + 64 - c .before .before .before .before .before .loop .p) 64 (c .before .before .before .before .loop-test .taken) (c .before .before .before .before .before .loop .inv .2) (omega arith) in
+    let low = lowest oneAt (c .before .before .before .before .before .loop .x) (c .before .before .before .before .before .loop .p) (c .before .before .before .before .before .before .before .args .g + 64 - c .before .before .before .before .before .loop .p) 64 (c .before .before .before .before .loop-test .taken) (c .before .before .before .before .before .loop .inv .2) (omega arith) in
     omega (arith, low .inside)
 
 loop-again : tie.Need-loop-again Inv-loop μ-loop
 loop-again c =
-    let low = lowest (c .before .before .before .before .before .loop .x) (c .before .before .before .before .before .loop .p) (c .before .before .before .before .before .before .before .args .g + 64 - c .before .before .before .before .before .loop .p) 64 (c .before .before .before .before .loop-test .taken) (c .before .before .before .before .before .loop .inv .2) (omega arith) in
+    let low = lowest oneAt (c .before .before .before .before .before .loop .x) (c .before .before .before .before .before .loop .p) (c .before .before .before .before .before .before .before .args .g + 64 - c .before .before .before .before .before .loop .p) 64 (c .before .before .before .before .loop-test .taken) (c .before .before .before .before .before .loop .inv .2) (omega arith) in
     let k = trailingZeros 64 (c .before .before .before .before .before .loop .x) in
     let left : c .before .before .before .before .before .before .before .args .g + 64 - c .before .before .before .before .before .loop .p - (k + 1) ≡ c .before .before .before .before .before .before .before .args .g + 64 - (c .before .before .before .before .before .loop .p + (k + 1)) = omega (arith, low .inside) in
     let next = ap msBytes (low .first) ∙ ms-first _ _ in
