@@ -87,7 +87,7 @@ pub fn measure(count: u32, used: u64, vcpus: &[u64], pages: &[u64]) -> usize
     ensures { λ r. ⌜ ((events ready : ℕ) → r ≡ length (image (statedOf events ready count used (now (vcpus .entry)) (now (pages .entry))))) ⌝ }
 {
     let n = stated(count);
-    let held = image_msrs::smaller(used as usize, pages.len());
+    let held = wire::smaller(used as usize, pages.len());
     let on = image_msrs::count(vcpus, n);
     size_of(n, on, held)
 }
@@ -106,7 +106,7 @@ pub fn put(
     ensures { λ r. ⌜ (r ≡ length (image (statedOf events ready count used (now (vcpus .entry)) (now (pages .entry))))) × (now (out .exit) ≡ store (now (out .entry)) 0 (image (statedOf events ready count used (now (vcpus .entry)) (now (pages .entry))))) ⌝ }
 {
     let n = stated(count);
-    let held = image_msrs::smaller(used as usize, pages.len());
+    let held = wire::smaller(used as usize, pages.len());
     let room = less(out.len(), 14 * held + 6);
     let on = image_msrs::put(&mut out[..room], 8 + 10 * (n as usize), vcpus, n);
     let size = size_of(n, on, held);

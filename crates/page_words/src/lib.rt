@@ -37,13 +37,6 @@ pub struct PageEntry {
     pub access: u8,
 }
 
-// The smaller of two numbers.
-fn smaller(a: usize, b: usize) -> usize
-    ensures { λ r. ⌜ r ≡ min a b ⌝ }
-{
-    if a < b { a } else { b }
-}
-
 // 1 where a word's key is below another and 0 where not: the top bit of a difference, so that nothing branches on it.
 fn is_below(word: u64, key: u64) -> usize
     ensures { λ r. ⌜ r ≡ bit (ltb (wordKey word) key) ⌝ }
@@ -61,7 +54,7 @@ pub fn place(words: &[u64], count: usize, key: u64) -> usize
     ensures { λ r. ⌜ r ≡ placeOf (now (words .entry)) (min count (length (now (words .entry)))) key ⌝ }
 {
     let mut base = 0;
-    let mut len = smaller(count, words.len());
+    let mut len = wire::smaller(count, words.len());
     while len > 0 {
         let half = len / 2;
         let below = is_below(words[base + half], key);
@@ -138,7 +131,7 @@ fn add_word(
     if access == RWX {
         return Taken { count, skipped };
     }
-    if count < smaller(limit, words.len()) {
+    if count < wire::smaller(limit, words.len()) {
         insert(words, count, at, key * 8 + (access as u64));
         Taken {
             count: count + 1,
@@ -203,13 +196,13 @@ pub fn put_entries(
 {
     let first = ((view % 8) as u64) * PAGES;
     let mut t = Taken {
-        count: smaller(count, words.len()),
+        count: wire::smaller(count, words.len()),
         skipped: false,
     };
     let mut i = 0;
     while i < n {
-        let a = smaller((i as usize) * 16, d.len());
-        let b = smaller(a + 16, d.len());
+        let a = wire::smaller((i as usize) * 16, d.len());
+        let b = wire::smaller(a + 16, d.len());
         let e = read_entry(&d[a..b]);
         t = put_entry(words, t.count, limit, first + e.page, e.access, t.skipped);
         i += 1;

@@ -5,7 +5,7 @@ use kvmi::ReplyKind;
 use kvmi::Settings;
 ghost use mathlib.Core.Path.{_≡_};
 ghost use mathlib.Core.List.{[], _++_};
-ghost use Prim.Native.Nat.{_+_, _≤_, min};
+ghost use Prim.Native.Nat.{_+_, _≤_};
 ghost use lib.ListN.{length};
 ghost use Rattle.wire.specs.Bytes.{le, store};
 ghost use Rattle.kvmi.specs.Codes.{isError};
@@ -50,19 +50,13 @@ fn is_error(code: i32) -> bool
     code < 0
 }
 
-fn least(a: usize, b: usize) -> usize
-    ensures { λ r. ⌜ r ≡ min a b ⌝ }
-{
-    if a <= b { a } else { b }
-}
-
 // The bytes of guest memory that VM_READ_PHYSICAL asks for, as many as there are.
 fn memory(guest: &[u8], d: &[u8]) -> Contents
     ensures { λ r. ⌜ Picked (now (guest .entry)) (now (d .entry)) r ⌝ }
 {
     let n = guest.len();
-    let from = least(wire::load64(d, 0) as usize, n);
-    let count = least(wire::load64(d, 8) as usize, n - from);
+    let from = wire::smaller(wire::load64(d, 0) as usize, n);
+    let count = wire::smaller(wire::load64(d, 8) as usize, n - from);
     Contents::Memory { from, count }
 }
 

@@ -10,15 +10,9 @@ use session::Session;
 use store::words::VCPU_WORDS;
 use store::words::VcpuWords;
 use stream::End;
-ghost use Prim.Native.Nat.{_≤_, min};
+ghost use Prim.Native.Nat.{_≤_};
 ghost use mathlib.Core.Path.{_≡_};
 ghost use lib.ListN.{length};
-
-fn least(a: usize, b: usize) -> usize
-    ensures { λ r. ⌜ r ≡ min a b ⌝ }
-{
-    if a <= b { a } else { b }
-}
 
 // Where the message that begins at a place ends, or the stream, if that is sooner.
 fn message_end(all: &[u8], at: usize) -> usize
@@ -27,9 +21,9 @@ fn message_end(all: &[u8], at: usize) -> usize
     ensures { λ r. ⌜ r ≤ length (now (all .entry)) ⌝ }
 {
     let left = all.len() - at;
-    let head = at + least(8, left);
+    let head = at + wire::smaller(8, left);
     let whole = stream::extent(&all[at..head]);
-    at + least(whole, left)
+    at + wire::smaller(whole, left)
 }
 
 // The last line.

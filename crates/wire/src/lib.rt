@@ -2,7 +2,7 @@
 // Every public function takes any slice and any place: a number that is not all inside reads as 0, and a store that is
 // not all inside changes nothing.
 ghost use mathlib.Core.Path.{_≡_};
-ghost use Prim.Native.Nat.{_+_, _*_, _≤_};
+ghost use Prim.Native.Nat.{_+_, _*_, _≤_, min};
 ghost use lib.Dec.{leb};
 ghost use lib.ListN.{length, getD, replicate};
 ghost use Rattle.wire.specs.Bytes.{le, load, store};
@@ -13,6 +13,13 @@ ghost use Rattle.wire.specs.Code.{negated, twos, codeBytes};
 pub enum Header {
     Whole { id: u16, size: u16, seq: u32 },
     Broken,
+}
+
+// The smaller of two numbers.
+pub fn smaller(a: usize, b: usize) -> usize
+    ensures { λ r. ⌜ r ≡ min a b ⌝ }
+{
+    if a < b { a } else { b }
 }
 
 // Whether k bytes at a place lie inside n. Nothing here can wrap, whatever the place.
