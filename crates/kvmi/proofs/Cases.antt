@@ -25,24 +25,24 @@ use Rattle.kvmi.proofs.ImageEdges.{ofImages, pageLimitLoads, pageLimitS
 abbrev Right : List Case → Type 0
 Right cs = map seen cs ≡ map (λ (c : Case). c .expected) cs
 
-pub cases-right : Right cases
-unfolding le num load store isWhole headerOf twos codeBytes bitOf isOn putBit bitsHave writeRow readRow inRange isSet allowsCommand allowsEvent canSinglestep uncatchable heldByHost isCr crBit isMsr nextSeq layoutOf sizeFits namesVcpu vcpuOf enableAt enables switchesAt eventOf registerOf gpaOf sizeOf countOf countFits viewOf entryOf entriesOf entryPadding padding firstNonZero firstOfRuns firstPadding isVmEvent isVcpuEvent takesEvent isAccess inOnePage isInvalid isUnready isDenied isUnsupported isBusy pageExists isAbsent changeOf losesErrors commandVerdict isAwaited eventReplyVerdict verdict isSkipped setPage takeEntry takeEntries setMsr apply messageBytes replyBytes replyData eventBytes pauseEvent commandErrorEvent answerBytes answerSeq answerOf kindAt image vmForm isIdle vcForm msForm paForm vmMay mayEnable vcMay paMay loadImage beginFresh beginFrom answering judged headed messageStep readyStep pausing enterStep imageStep step seen
-cases-right = refl
-
 abbrev As-expected : List Edge → Type 0
 As-expected es = map outcome es ≡ map (λ (e : Edge). e .expected) es
 
+computed : Right cases × As-expected ofMessages × As-expected ofSessions × As-expected ofImages
+unfolding le num load store isWhole headerOf twos codeBytes bitOf isOn putBit bitsHave writeRow readRow inRange isSet allowsCommand allowsEvent canSinglestep uncatchable heldByHost isCr crBit isMsr nextSeq layoutOf sizeFits namesVcpu vcpuOf enableAt enables switchesAt eventOf registerOf gpaOf sizeOf countOf countFits viewOf entryOf entriesOf entryPadding padding firstNonZero firstOfRuns firstPadding isVmEvent isVcpuEvent takesEvent isAccess inOnePage isInvalid isUnready isDenied isUnsupported isBusy pageExists isAbsent changeOf losesErrors commandVerdict isAwaited eventReplyVerdict verdict isSkipped setPage takeEntry takeEntries setMsr apply messageBytes replyBytes replyData eventBytes pauseEvent commandErrorEvent answerBytes answerSeq answerOf kindAt image vmForm isIdle vcForm msForm paForm vmMay mayEnable vcMay paMay loadImage beginFresh beginFrom answering judged headed messageStep readyStep pausing enterStep imageStep step seen outcome
+computed = (refl, refl, refl, refl)
+
+pub cases-right : Right cases
+cases-right = computed .0
+
 pub of-messages-right : As-expected ofMessages
-unfolding le num load store isWhole headerOf twos codeBytes bitOf isOn putBit bitsHave writeRow readRow inRange isSet allowsCommand allowsEvent canSinglestep uncatchable heldByHost isCr crBit isMsr nextSeq layoutOf sizeFits namesVcpu vcpuOf enableAt enables switchesAt eventOf registerOf gpaOf sizeOf countOf countFits viewOf entryOf entriesOf entryPadding padding firstNonZero firstOfRuns firstPadding isVmEvent isVcpuEvent takesEvent isAccess inOnePage isInvalid isUnready isDenied isUnsupported isBusy pageExists isAbsent changeOf losesErrors commandVerdict isAwaited eventReplyVerdict verdict isSkipped setPage takeEntry takeEntries setMsr apply messageBytes replyBytes replyData eventBytes pauseEvent commandErrorEvent answerBytes answerSeq answerOf kindAt image vmForm isIdle vcForm msForm paForm vmMay mayEnable vcMay paMay loadImage beginFresh beginFrom answering judged headed messageStep readyStep pausing enterStep imageStep step outcome
-of-messages-right = refl
+of-messages-right = computed .1
 
 pub of-sessions-right : As-expected ofSessions
-unfolding le num load store isWhole headerOf twos codeBytes bitOf isOn putBit bitsHave writeRow readRow inRange isSet allowsCommand allowsEvent canSinglestep uncatchable heldByHost isCr crBit isMsr nextSeq layoutOf sizeFits namesVcpu vcpuOf enableAt enables switchesAt eventOf registerOf gpaOf sizeOf countOf countFits viewOf entryOf entriesOf entryPadding padding firstNonZero firstOfRuns firstPadding isVmEvent isVcpuEvent takesEvent isAccess inOnePage isInvalid isUnready isDenied isUnsupported isBusy pageExists isAbsent changeOf losesErrors commandVerdict isAwaited eventReplyVerdict verdict isSkipped setPage takeEntry takeEntries setMsr apply messageBytes replyBytes replyData eventBytes pauseEvent commandErrorEvent answerBytes answerSeq answerOf kindAt image vmForm isIdle vcForm msForm paForm vmMay mayEnable vcMay paMay loadImage beginFresh beginFrom answering judged headed messageStep readyStep pausing enterStep imageStep step outcome
-of-sessions-right = refl
+of-sessions-right = computed .2
 
 pub of-images-right : As-expected ofImages
-unfolding le num load store isWhole headerOf twos codeBytes bitOf isOn putBit bitsHave writeRow readRow inRange isSet allowsCommand allowsEvent canSinglestep uncatchable heldByHost isCr crBit isMsr nextSeq layoutOf sizeFits namesVcpu vcpuOf enableAt enables switchesAt eventOf registerOf gpaOf sizeOf countOf countFits viewOf entryOf entriesOf entryPadding padding firstNonZero firstOfRuns firstPadding isVmEvent isVcpuEvent takesEvent isAccess inOnePage isInvalid isUnready isDenied isUnsupported isBusy pageExists isAbsent changeOf losesErrors commandVerdict isAwaited eventReplyVerdict verdict isSkipped setPage takeEntry takeEntries setMsr apply messageBytes replyBytes replyData eventBytes pauseEvent commandErrorEvent answerBytes answerSeq answerOf kindAt image vmForm isIdle vcForm msForm paForm vmMay mayEnable vcMay paMay loadImage beginFresh beginFrom answering judged headed messageStep readyStep pausing enterStep imageStep step outcome
-of-images-right = refl
+of-images-right = computed .3
 
 -- the skip rule
 pub skips-right : skips ≡ skipsSeen
