@@ -14,7 +14,7 @@ use Rattle.message.specs.Message.{messageOf}
 use Rattle.entry.specs.Entry.{enterOf}
 use Rattle.image_writer.specs.Write.{statedTables, imageOf}
 use Rattle.image_reader.specs.Read.{readOf}
-use Rattle.calls.specs.declared.Done.{Done}
+use Rattle.calls.specs.declared.Returned.{Returned}
 
 -- "signal: none, kick(vCPU, wait), crash(vCPU)"
 abbrev pub signalNumber : Signal → ℕ
@@ -41,7 +41,7 @@ abbrev pub resultWords : Paper → List ℕ
 resultWords p = p .count ∷ p .offset ∷ signalNumber (p .signal) ∷ signalVcpu (p .signal) ∷ signalWaits (p .signal) ∷ []
 
 pub record Given : Type 0 where
-  pub done : Done
+  pub done : Returned
   pub vcpus : List ℕ
   pub pages : List ℕ
   pub out : List ℕ

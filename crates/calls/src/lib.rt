@@ -18,7 +18,7 @@ pub const RESULT_WORDS: usize = 5;
 pub type ResultWords = [u64; RESULT_WORDS];
 
 // What a call gives: the answer's number, and the session after it.
-pub struct Done {
+pub struct Returned {
     pub code: u32,
     pub session: Session,
 }
@@ -75,13 +75,13 @@ fn put_result(result: &mut ResultWords, a: Answer) -> u32
 }
 
 // What a call of `session` gave, as a host has it.
-fn finish(done: session::Done, result: &mut ResultWords) -> Done
+fn finish(done: session::Done, result: &mut ResultWords) -> Returned
     ensures { λ r. ⌜ (r ≡ given (told done [] [] [] []) .done) × (now (result .exit) ≡ given (told done [] [] [] []) .result) ⌝ }
 {
     let answer = done.answer;
     let session = done.session;
     let code = put_result(result, answer);
-    Done { code, session }
+    Returned { code, session }
 }
 
 // A vCPU number of a host, which may be any: past u16, the last u16, which no session has.
@@ -99,7 +99,7 @@ pub fn fresh(
     vcpus: &mut VcpuWords,
     pages: &mut PageWords,
     result: &mut ResultWords,
-) -> Done
+) -> Returned
     ensures { λ r. ⌜ (r ≡ freshGiven s (now (vcpus .entry)) (now (pages .entry)) .done)
         × (now (vcpus .exit) ≡ freshGiven s (now (vcpus .entry)) (now (pages .entry)) .vcpus)
         × (now (pages .exit) ≡ freshGiven s (now (vcpus .entry)) (now (pages .entry)) .pages)
@@ -111,7 +111,7 @@ pub fn fresh(
 }
 
 // A vCPU can be introspected from now on.
-pub fn ready(s: Session, vcpu: u32, result: &mut ResultWords) -> Done
+pub fn ready(s: Session, vcpu: u32, result: &mut ResultWords) -> Returned
     ensures { λ r. ⌜ (r ≡ readyGiven s vcpu .done)
         × (now (result .exit) ≡ readyGiven s vcpu .result) ⌝ }
 {
@@ -128,7 +128,7 @@ pub fn message(
     out: &mut [u8],
     guest: &mut [u8],
     result: &mut ResultWords,
-) -> Done
+) -> Returned
     ensures { λ r. ⌜ (r ≡ messageGiven s (now (vcpus .entry)) (now (pages .entry)) (now (msg .entry)) (now (out .entry)) (now (guest .entry)) .done)
         × (now (vcpus .exit) ≡ messageGiven s (now (vcpus .entry)) (now (pages .entry)) (now (msg .entry)) (now (out .entry)) (now (guest .entry)) .vcpus)
         × (now (pages .exit) ≡ messageGiven s (now (vcpus .entry)) (now (pages .entry)) (now (msg .entry)) (now (out .entry)) (now (guest .entry)) .pages)
@@ -148,7 +148,7 @@ pub fn enter(
     block: &[u8],
     out: &mut [u8],
     result: &mut ResultWords,
-) -> Done
+) -> Returned
     ensures { λ r. ⌜ (r ≡ enterGiven s (now (vcpus .entry)) vcpu (now (block .entry)) (now (out .entry)) .done)
         × (now (vcpus .exit) ≡ enterGiven s (now (vcpus .entry)) vcpu (now (block .entry)) (now (out .entry)) .vcpus)
         × (now (out .exit) ≡ enterGiven s (now (vcpus .entry)) vcpu (now (block .entry)) (now (out .entry)) .out)
@@ -165,7 +165,7 @@ pub fn image_read(
     pages: &mut PageWords,
     image: &[u8],
     result: &mut ResultWords,
-) -> Done
+) -> Returned
     ensures { λ r. ⌜ (r ≡ readGiven s (now (vcpus .entry)) (now (pages .entry)) (now (image .entry)) .done)
         × (now (vcpus .exit) ≡ readGiven s (now (vcpus .entry)) (now (pages .entry)) (now (image .entry)) .vcpus)
         × (now (pages .exit) ≡ readGiven s (now (vcpus .entry)) (now (pages .entry)) (now (image .entry)) .pages)

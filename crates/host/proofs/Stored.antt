@@ -15,18 +15,18 @@ use types.Part.{Part}
 use denote.Laws.{Is}
 use denote.Struct.Laws as LL
 use Rattle.session.specs.declared.Session.{Session}
-use Rattle.calls.specs.declared.Done.{Done}
+use Rattle.calls.specs.declared.Returned.{Returned}
 use Rattle.session.proofs.Tool as T
 use Rattle.session.proofs.Shared as H′
 use Rattle.session.proofs.Shared.Laws as H″
 use Rattle.session.proofs.Tool.Laws as T′
 use Rattle.session.proofs.Session as S
 use Rattle.session.proofs.Session.Laws as S′
-use Rattle.calls.proofs.Done as D
-use Rattle.calls.proofs.Done.Laws as D′
+use Rattle.calls.proofs.Returned as D
+use Rattle.calls.proofs.Returned.Laws as D′
 
 -- the relations of the code, of the Session and of what is stored of it, out of that of the callee's result
-module _ (d : Done) (vs : List Val) (is : Is D.the-row d vs) where
+module _ (d : Returned) (vs : List Val) (is : Is D.the-row d vs) where
   pub code-fits : d .code < 2 ^ 32
   code-fits = LL.owed D.the-type D′.the-laws d vs is .0 .1
 
@@ -58,7 +58,7 @@ abbrev mach : Session → Val
 mach s = LL.val S.the-type S′.the-laws s
 
 -- where the Session that the stores leave is the one after the call, the cell holds that
-pub stored : (d : Done) (s : Session) → d .session ≡ s → mach s ≡ mach (d .session)
+pub stored : (d : Returned) (s : Session) → d .session ≡ s → mach s ≡ mach (d .session)
 stored d s e = ap mach (sym e)
 
 -- behind a reference a struct's fields stand at types without names, and code stores them at types with names: a cell at the one is a cell at the other

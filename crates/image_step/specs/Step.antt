@@ -112,8 +112,8 @@ stepBy s l p En = enStep s (length l) p (rowAt EN l (p .at))
 stepBy s l p Cut = Stop (BadForm (p .at))
 
 -- the next record
-unfoldable pub stepOf : Settings → List ℕ → Progress → Step
-stepOf s l p = stepBy s l p (markAt l (p .at))
+unfoldable pub nextStepOf : Settings → List ℕ → Progress → Step
+nextStepOf s l p = stepBy s l p (markAt l (p .at))
 
 -- the first record, by its kind: "one VM" comes first
 unfoldable pub firstBy : Settings → List ℕ → Mark → Step

@@ -8,7 +8,7 @@ ghost use Rattle.kvmi.specs.Record.{VM, VC, MS, PA, EN};
 ghost use Rattle.image_form.specs.Form.{markAt, rowAt};
 ghost use Rattle.image_step.specs.declared.Outcome.the-variants.{BadForm, Forbidden};
 ghost use Rattle.image_step.specs.declared.Step.the-variants.{Stop};
-ghost use Rattle.image_step.specs.Step.{isAfter, vmStep, vcStep, msStep, paStep, enStep, stepOf, firstBy};
+ghost use Rattle.image_step.specs.Step.{isAfter, vmStep, vcStep, msStep, paStep, enStep, nextStepOf, firstBy};
 
 // What the tests of a record ask of those before it.
 pub struct Progress {
@@ -240,7 +240,7 @@ fn step_en(s: Settings, l: &[u8], p: Progress) -> Step
 
 // The test of the record that comes next.
 pub fn next_step(s: Settings, l: &[u8], p: Progress) -> Step
-    ensures { λ r. ⌜ r ≡ stepOf s (now (l .entry)) p ⌝ }
+    ensures { λ r. ⌜ r ≡ nextStepOf s (now (l .entry)) p ⌝ }
 {
     let mark = image_form::mark_at(l, p.at);
     match mark {

@@ -30,7 +30,7 @@ use Rattle.image_step.specs.declared.Progress.{Progress}
 use Rattle.image_step.specs.declared.Outcome.{Outcome}
 use Rattle.image_step.specs.declared.Step.{Step}
 use Rattle.image_step.specs.declared.Step.the-variants.{Next, Stop}
-use Rattle.image_step.specs.Step.{judgeStep, isAfter, firstProgress, pastVc, pastMs, pastPa, vmStep, vcStep, msStep, paStep, endStep, enStep, stepBy, stepOf, firstBy}
+use Rattle.image_step.specs.Step.{judgeStep, isAfter, firstProgress, pastVc, pastMs, pastPa, vmStep, vcStep, msStep, paStep, endStep, enStep, stepBy, nextStepOf, firstBy}
 use Rattle.image_test.specs.Test.{readyLoaded, outcome, Stands, recordsAt, Rest}
 
 -- ---- the numbers of a record
@@ -266,8 +266,8 @@ module _ (s : Settings) (l : List ℕ) (o : Outcome) where
     by-mark En m e = en-goes m e
     by-mark Cut m e = sym (ap outcome (cut-none s (s .vcpus) (p .at) lo t (drop (p .at) l) (mark-cut l (p .at) m))) ∙ e
 
-  pub next-goes : length l < 2 ^ 64 → (p : Progress) → Rest s l p o → Goes (p .at) (stepOf s l p)
-  unfolding stepOf
+  pub next-goes : length l < 2 ^ 64 → (p : Progress) → Rest s l p o → Goes (p .at) (nextStepOf s l p)
+  unfolding nextStepOf
   next-goes fit p r = by-mark fit p (r .tables) (r .least) (r .stands) (markAt l (p .at)) refl (r .goes)
 
   -- ---- the first record

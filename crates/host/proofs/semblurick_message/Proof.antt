@@ -46,7 +46,7 @@ use denote.Exit.{yes}
 use Rattle.session.specs.declared.Session.{Session}
 use Rattle.session.specs.State.{state, withSettings}
 use Rattle.message.proofs.Kept.{message-moves}
-use Rattle.calls.specs.declared.Done.{Done}
+use Rattle.calls.specs.declared.Returned.{Returned}
 use Rattle.calls.specs.Given.{Given as Gives, messageGiven}
 use Rattle.session.proofs.Shared as H′
 use Rattle.session.proofs.Shared.Laws as H″
@@ -54,8 +54,8 @@ use Rattle.session.proofs.Session as S
 use Rattle.session.proofs.Session.Laws as S′
 use Rattle.host.proofs.Lent.{VcpuWords, VcpuSlot, PageWords, PageSlot, ResultWords, ResultSlot}
 use Rattle.host.proofs.Stored.{code-fits, session-is, shared-is, events-fit, pages-fit, opened-fits, mode-fits, seq-fits, stored, unnamed}
-use Rattle.calls.proofs.Done as D
-use Rattle.calls.proofs.Done.Laws as D′
+use Rattle.calls.proofs.Returned as D
+use Rattle.calls.proofs.Returned.Laws as D′
 use Rattle.calls.proofs.message as callee
 use Rattle.calls.proofs.message.Symbol as callee-def
 use Rattle.calls.proofs.message.Symbol.{name as #callee}
@@ -91,12 +91,12 @@ module _ {M : Type 1} (𝓤 : URA M) (H : Heap 𝓤) (A : Atoms 𝓤) (W : Given
   did = messageGiven h (a-vcpus .now) (a-pages .now) (a-msg .now) (a-out .now) (a-guest .now)
 
   -- the Session that the stores leave, which is the one after the call
-  abbrev left : Done → Session
+  abbrev left : Returned → Session
   left d = withSettings (d .session) (h .settings)
 
-  after : (d : Done) → d ≡ did .done → d .session ≡ left d
+  after : (d : Returned) → d ≡ did .done → d .session ≡ left d
   unfolding messageGiven
-  after d e = subst (λ (c : Done). c .session ≡ left c) (sym e) (message-moves (state h (a-vcpus .now) (a-pages .now)) (a-msg .now) (a-out .now) (a-guest .now) .session)
+  after d e = subst (λ (c : Returned). c .session ≡ left c) (sym e) (message-moves (state h (a-vcpus .now) (a-pages .now)) (a-msg .now) (a-out .now) (a-guest .now) .session)
 
   -- the tokens of the callee's lifetimes
   abbrev Tokens : ItemOf 𝓤
@@ -105,12 +105,12 @@ module _ {M : Type 1} (𝓤 : URA M) (H : Heap 𝓤) (A : Atoms 𝓤) (W : Given
   abbrev Post : Val → SProp 𝓤
   Post = walkOf 𝓤 H A f.ended stayed (f.clauses 𝓤 H A at-mem run) .post (((κ, (κ₁, (κ₂, (κ₃, (κ₄, (κ₅, (κ₆, tt))))))), (q, (q₁, (q₂, (q₃, (q₄, (q₅, (q₆, tt))))))), tt, x, at), tt)
 
-  exits : (d : Done) (l-vcpus l-pages l-out l-guest l-result : List ℕ) → d .code < 2 ^ 32 → length l-out ≡ length (a-out .now) → length l-guest ≡ length (a-guest .now) → (d ≡ (did .done)) × (l-vcpus ≡ did .vcpus) × (l-pages ≡ did .pages) × (l-out ≡ did .out) × (l-guest ≡ did .guest) × (l-result ≡ did .result)
+  exits : (d : Returned) (l-vcpus l-pages l-out l-guest l-result : List ℕ) → d .code < 2 ^ 32 → length l-out ≡ length (a-out .now) → length l-guest ≡ length (a-guest .now) → (d ≡ (did .done)) × (l-vcpus ≡ did .vcpus) × (l-pages ≡ did .pages) × (l-out ≡ did .out) × (l-guest ≡ did .guest) × (l-result ≡ did .result)
       → ent 𝓤 (⋆ 𝓤 H A (‵ (fobs γ (S.the-row .coded .code (d .session))) ∷ ‵ (fbor κ (Body (mem S.the-row) b o γ)) ∷ ‵ (flft κ q) ∷ Tokens ∷ ‵ (fres (a-vcpus .name) (VcpuWords .coded .code l-vcpus)) ∷ ‵ (fres (a-pages .name) (PageWords .coded .code l-pages)) ∷ ‵ (ShrSlice (named 3) κ₃ u8 .own a-msg (sliceVal (a-msg .ptr) (length (a-msg .now)) ∷ [])) ∷ ‵ (finally u8 (a-out .name) l-out) ∷ ‵ (finally u8 (a-guest .name) l-guest) ∷ ‵ (fres (a-result .name) (ResultWords .coded .code l-result)) ∷ [])) (Post (vint w32 (d .code)))
   exits d l-vcpus l-pages l-out l-guest l-result fits len-out len-guest e =
       qed W (‵ (fobs γ (S.the-row .coded .code (d .session))) ∷ ‵ (fbor κ (Body (mem S.the-row) b o γ)) ∷ ‵ (flft κ q) ∷ Tokens ∷ ‵ (fres (a-vcpus .name) (VcpuWords .coded .code l-vcpus)) ∷ ‵ (fres (a-pages .name) (PageWords .coded .code l-pages)) ∷ ‵ (ShrSlice (named 3) κ₃ u8 .own a-msg (sliceVal (a-msg .ptr) (length (a-msg .now)) ∷ [])) ∷ ‵ (finally u8 (a-out .name) l-out) ∷ ‵ (finally u8 (a-guest .name) l-guest) ∷ ‵ (fres (a-result .name) (ResultWords .coded .code l-result)) ∷ []) ∵
       suffices ! _ (ends-at 𝓤 H A f.ended stayed (f.clauses 𝓤 H A at-mem run) W (((κ, (κ₁, (κ₂, (κ₃, (κ₄, (κ₅, (κ₆, tt))))))), (q, (q₁, (q₂, (q₃, (q₄, (q₅, (q₆, tt))))))), tt, x, at), tt) (vint w32 (d .code)) (d .code) (d .session, (l-vcpus, (l-pages, (tt, (l-out, (l-guest, (l-result, tt))))))) (tt, (tt, (tt, (tt, (len-out, (len-guest, (tt, tt)))))))) $
-      says ! (ap (λ (c : Done). c .code) (e .0), ap (λ (c : Done). c .session) (e .0), e .1, e .2, e .3, e .4, e .5) $ move ! (2 ∷ 3 ∷ []) $ join ! $ frame ! $ feqI ! (List Val) (vptr b o ∷ []) (vptr b o ∷ []) refl $ fjoin3 ! $ nothing ! $ move ! (7 ∷ 0 ∷ []) $ fjoin ! $ move ! (6 ∷ 0 ∷ []) $ fjoin ! $ move ! (5 ∷ 0 ∷ []) $ fjoin ! $ move ! (4 ∷ 0 ∷ []) $ fjoin ! $ move ! (3 ∷ 0 ∷ []) $ fjoin ! $ move ! (2 ∷ 0 ∷ []) $ fjoin ! $ move ! (1 ∷ 0 ∷ []) $ fjoin ! $
+      says ! (ap (λ (c : Returned). c .code) (e .0), ap (λ (c : Returned). c .session) (e .0), e .1, e .2, e .3, e .4, e .5) $ move ! (2 ∷ 3 ∷ []) $ join ! $ frame ! $ feqI ! (List Val) (vptr b o ∷ []) (vptr b o ∷ []) refl $ fjoin3 ! $ nothing ! $ move ! (7 ∷ 0 ∷ []) $ fjoin ! $ move ! (6 ∷ 0 ∷ []) $ fjoin ! $ move ! (5 ∷ 0 ∷ []) $ fjoin ! $ move ! (4 ∷ 0 ∷ []) $ fjoin ! $ move ! (3 ∷ 0 ∷ []) $ fjoin ! $ move ! (2 ∷ 0 ∷ []) $ fjoin ! $ move ! (1 ∷ 0 ∷ []) $ fjoin ! $
       owned ! u32 (Is u32) (uint-makes 𝓤 H A W w32) (d .code) _ (refl, fits) $ move ! (1 ∷ 0 ∷ []) $ done !
 
   abbrev to : Callee 𝓤 H A at-mem run .Ghost
@@ -124,7 +124,7 @@ module _ {M : Type 1} (𝓤 : URA M) (H : Heap 𝓤) (A : Atoms 𝓤) (W : Given
 
   module _ (C : Calls 𝓤 H) (Λ : Loops 𝓤 H) (fm : FmC 𝓤 H (W .laws) C) (known : Triple 𝓤 (C #callee) (Callee 𝓤 H A at-mem run)) where
     -- what the callee says, at its result d and the last values ws
-    abbrev Said : Done → Lasts callee.ended (κ₁, (κ₂, (κ₃, (κ₄, (κ₅, (κ₆, tt)))))) (h, (a-vcpus, (a-pages, (a-msg, (a-out, (a-guest, (a-result, tt))))))) → Type 0
+    abbrev Said : Returned → Lasts callee.ended (κ₁, (κ₂, (κ₃, (κ₄, (κ₅, (κ₆, tt)))))) (h, (a-vcpus, (a-pages, (a-msg, (a-out, (a-guest, (a-result, tt))))))) → Type 0
     Said d ws = (d ≡ (did .done)) × (ws .1 .0 ≡ did .vcpus) × (ws .1 .1 .0 ≡ did .pages) × (ws .1 .1 .1 .1 .0 ≡ did .out) × (ws .1 .1 .1 .1 .1 .0 ≡ did .guest) × (ws .1 .1 .1 .1 .1 .1 .0 ≡ did .result)
 
     walk : ent 𝓤 (onEntry 𝓤 H A f.signature (κ, (κ₁, (κ₂, (κ₃, (κ₄, (κ₅, (κ₆, tt))))))) (q, (q₁, (q₂, (q₃, (q₄, (q₅, (q₆, tt))))))) x at) (WpFn 𝓤 H C Λ code.function (vptr b o ∷ vptr (a-vcpus .ptr .0) (a-vcpus .ptr .1) ∷ vptr (a-pages .ptr .0) (a-pages .ptr .1) ∷ sliceVal (a-msg .ptr) (length (a-msg .now)) ∷ sliceVal (a-out .ptr) (length (a-out .now)) ∷ sliceVal (a-guest .ptr) (length (a-guest .now)) ∷ vptr (a-result .ptr .0) (a-result .ptr .1) ∷ []) Post)
@@ -154,7 +154,7 @@ module _ {M : Type 1} (𝓤 : URA M) (H : Heap 𝓤) (A : Atoms 𝓤) (W : Given
         -- _8 = message(_9, _10, _11, _4, _13, _15, _16)
         move ! (38 ∷ 39 ∷ 40 ∷ 41 ∷ 42 ∷ 43 ∷ 44 ∷ []) $ join ! $ join ! $ join ! $ join ! $ join ! $ join ! $ use1 W (raw (Callee 𝓤 H A at-mem run .pre to)) (goes-to was) $
         calls-at ! fm (Callee 𝓤 H A at-mem run) known to (and-then ! (load ! (from ! (stop !)) (look ! 19 refl)) (and-then ! (load ! (from ! (stop !)) (look ! 17 refl)) (and-then ! (load ! (from ! (stop !)) (look ! 15 refl)) (and-then ! (load ! (from ! (stop !)) (look ! 29 refl)) (and-then ! (load ! (from ! (stop !)) (look ! 11 refl)) (and-then ! (load ! (from ! (stop !)) (look ! 7 refl)) (and-then ! (load ! (from ! (stop !)) (look ! 5 refl)) (no-more !)))))))) (λ v.
-        use1 W (later (some (λ (d : Done). (Tokens ⊛ ‵ (D.the-row .own d (v ∷ []))) ⊛ raw (ensured 𝓤 H A callee.ended (callee.clauses 𝓤 H A at-mem run) (κ₁, (κ₂, (κ₃, (κ₄, (κ₅, (κ₆, tt)))))) (h, (a-vcpus, (a-pages, (a-msg, (a-out, (a-guest, (a-result, tt))))))) tt d)))) (id⊢ 𝓤 _) $ await ! tt $ pick ! (λ d.
+        use1 W (later (some (λ (d : Returned). (Tokens ⊛ ‵ (D.the-row .own d (v ∷ []))) ⊛ raw (ensured 𝓤 H A callee.ended (callee.clauses 𝓤 H A at-mem run) (κ₁, (κ₂, (κ₃, (κ₄, (κ₅, (κ₆, tt)))))) (h, (a-vcpus, (a-pages, (a-msg, (a-out, (a-guest, (a-result, tt))))))) tt d)))) (id⊢ 𝓤 _) $ await ! tt $ pick ! (λ d.
         -- what the callee says of its result and of the last values
         split ! $ move ! (1 ∷ []) $ use1 W (some (λ (ws : Lasts callee.ended (κ₁, (κ₂, (κ₃, (κ₄, (κ₅, (κ₆, tt)))))) (h, (a-vcpus, (a-pages, (a-msg, (a-out, (a-guest, (a-result, tt)))))))). ‵ (lasts callee.ended (κ₁, (κ₂, (κ₃, (κ₄, (κ₅, (κ₆, tt)))))) (h, (a-vcpus, (a-pages, (a-msg, (a-out, (a-guest, (a-result, tt))))))) ws) ⊛ raw (fact 𝓤 (Said d ws)))) (id⊢ 𝓤 _) $ pick ! (λ ws. split ! $ move ! (1 ∷ []) $ heard ! (Said d ws) (λ e.
         fsplit ! $ drop ! $ fsplit ! $ move ! (1 ∷ []) $ fsplit ! $ move ! (1 ∷ []) $ fsplit ! $ drop ! $ fsplit ! $ fsplit ! $ move ! (1 ∷ []) $ feqL ! (λ len-out. move ! (1 ∷ []) $ fsplit ! $ fsplit ! $ move ! (1 ∷ []) $ feqL ! (λ len-guest. move ! (1 ∷ []) $ fsplit ! $ move ! (1 ∷ []) $ drop ! $ move ! (5 ∷ []) $ split ! $ move ! (1 ∷ []) $ facts ! D.the-row (Is D.the-row) (shows 𝓤 H A D.the-row) d (v ∷ []) (λ is. move ! (6 ∷ 7 ∷ 8 ∷ 9 ∷ []) $

@@ -1,6 +1,6 @@
 -- Each kind by itself. Assumes nothing.
 use mathlib.Core.Path.{sym, _∙_}
-use Rattle.image_step.specs.Step.{stepBy, stepOf}
+use Rattle.image_step.specs.Step.{stepBy, nextStepOf}
 use Rattle.kvmi.specs.Record.{VC, MS, PA, EN}
 use denote.Ref.{now}
 use Rattle.image_form.proofs.Forms.{mark-room}
@@ -48,27 +48,27 @@ refuse-requires-2 : tie.Need-refuse-requires-2
 refuse-requires-2 c κs = search needs
 
 returns : tie.Need-returns
-unfolding stepOf stepBy
+unfolding nextStepOf stepBy
 returns c = rw (← c .before .before .before .mark-at .ensures, c .before .enum-told .given .1) (c .step-vc .ensures)
 
 returns-2 : tie.Need-returns-2
-unfolding stepOf stepBy
+unfolding nextStepOf stepBy
 returns-2 c = rw (← c .before .before .before .mark-at .ensures, c .before .enum-told2 .given .1) (c .step-ms .ensures)
 
 returns-3 : tie.Need-returns-3
-unfolding stepOf stepBy
+unfolding nextStepOf stepBy
 returns-3 c = rw (← c .before .before .before .mark-at .ensures, c .before .enum-told3 .given .1) (c .step-pa .ensures)
 
 returns-4 : tie.Need-returns-4
-unfolding stepOf stepBy
+unfolding nextStepOf stepBy
 returns-4 c = rw (← c .before .before .before .mark-at .ensures, c .before .enum-told4 .given .1) (c .step-en .ensures)
 
 returns-5 : tie.Need-returns-5
-unfolding stepOf stepBy
+unfolding nextStepOf stepBy
 returns-5 c = rw (← c .before .before .before .mark-at .ensures, c .before .enum-told5 .given .1) (c .refuse .ensures)
 
 returns-6 : tie.Need-returns-6
-unfolding stepOf stepBy
+unfolding nextStepOf stepBy
 returns-6 c = rw (← c .before .before .before .mark-at .ensures, c .before .enum-told6 .given .1) (c .refuse2 .ensures)
 
 pub next-step-spec : {M : Type 1} → statement M
