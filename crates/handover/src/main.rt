@@ -171,7 +171,8 @@ fn read_again(held: Held, vcpus: &mut VcpuWords, pages: &mut PageWords, image: &
     read_image(b"A", held, vcpus, pages, &image[..end])
 }
 
-fn take_step(
+// A call on the session: a ready mark, an entry or a message.
+fn take_call(
     letter: u8,
     arg: &[u8],
     held: Held,
@@ -179,19 +180,9 @@ fn take_step(
     pages: &mut PageWords,
     guest: &mut [u8],
     out: &mut [u8],
-    image: &mut [u8],
 ) -> Held {
     let s = held.session;
     match letter {
-        b'F' => begin(vcpus, pages, settings_of(arg), held.image),
-        b'S' => {
-            io::write_all(STDOUT_FILENO, b"S 0 0\n");
-            Held {
-                session: s,
-                settings: settings_of(arg),
-                image: held.image,
-            }
-        }
         b'R' => {
             let done = s.ready(wire::load16(arg, 0));
             let answer = done.answer;
@@ -211,6 +202,37 @@ fn take_step(
             let session = done.session;
             move_to(b"M", held, answer, session)
         }
+        _ => {
+            io::write_all(STDOUT_FILENO, b"unknown step\n");
+            held
+        }
+    }
+}
+
+// Other settings for the images that are read.
+fn set_settings(held: Held, settings: Settings) -> Held {
+    io::write_all(STDOUT_FILENO, b"S 0 0\n");
+    let session = held.session;
+    Held {
+        session,
+        settings,
+        image: held.image,
+    }
+}
+
+fn take_step(
+    letter: u8,
+    arg: &[u8],
+    held: Held,
+    vcpus: &mut VcpuWords,
+    pages: &mut PageWords,
+    guest: &mut [u8],
+    out: &mut [u8],
+    image: &mut [u8],
+) -> Held {
+    match letter {
+        b'F' => begin(vcpus, pages, settings_of(arg), held.image),
+        b'S' => set_settings(held, settings_of(arg)),
         b'W' => write_image(held, vcpus, pages, wire::load32(arg, 0) as usize, image),
         b'L' => read_image(b"L", held, vcpus, pages, arg),
         b'A' => read_again(held, vcpus, pages, image),
@@ -218,10 +240,7 @@ fn take_step(
             compare(image, held.image, arg);
             held
         }
-        _ => {
-            io::write_all(STDOUT_FILENO, b"unknown step\n");
-            held
-        }
+        _ => take_call(letter, arg, held, vcpus, pages, guest, out),
     }
 }
 
