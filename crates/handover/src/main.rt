@@ -11,9 +11,12 @@ use kvmi::Settings;
 use libc::STDOUT_FILENO;
 use page_words::PAGE_WORDS;
 use page_words::PageWords;
+use session::Done;
 use session::Session;
 use store::words::VCPU_WORDS;
 use store::words::VcpuWords;
+ghost use Prim.Native.Nat.{_≤_};
+ghost use lib.ListN.{length};
 ghost use Rattle.io.specs.Counts.{Counts};
 
 // What goes from step to step beside the lent words: the session, the settings for images, and how long the last image is.
@@ -64,33 +67,30 @@ fn place_of(answer: Answer) -> usize {
     }
 }
 
-fn print_answer(letter: &[u8], answer: Answer) {
-    io::write_all(STDOUT_FILENO, letter);
-    io::write_all(STDOUT_FILENO, b" ");
+fn print_answer(letter: u8, answer: Answer) {
+    let head = [letter, b' '];
+    io::write_all(STDOUT_FILENO, &head);
     io::print_decimal(STDOUT_FILENO, stream::answer_number(answer) as u64);
     io::write_all(STDOUT_FILENO, b" ");
     io::print_decimal(STDOUT_FILENO, place_of(answer) as u64);
     io::write_all(STDOUT_FILENO, b"\n");
 }
 
-// Whether two runs of bytes are the same.
-fn are_same(a: &[u8], b: &[u8]) -> bool {
-    if a.len() != b.len() {
-        return false;
+// The same with other settings for images.
+fn with_settings(held: Held, settings: Settings) -> Held {
+    let session = held.session;
+    Held {
+        session,
+        settings,
+        image: held.image,
     }
-    let mut i = 0;
-    while i < a.len() {
-        if wire::byte(a, i) != wire::byte(b, i) {
-            return false;
-        }
-        i += 1;
-    }
-    true
 }
 
-// The step after which the session is another one.
-fn move_to(letter: &[u8], held: Held, answer: Answer, session: Session) -> Held {
+// A step's answer is told, and the session after it goes on.
+fn move_to(letter: u8, held: Held, done: Done) -> Held {
+    let answer = done.answer;
     print_answer(letter, answer);
+    let session = done.session;
     let settings = held.settings;
     Held {
         session,
@@ -99,42 +99,24 @@ fn move_to(letter: &[u8], held: Held, answer: Answer, session: Session) -> Held 
     }
 }
 
-// An image is read: the session that it makes, or the one that stands.
-fn read_image(
-    letter: &[u8],
-    held: Held,
-    vcpus: &mut VcpuWords,
-    pages: &mut PageWords,
-    image: &[u8],
-) -> Held {
-    let settings = held.settings;
-    let done = image_reader::read_image(settings, image, vcpus, pages);
+// An image was read: the session that it makes goes on, or the one that stands.
+fn move_if_read(letter: u8, held: Held, done: Done) -> Held {
     let answer = done.answer;
     if is_handled(answer) {
-        let begun = done.session;
-        return move_to(letter, held, answer, begun);
+        return move_to(letter, held, done);
     }
     print_answer(letter, answer);
     held
 }
 
-// The image is written into the first `room` bytes of its buffer; where it is not, the one that stands there is kept.
-fn write_image(
-    held: Held,
-    vcpus: &mut VcpuWords,
-    pages: &mut PageWords,
-    room: usize,
-    image: &mut [u8],
-) -> Held {
-    let n = within(room, image);
-    let s = held.session;
-    let done = image_writer::write_image(s, vcpus, pages, &mut image[..n]);
-    let answer = done.answer;
-    print_answer(b"W", answer);
+// An image was written; where it was not, the one that stands in the buffer is kept.
+fn keep_written(held: Held, answer: Answer) -> Held {
+    print_answer(b'W', answer);
     if is_handled(answer) {
+        let session = held.session;
         let settings = held.settings;
         return Held {
-            session: s,
+            session,
             settings,
             image: stream::answer_count(answer),
         };
@@ -143,35 +125,97 @@ fn write_image(
 }
 
 // A session begins fresh, and its settings are those for images too.
-fn begin(vcpus: &mut VcpuWords, pages: &mut PageWords, settings: Settings, image: usize) -> Held {
+fn begin(held: Held, vcpus: &mut VcpuWords, pages: &mut PageWords, settings: Settings) -> Held {
     let done = Session::fresh(settings, vcpus, pages);
+    move_to(b'F', with_settings(held, settings), done)
+}
+
+// A vCPU is marked ready.
+fn mark_ready(held: Held, vcpu: u16) -> Held {
+    let s = held.session;
+    move_to(b'R', held, s.ready(vcpu))
+}
+
+// A vCPU enters.
+fn enter(held: Held, vcpus: &mut VcpuWords, vcpu: u16) -> Held {
+    let block = [0u8; reply::STATE_BYTES];
+    let mut out = [0u8; 4112];
+    let done = entry::enter(held.session, vcpus, vcpu, &block, &mut out);
+    move_to(b'E', held, done)
+}
+
+// A message is taken.
+fn take_message(
+    held: Held,
+    vcpus: &mut VcpuWords,
+    pages: &mut PageWords,
+    msg: &[u8],
+    guest: &mut [u8],
+) -> Held {
+    let mut out = [0u8; 4112];
+    let done = message::take(held.session, vcpus, pages, msg, &mut out, guest);
+    move_to(b'M', held, done)
+}
+
+// The image is written into the first `room` bytes of its buffer.
+fn write_image(
+    held: Held,
+    vcpus: &mut VcpuWords,
+    pages: &mut PageWords,
+    room: usize,
+    image: &mut [u8],
+) -> Held {
+    let n = within(room, image);
+    let done = image_writer::write_image(held.session, vcpus, pages, &mut image[..n]);
     let answer = done.answer;
-    print_answer(b"F", answer);
-    let session = done.session;
-    Held {
-        session,
-        settings,
-        image,
-    }
+    keep_written(held, answer)
+}
+
+// An image is read.
+fn read_image(
+    letter: u8,
+    held: Held,
+    vcpus: &mut VcpuWords,
+    pages: &mut PageWords,
+    image: &[u8],
+) -> Held {
+    let done = image_reader::read_image(held.settings, image, vcpus, pages);
+    move_if_read(letter, held, done)
+}
+
+// The image that was written last is read.
+fn read_again(held: Held, vcpus: &mut VcpuWords, pages: &mut PageWords, image: &[u8]) -> Held {
+    let end = within(held.image, image);
+    read_image(b'A', held, vcpus, pages, &image[..end])
 }
 
 // The bytes are compared with the image that was written last.
 fn compare(image: &[u8], n: usize, arg: &[u8]) {
     let end = within(n, image);
-    if are_same(&image[..end], arg) {
+    if check::same(&image[..end], arg) {
         io::write_all(STDOUT_FILENO, b"C same\n");
     } else {
         io::write_all(STDOUT_FILENO, b"C differs\n");
     }
 }
 
-// The image that was written last is read.
-fn read_again(held: Held, vcpus: &mut VcpuWords, pages: &mut PageWords, image: &[u8]) -> Held {
-    let end = within(held.image, image);
-    read_image(b"A", held, vcpus, pages, &image[..end])
+// F or S: settings are given.
+fn take_settings(
+    letter: u8,
+    arg: &[u8],
+    held: Held,
+    vcpus: &mut VcpuWords,
+    pages: &mut PageWords,
+) -> Held {
+    let settings = settings_of(arg);
+    if letter == b'F' {
+        return begin(held, vcpus, pages, settings);
+    }
+    io::write_all(STDOUT_FILENO, b"S 0 0\n");
+    with_settings(held, settings)
 }
 
-// A call on the session: a ready mark, an entry or a message.
+// R, E or M: a call on the session.
 fn take_call(
     letter: u8,
     arg: &[u8],
@@ -179,44 +223,31 @@ fn take_call(
     vcpus: &mut VcpuWords,
     pages: &mut PageWords,
     guest: &mut [u8],
-    out: &mut [u8],
 ) -> Held {
-    let s = held.session;
     match letter {
-        b'R' => {
-            let done = s.ready(wire::load16(arg, 0));
-            let answer = done.answer;
-            let session = done.session;
-            move_to(b"R", held, answer, session)
-        }
-        b'E' => {
-            let block = [0u8; reply::STATE_BYTES];
-            let done = entry::enter(s, vcpus, wire::load16(arg, 0), &block, out);
-            let answer = done.answer;
-            let session = done.session;
-            move_to(b"E", held, answer, session)
-        }
-        b'M' => {
-            let done = message::take(s, vcpus, pages, arg, out, guest);
-            let answer = done.answer;
-            let session = done.session;
-            move_to(b"M", held, answer, session)
-        }
-        _ => {
-            io::write_all(STDOUT_FILENO, b"unknown step\n");
-            held
-        }
+        b'R' => mark_ready(held, wire::load16(arg, 0)),
+        b'E' => enter(held, vcpus, wire::load16(arg, 0)),
+        _ => take_message(held, vcpus, pages, arg, guest),
     }
 }
 
-// Other settings for the images that are read.
-fn set_settings(held: Held, settings: Settings) -> Held {
-    io::write_all(STDOUT_FILENO, b"S 0 0\n");
-    let session = held.session;
-    Held {
-        session,
-        settings,
-        image: held.image,
+// W, L, A or C: an image.
+fn take_image(
+    letter: u8,
+    arg: &[u8],
+    held: Held,
+    vcpus: &mut VcpuWords,
+    pages: &mut PageWords,
+    image: &mut [u8],
+) -> Held {
+    match letter {
+        b'W' => write_image(held, vcpus, pages, wire::load32(arg, 0) as usize, image),
+        b'L' => read_image(b'L', held, vcpus, pages, arg),
+        b'A' => read_again(held, vcpus, pages, image),
+        _ => {
+            compare(image, held.image, arg);
+            held
+        }
     }
 }
 
@@ -227,80 +258,95 @@ fn take_step(
     vcpus: &mut VcpuWords,
     pages: &mut PageWords,
     guest: &mut [u8],
-    out: &mut [u8],
     image: &mut [u8],
 ) -> Held {
     match letter {
-        b'F' => begin(vcpus, pages, settings_of(arg), held.image),
-        b'S' => set_settings(held, settings_of(arg)),
-        b'W' => write_image(held, vcpus, pages, wire::load32(arg, 0) as usize, image),
-        b'L' => read_image(b"L", held, vcpus, pages, arg),
-        b'A' => read_again(held, vcpus, pages, image),
-        b'C' => {
-            compare(image, held.image, arg);
+        b'F' | b'S' => take_settings(letter, arg, held, vcpus, pages),
+        b'R' | b'E' | b'M' => take_call(letter, arg, held, vcpus, pages, guest),
+        b'W' | b'L' | b'A' | b'C' => take_image(letter, arg, held, vcpus, pages, image),
+        _ => {
+            io::write_all(STDOUT_FILENO, b"unknown step\n");
             held
         }
-        _ => take_call(letter, arg, held, vcpus, pages, guest, out),
     }
 }
 
+// Where the step that begins at a byte of the script ends: less than 5 bytes on, where it is cut.
+fn end_of_step(script: &[u8], at: usize) -> usize
+    requires { ⌜ at ≤ length (now script) ⌝ }
+    ensures { λ r. ⌜ at ≤ r ⌝ }
+    ensures { λ r. ⌜ r ≤ length (now (script .entry)) ⌝ }
+{
+    let left = script.len() - at;
+    if left < 5 {
+        return at;
+    }
+    let size = wire::load32(script, at + 1) as usize;
+    if left - 5 < size {
+        return at;
+    }
+    at + 5 + size
+}
+
 // The steps of a script, in order.
+fn run_steps(
+    script: &[u8],
+    begun: Held,
+    vcpus: &mut VcpuWords,
+    pages: &mut PageWords,
+    guest: &mut [u8],
+    image: &mut [u8],
+) {
+    let mut held = begun;
+    let mut at = 0;
+    while at < script.len() {
+        let end = end_of_step(script, at);
+        if end - at < 5 {
+            io::write_all(STDOUT_FILENO, b"cut step\n");
+            return;
+        }
+        let letter = wire::byte(script, at);
+        let from = at + 5;
+        held = take_step(letter, &script[from..end], held, vcpus, pages, guest, image);
+        at = end;
+    }
+}
+
+// A script begins with a session that is shut, and with words and memory of zeros.
 fn run_script(script: &[u8]) {
     let mut vcpus = [0u64; VCPU_WORDS];
     let mut pages = [0u64; PAGE_WORDS];
     let mut guest = [0u8; 16384];
-    let mut out = [0u8; 4112];
     let mut image = [0u8; 65536];
     let settings = settings_of(b"");
-    let mut held = Held {
+    let held = Held {
         session: Session::shut(settings),
         settings,
         image: 0,
     };
-    let mut at = 0;
-    while at < script.len() {
-        let letter = wire::byte(script, at);
-        let size = wire::load32(script, at + 1) as usize;
-        let left = script.len() - at;
-        if left < 5 {
-            io::write_all(STDOUT_FILENO, b"cut step\n");
-            return;
-        }
-        if left - 5 < size {
-            io::write_all(STDOUT_FILENO, b"cut step\n");
-            return;
-        }
-        let from = at + 5;
-        let next = from + size;
-        held = take_step(
-            letter,
-            &script[from..next],
-            held,
-            &mut vcpus,
-            &mut pages,
-            &mut guest,
-            &mut out,
-            &mut image,
-        );
-        at = next;
+    run_steps(script, held, &mut vcpus, &mut pages, &mut guest, &mut image);
+}
+
+// Runs the script that is stored under a name.
+fn run_named(name: &[u8]) {
+    let fd = os::open_read(name);
+    if fd < 0 {
+        os::fail(name);
+        return;
     }
+    let mut script = io::large_buffer();
+    let n = io::read_full(fd, &mut script);
+    libc::close(fd);
+    io::write_all(STDOUT_FILENO, name);
+    io::write_all(STDOUT_FILENO, b"\n");
+    run_script(&script[..n]);
 }
 
 // The script that argument i names.
 fn run_stored(i: usize) {
     let mut name = io::buffer();
     let n = os::arg(i, &mut name);
-    let fd = os::open_read(&name[..n]);
-    if fd < 0 {
-        os::fail(&name[..n]);
-        return;
-    }
-    let mut script = io::large_buffer();
-    let m = io::read_full(fd, &mut script);
-    libc::close(fd);
-    io::write_all(STDOUT_FILENO, &name[..n]);
-    io::write_all(STDOUT_FILENO, b"\n");
-    run_script(&script[..m]);
+    run_named(&name[..n]);
 }
 
 fn main() {
