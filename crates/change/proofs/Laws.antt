@@ -11,7 +11,7 @@ use Rattle.kvmi.specs.Mode.{modeOfNumber, numberOfMode}
 use Rattle.session.specs.declared.Session.{Session}
 use Rattle.session.specs.State.{State}
 use Rattle.change.specs.Change.{change}
-use Rattle.change.specs.Effect.{Applied, PagesChanged, effect}
+use Rattle.change.specs.Effect.{Enacted, PagesChanged, effect}
 
 -- a mode's number stands for it
 pub mode-number : (m : ReplyMode) → modeOfNumber (numberOfMode m) ≡ m
@@ -21,7 +21,7 @@ mode-number Off = refl
 mode-number ErrorsOnly = refl
 
 -- the change of a run of entries
-abbrev pub paged : Session → List ℕ → List ℕ → PagesChanged → Applied
+abbrev pub paged : Session → List ℕ → List ℕ → PagesChanged → Enacted
 paged s v guest x = effect s (x .effect) v (x .pages) guest
 
 -- ---- a change keeps the settings

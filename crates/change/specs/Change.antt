@@ -17,15 +17,15 @@ use Rattle.store.specs.Words.{field, setMsrBit, putBit64, SINGLESTEP, CRS, EVEN
 use Rattle.page_words.specs.PageWords.{PageTable, runEntries}
 use Rattle.session.specs.State.{State, state, withTool, withToolEvents, withToolMode, withToolPages, withVcpuWords, withField}
 
-pub record Changed : Type 0 where
+pub record StateChanged : Type 0 where
   pub state : State
   pub guest : List ℕ
   pub code : ℤ
 
-abbrev pub changed : State → List ℕ → Changed
+abbrev pub changed : State → List ℕ → StateChanged
 changed st guest = record { state = st; guest = guest; code = OK }
 
-abbrev pub changedPages : State → List ℕ → PageTable → Changed
+abbrev pub changedPages : State → List ℕ → PageTable → StateChanged
 changedPages st guest t =
     record {
       state = state (withTool (st .session) (withToolPages (st .session .tool) (t .count))) (st .vcpus) (t .words);
@@ -33,7 +33,7 @@ changedPages st guest t =
       code = cond (t .skipped) ENOMEM OK;
     }
 
-unfoldable pub change : State → List ℕ → List ℕ → Change → Changed
+unfoldable pub change : State → List ℕ → List ℕ → Change → StateChanged
 change st guest d Nothing = changed st guest
 change st guest d (SetVmEvent on event) =
     changed (state (withTool (st .session) (withToolEvents (st .session .tool) (putBit64 (st .session .tool .events) event on))) (st .vcpus) (st .pages)) guest

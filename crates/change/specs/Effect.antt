@@ -18,16 +18,16 @@ use Rattle.session.specs.declared.Session.{Session}
 use Rattle.session.specs.declared.Tool.{Tool}
 use Rattle.session.specs.State.{State, state, withTool}
 use Rattle.change.specs.declared.Effect.{Effect}
-use Rattle.change.specs.Change.{Changed, change}
+use Rattle.change.specs.Change.{StateChanged, change}
 
 -- a change, and how it is answered
-pub record Applied : Type 0 where
-  pub changed : Changed
+pub record Enacted : Type 0 where
+  pub changed : StateChanged
   pub mode : ReplyMode
   pub signal : Signal
 
-abbrev pub appliedOf : State → List ℕ → List ℕ → Change → Applied
-appliedOf st guest d c = record { changed = change st guest d c; mode = modeFor (modeOfNumber (st .session .tool .mode)) c; signal = signalOf c }
+abbrev pub enactedOf : State → List ℕ → List ℕ → Change → Enacted
+enactedOf st guest d c = record { changed = change st guest d c; mode = modeFor (modeOfNumber (st .session .tool .mode)) c; signal = signalOf c }
 
 -- what a tool owns after an effect, with the next event's seq
 abbrev pub toolAfter : Tool → Effect → ℕ → Tool
@@ -38,7 +38,7 @@ abbrev pub sessionAfter : Session → Effect → Session
 sessionAfter s e = withTool s (toolAfter (s .tool) e (s .tool .seq))
 
 -- an effect on a session, with the lent words and bytes at exit
-abbrev pub effect : Session → Effect → List ℕ → List ℕ → List ℕ → Applied
+abbrev pub effect : Session → Effect → List ℕ → List ℕ → List ℕ → Enacted
 effect s e vcpus pages guest =
     record {
       changed = record { state = state (sessionAfter s e) vcpus pages; guest = guest; code = e .code };

@@ -9,7 +9,7 @@ ghost use Rattle.wire.specs.Bytes.{store};
 ghost use Rattle.session.specs.State.{state};
 ghost use Rattle.kvmi.specs.Codes.{OK};
 ghost use Rattle.kvmi.specs.declared.Signal.the-variants.{Quiet};
-ghost use Rattle.change.specs.Effect.{appliedOf, effect, plainEffect, toolAfter, pagesEffect, pagesSet};
+ghost use Rattle.change.specs.Effect.{enactedOf, effect, plainEffect, toolAfter, pagesEffect, pagesSet};
 
 // What a change gives: the numbers of the tool that a change can move, 0 or the error that it met, the number of the mode by which it is
 // answered, and what the host is to do.
@@ -90,7 +90,7 @@ pub fn apply(
     d: &[u8],
     c: Change,
 ) -> Effect
-    ensures { λ r. ⌜ effect s r (now (vcpus .exit)) (now (pages .exit)) (now (guest .exit)) ≡ appliedOf (state s (now (vcpus .entry)) (now (pages .entry))) (now (guest .entry)) (now (d .entry)) c ⌝ }
+    ensures { λ r. ⌜ effect s r (now (vcpus .exit)) (now (pages .exit)) (now (guest .exit)) ≡ enactedOf (state s (now (vcpus .entry)) (now (pages .entry))) (now (guest .entry)) (now (d .entry)) c ⌝ }
 {
     let tool = s.tool;
     match c {

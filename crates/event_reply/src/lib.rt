@@ -14,7 +14,7 @@ fn is_awaited(facts: Facts, seq: u32, event: u8) -> bool
 }
 
 // EVENT_REPLY never fails: it closes the session unless all of it is as it should be.
-pub fn decide(facts: Facts, seq: u32, d: &[u8]) -> Verdict
+pub fn judge_reply(facts: Facts, seq: u32, d: &[u8]) -> Verdict
     ensures { λ r. ⌜ r ≡ eventReplyVerdict facts seq (now (d .entry)) ⌝ }
 {
     let action = wire::byte(d, 8);

@@ -36,17 +36,17 @@ use Rattle.history.proofs.Lists.{Stands, stands-valid, after-stands, be
 
 -- ---- the model's image writing
 -- what an answer's number says of the model
-record Told (m : Model) (r : Step) : Type 0 where
+record ImageTold (m : Model) (r : Step) : Type 0 where
   closed : (r .answer .number ≡ 2) ↔ (m .closed ≡ true)
   busy : (r .answer .number ≡ 10) ↔ ((m .closed ≡ false) × (awaitsAny (m .awaited) ≡ true))
 
-step-told : (m : Model) (out : List ℕ) → Told m (imageStep m out)
+step-told : (m : Model) (out : List ℕ) → ImageTold m (imageStep m out)
 unfolding imageStep
 step-told m out =
-    pick (Told m) (m .closed) _ _ (λ e. record { closed = (λ _. e, λ _. refl); busy = (λ h. absurd (omega arith), λ q. clash e (q .0)) })
-    (λ e. pick (Told m) (awaitsAny (m .awaited)) _ _
+    pick (ImageTold m) (m .closed) _ _ (λ e. record { closed = (λ _. e, λ _. refl); busy = (λ h. absurd (omega arith), λ q. clash e (q .0)) })
+    (λ e. pick (ImageTold m) (awaitsAny (m .awaited)) _ _
     (λ w. record { closed = (λ h. absurd (omega arith), λ q. clash q e); busy = (λ _. (e, w), λ _. refl) })
-    (λ w. pick (Told m) (ltb (length out) (length (image (m .tables)))) _ _
+    (λ w. pick (ImageTold m) (ltb (length out) (length (image (m .tables)))) _ _
     (λ _. record { closed = (λ h. absurd (omega arith), λ q. clash q e); busy = (λ h. absurd (omega arith), λ q. clash (q .1) w) })
     (λ _. record { closed = (λ h. absurd (omega arith), λ q. clash q e); busy = (λ h. absurd (omega arith), λ q. clash (q .1) w) })))
 

@@ -10,7 +10,7 @@ ghost use Rattle.page_words.specs.Meaning.{pagesOf};
 ghost use Rattle.image_bytes.specs.Parts.{vcBytes, paBytes, frontBytes, backBytes, statedOf};
 
 // How many vCPUs an image states: no more than there are blocks of words.
-pub fn stated(vcpus: u32) -> u16
+pub fn stated_count(vcpus: u32) -> u16
     ensures { λ r. ⌜ r ≡ min vcpus 16 ⌝ }
 {
     if vcpus < 16 { vcpus as u16 } else { 16 }
@@ -86,7 +86,7 @@ fn put_frame(
 pub fn measure(count: u32, used: u64, vcpus: &[u64], pages: &[u64]) -> usize
     ensures { λ r. ⌜ ((events ready : ℕ) → r ≡ length (image (statedOf events ready count used (now (vcpus .entry)) (now (pages .entry))))) ⌝ }
 {
-    let n = stated(count);
+    let n = stated_count(count);
     let held = wire::smaller(used as usize, pages.len());
     let on = image_msrs::count(vcpus, n);
     size_of(n, on, held)
@@ -105,7 +105,7 @@ pub fn put(
 ) -> usize
     ensures { λ r. ⌜ (r ≡ length (image (statedOf events ready count used (now (vcpus .entry)) (now (pages .entry))))) × (now (out .exit) ≡ store (now (out .entry)) 0 (image (statedOf events ready count used (now (vcpus .entry)) (now (pages .entry))))) ⌝ }
 {
-    let n = stated(count);
+    let n = stated_count(count);
     let held = wire::smaller(used as usize, pages.len());
     let room = less(out.len(), 14 * held + 6);
     let on = image_msrs::put(&mut out[..room], 8 + 10 * (n as usize), vcpus, n);

@@ -24,7 +24,7 @@ use Rattle.laws.proofs.Bool.{test}
 use Rattle.laws.proofs.Record.{length-write}
 use Rattle.store.specs.Words.{field}
 use Rattle.store.specs.Meaning.{switchesOn, msrsOf}
-use Rattle.image_msrs.specs.Switches.{msBytes, switchAt, msrOfPlace, switchesFrom, bitsFrom, oneAt, fourAt, fourBits, fourOf, Marked, Marks, Put}
+use Rattle.image_msrs.specs.Switches.{msBytes, switchAt, msrOfPlace, switchesFrom, bitsFrom, oneAt, fourAt, fourBits, fourOf, Marked, Marks, SwitchesPut}
 use Rattle.image_msrs.specs.declared.Four.{Four}
 use Rattle.image_msrs.proofs.Stores.{Going, going-end}
 
@@ -312,7 +312,7 @@ pub ms-room : {x g n k : ℕ} → Lowest oneAt x g n k → 8 ≤ length (msBytes
 ms-room low = rw (low .first, length-ms) (omega arith)
 
 -- records behind others
-pub put-join : {s out next : List ℕ} {at p r : ℕ} {a b : List Msr} → Put s at a out p → Put out p b next r → r ≤ length s → Put s at (a ++ b) next r
+pub put-join : {s out next : List ℕ} {at p r : ℕ} {a b : List Msr} → SwitchesPut s at a out p → SwitchesPut out p b next r → r ≤ length s → SwitchesPut s at (a ++ b) next r
 put-join {s} {out} {next} {at} {p} {r} {a} {b} f g h =
     let room : at + (length (msBytes a) + length (msBytes b)) ≤ length s = simp length-ms (omega (arith, f .next, g .next)) in
     let place : p ≡ at + length (msBytes a) = rw length-ms (f .next) in
@@ -321,7 +321,7 @@ put-join {s} {out} {next} {at} {p} {r} {a} {b} f g h =
       next = rw length-append (omega (arith, f .next, g .next));
     }
 
-pub going-put : {s : List ℕ} {at : ℕ} {ms : List Msr} {out : List ℕ} {p : ℕ} {left : List ℕ} → Going s at (msBytes ms) out p left → left ≡ [] → Put s at ms out p
+pub going-put : {s : List ℕ} {at : ℕ} {ms : List Msr} {out : List ℕ} {p : ℕ} {left : List ℕ} → Going s at (msBytes ms) out p left → left ≡ [] → SwitchesPut s at ms out p
 going-put {ms = ms} g e = record { there = going-end g e; next = omega (arith, rw e at (g .place), length-ms ms) }
 
 -- ---- of any number of vCPUs: no more are looked at than there are blocks of words

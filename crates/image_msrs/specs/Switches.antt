@@ -65,6 +65,6 @@ pub record Marks (w : List ℕ) (n : ℕ) (marks : List ℕ) : Type 0 where
 
 -- ---- records written
 -- what was s has the MS records at a place, and r is the place behind them
-pub record Put (s : List ℕ) (at : ℕ) (ms : List Msr) (out : List ℕ) (r : ℕ) : Type 0 where
+pub record SwitchesPut (s : List ℕ) (at : ℕ) (ms : List Msr) (out : List ℕ) (r : ℕ) : Type 0 where
   pub there : out ≡ store s at (msBytes ms)
   pub next : r ≡ at + 8 * length ms

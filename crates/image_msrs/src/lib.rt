@@ -9,7 +9,7 @@ ghost use Rattle.wire.specs.Bytes.{store};
 ghost use Rattle.kvmi.specs.Record.{write};
 ghost use Rattle.kvmi.specs.Image.{msRecord};
 ghost use Rattle.store.specs.Meaning.{msrAt, msrsOf};
-ghost use Rattle.image_msrs.specs.Switches.{msBytes, msrOfPlace, oneAt, switchesFrom, bitsFrom, fourAt, fourBits, fourOf, Marked, Marks, Put};
+ghost use Rattle.image_msrs.specs.Switches.{msBytes, msrOfPlace, oneAt, switchesFrom, bitsFrom, fourAt, fourBits, fourOf, Marked, Marks, SwitchesPut};
 
 // How many MSR switches a vCPU has.
 const SWITCHES: usize = 16384;
@@ -116,7 +116,7 @@ fn put_ms(out: &mut [u8], at: usize, g: usize)
 // The MS records of the bits of a word, whose lowest has the place g. Gives the place behind them.
 fn put_bits(out: &mut [u8], at: usize, g: usize, w: u64) -> usize
     requires { ⌜ (g + 64 ≤ 262144) × (at + 8 * length (bitsFrom oneAt w g 64) ≤ length (now out)) ⌝ }
-    ensures { λ r. ⌜ Put (now (out .entry)) at (bitsFrom oneAt w g 64) (now (out .exit)) r ⌝ }
+    ensures { λ r. ⌜ SwitchesPut (now (out .entry)) at (bitsFrom oneAt w g 64) (now (out .exit)) r ⌝ }
 {
     let mut to = at;
     let mut p = g;
@@ -134,7 +134,7 @@ fn put_bits(out: &mut [u8], at: usize, g: usize, w: u64) -> usize
 // The MS records of the bits of four words, whose lowest has the place g. Gives the place behind them.
 fn put_four(out: &mut [u8], at: usize, g: usize, f: Four) -> usize
     requires { ⌜ (g + 256 ≤ 262144) × (at + 8 * length (fourBits f g) ≤ length (now out)) ⌝ }
-    ensures { λ r. ⌜ Put (now (out .entry)) at (fourBits f g) (now (out .exit)) r ⌝ }
+    ensures { λ r. ⌜ SwitchesPut (now (out .entry)) at (fourBits f g) (now (out .exit)) r ⌝ }
 {
     let b = put_bits(out, at, g, f.a);
     let c = put_bits(out, b, g + 64, f.b);
@@ -145,7 +145,7 @@ fn put_four(out: &mut [u8], at: usize, g: usize, f: Four) -> usize
 // The MS records of the fours of a vCPU that are marked. Gives the place behind them.
 fn put_vcpu(out: &mut [u8], at: usize, words: &[u64], v: usize, fours: u64) -> usize
     requires { ⌜ (v < 16) × (at + 8 * length (bitsFrom (fourOf (now words) v) fours 0 64) ≤ length (now out)) ⌝ }
-    ensures { λ r. ⌜ Put (now (out .entry)) at (bitsFrom (fourOf (now (words .entry)) v) fours 0 64) (now (out .exit)) r ⌝ }
+    ensures { λ r. ⌜ SwitchesPut (now (out .entry)) at (bitsFrom (fourOf (now (words .entry)) v) fours 0 64) (now (out .exit)) r ⌝ }
 {
     let mut to = at;
     let mut j = 0;

@@ -10,7 +10,7 @@ use lib.ListN.{length, set, drop}
 use lib.Dec.{eqb}
 use borrow.Author.Tests.{leb-true, eqb-true, ltb-true}
 use Rattle.kvmi.specs.declared.Settings.{Settings}
-use Rattle.kvmi.specs.Record.{VM, VC, MS, PA, EN, Rec, place, orderOf}
+use Rattle.kvmi.specs.Record.{VM, VC, MS, PA, EN, Rec, orderAt, orderOf}
 use Rattle.kvmi.specs.Tables.{Vcpu, Msr, Page, Tables}
 use Rattle.kvmi.specs.Image.{vcpuOfRow, pageOfRow, withRecord, vmForm, vmMay, paForm, Loaded, loaded, badForm, forbidden, judge, ending, fitsIn, mayOf, loadRest, stated, loadRecords, loadImage}
 use Rattle.store.specs.Words.{setMsrBit, cleared}
@@ -61,7 +61,7 @@ pub record Loading (s : Settings) (l : List ℕ) (u : Tables) (v₀ p₀ : List 
   pub least : ℕ
   pub few : s .vcpus ≤ 16
   pub goes : loadRest s (s .vcpus) at least tables (recordsAt l at) ≡ loaded u
-  pub early : (tables .msrs ≡ []) ⊎ (place 2 0 0 < least)
+  pub early : (tables .msrs ≡ []) ⊎ (orderAt 2 0 0 < least)
   pub vcpus : v ≡ msrsLoaded (vcpusLoaded v₀ 0 (tables .vcpus)) (tables .msrs)
   pub pages : p ≡ pagesLoaded p₀ 0 (tables .pages)
   pub count : length (tables .pages) ≡ i
@@ -176,7 +176,7 @@ module _ (s : Settings) (l : List ℕ) (u : Tables) (v₀ p₀ : List ℕ) where
       let w : f .1 .0 ≤ 16 = leb-true (f .1 .0) 16 (search (and-l, and-r) depth 8) in
       record {
         tables = stated (f .1 .1 .0);
-        least = suc (place 0 0 0);
+        least = suc (orderAt 0 0 0);
         few = omega arith;
         goes = rw n at (j .2);
         early = inl refl;

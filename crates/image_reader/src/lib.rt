@@ -29,7 +29,7 @@ ghost use Rattle.image_form.specs.Form.{markAt, rowAt};
 const PAGES: u64 = 4503599627370496;
 
 // The bytes of a record that loads words.
-fn size_of(mark: Mark) -> usize
+fn record_size(mark: Mark) -> usize
     ensures { λ r. ⌜ r ≡ sizeBy mark ⌝ }
 {
     match mark {
@@ -132,7 +132,7 @@ fn load(l: &[u8], vcpus: &mut [u64], pages: &mut [u64])
     let mut i: usize = 0;
     loop {
         let mark = image_form::mark_at(l, at);
-        let size = size_of(mark);
+        let size = record_size(mark);
         if size == 0 {
             return;
         }

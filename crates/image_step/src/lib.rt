@@ -7,7 +7,7 @@ ghost use lib.ListN.{length};
 ghost use Rattle.kvmi.specs.Record.{VM, VC, MS, PA, EN};
 ghost use Rattle.image_form.specs.Form.{markAt, rowAt};
 ghost use Rattle.image_step.specs.declared.Outcome.the-variants.{BadForm, Forbidden};
-ghost use Rattle.image_step.specs.declared.Step.the-variants.{Stop};
+ghost use Rattle.image_step.specs.declared.Advance.the-variants.{Stop};
 ghost use Rattle.image_step.specs.Step.{isAfter, vmStep, vcStep, msStep, paStep, enStep, nextStepOf, firstBy};
 
 // What the tests of a record ask of those before it.
@@ -43,7 +43,7 @@ pub enum Outcome {
 }
 
 // What the test of one record says.
-pub enum Step {
+pub enum Advance {
     Next { progress: Progress },
     Stop { outcome: Outcome },
 }
@@ -61,33 +61,33 @@ fn is_after(p: Progress, kind: u32, major: u16, minor: u64) -> bool
     p.minor < minor
 }
 
-fn refuse(offset: usize) -> Step
+fn reject(offset: usize) -> Advance
     ensures { λ r. ⌜ r ≡ Stop (BadForm offset) ⌝ }
 {
-    Step::Stop {
+    Advance::Stop {
         outcome: Outcome::BadForm { offset },
     }
 }
 
-fn forbid(offset: usize) -> Step
+fn forbid(offset: usize) -> Advance
     ensures { λ r. ⌜ r ≡ Stop (Forbidden offset) ⌝ }
 {
-    Step::Stop {
+    Advance::Stop {
         outcome: Outcome::Forbidden { offset },
     }
 }
 
-fn step_vm(s: Settings, l: &[u8]) -> Step
+fn step_vm(s: Settings, l: &[u8]) -> Advance
     requires { ⌜ 8 ≤ length (now l) ⌝ }
     ensures { λ r. ⌜ r ≡ vmStep s (rowAt VM (now (l .entry)) 0) ⌝ }
 {
     let n = wire::load16(l, 4);
     let events = wire::load16(l, 6);
     if wire::load16(l, 2) != 1 {
-        return refuse(0);
+        return reject(0);
     }
     if !image_form::vm_form(n, events) {
-        return refuse(0);
+        return reject(0);
     }
     if !image_form::vm_may(s, n, events) {
         return forbid(0);
@@ -103,10 +103,10 @@ fn step_vm(s: Settings, l: &[u8]) -> Step
         ready: 0,
         pages: 0,
     };
-    Step::Next { progress }
+    Advance::Next { progress }
 }
 
-fn step_vc(s: Settings, l: &[u8], p: Progress) -> Step
+fn step_vc(s: Settings, l: &[u8], p: Progress) -> Advance
     requires { ⌜ p .at + 10 ≤ length (now l) ⌝ }
     ensures { λ r. ⌜ r ≡ vcStep s p (rowAt VC (now (l .entry)) (p .at)) ⌝ }
 {
@@ -119,13 +119,13 @@ fn step_vc(s: Settings, l: &[u8], p: Progress) -> Step
     let pauses = wire::byte(l, at + 8);
     let zero = wire::byte(l, at + 9);
     if !is_after(p, 1, vcpu, 0) {
-        return refuse(at);
+        return reject(at);
     }
     if vcpu as u32 != p.count {
-        return refuse(at);
+        return reject(at);
     }
     if !image_form::vc_form(s, vcpu, flags, crs, events, pauses, zero) {
-        return refuse(at);
+        return reject(at);
     }
     if !image_form::vc_may(s, flags, events, pauses) {
         return forbid(at);
@@ -141,10 +141,10 @@ fn step_vc(s: Settings, l: &[u8], p: Progress) -> Step
         ready: store::bits::put_bit(p.ready, p.count, flags % 2 == 1),
         pages: p.pages,
     };
-    Step::Next { progress }
+    Advance::Next { progress }
 }
 
-fn step_ms(s: Settings, l: &[u8], p: Progress) -> Step
+fn step_ms(s: Settings, l: &[u8], p: Progress) -> Advance
     requires { ⌜ p .at + 8 ≤ length (now l) ⌝ }
     ensures { λ r. ⌜ r ≡ msStep s p (rowAt MS (now (l .entry)) (p .at)) ⌝ }
 {
@@ -153,13 +153,13 @@ fn step_ms(s: Settings, l: &[u8], p: Progress) -> Step
     let vcpu = wire::load16(l, at + 2);
     let msr = wire::load32(l, at + 4);
     if !is_after(p, 2, vcpu, msr as u64) {
-        return refuse(at);
+        return reject(at);
     }
     if p.count != s.vcpus {
-        return refuse(at);
+        return reject(at);
     }
     if !image_form::ms_form(p.count, p.ready, vcpu, msr) {
-        return refuse(at);
+        return reject(at);
     }
     let progress = Progress {
         at: next,
@@ -172,10 +172,10 @@ fn step_ms(s: Settings, l: &[u8], p: Progress) -> Step
         ready: p.ready,
         pages: p.pages,
     };
-    Step::Next { progress }
+    Advance::Next { progress }
 }
 
-fn step_pa(s: Settings, l: &[u8], p: Progress) -> Step
+fn step_pa(s: Settings, l: &[u8], p: Progress) -> Advance
     requires { ⌜ p .at + 14 ≤ length (now l) ⌝ }
     ensures { λ r. ⌜ r ≡ paStep s p (rowAt PA (now (l .entry)) (p .at)) ⌝ }
 {
@@ -186,13 +186,13 @@ fn step_pa(s: Settings, l: &[u8], p: Progress) -> Step
     let access = wire::byte(l, at + 4);
     let zero = wire::byte(l, at + 5);
     if !is_after(p, 3, view, page) {
-        return refuse(at);
+        return reject(at);
     }
     if p.count != s.vcpus {
-        return refuse(at);
+        return reject(at);
     }
     if !image_form::pa_form(p.pages, view, access, zero, page) {
-        return refuse(at);
+        return reject(at);
     }
     if s.views <= view as u32 {
         return forbid(at);
@@ -208,10 +208,10 @@ fn step_pa(s: Settings, l: &[u8], p: Progress) -> Step
         ready: p.ready,
         pages: p.pages + 1,
     };
-    Step::Next { progress }
+    Advance::Next { progress }
 }
 
-fn step_en(s: Settings, l: &[u8], p: Progress) -> Step
+fn step_en(s: Settings, l: &[u8], p: Progress) -> Advance
     requires { ⌜ p .at + 6 ≤ length (now l) ⌝ }
     ensures { λ r. ⌜ r ≡ enStep s (length (now (l .entry))) p (rowAt EN (now (l .entry)) (p .at)) ⌝ }
 {
@@ -219,27 +219,27 @@ fn step_en(s: Settings, l: &[u8], p: Progress) -> Step
     let next = at + 6;
     let n = wire::load32(l, at + 2);
     if !is_after(p, 4, 0, 0) {
-        return refuse(at);
+        return reject(at);
     }
     if p.count != s.vcpus {
-        return refuse(at);
+        return reject(at);
     }
     if n as usize != p.records {
-        return refuse(at);
+        return reject(at);
     }
     if l.len() != next {
-        return refuse(next);
+        return reject(next);
     }
     let outcome = Outcome::Accepted {
         events: p.events,
         pages: p.pages,
         ready: p.ready,
     };
-    Step::Stop { outcome }
+    Advance::Stop { outcome }
 }
 
 // The test of the record that comes next.
-pub fn next_step(s: Settings, l: &[u8], p: Progress) -> Step
+pub fn next_step(s: Settings, l: &[u8], p: Progress) -> Advance
     ensures { λ r. ⌜ r ≡ nextStepOf s (now (l .entry)) p ⌝ }
 {
     let mark = image_form::mark_at(l, p.at);
@@ -248,22 +248,22 @@ pub fn next_step(s: Settings, l: &[u8], p: Progress) -> Step
         Mark::Ms => step_ms(s, l, p),
         Mark::Pa => step_pa(s, l, p),
         Mark::En => step_en(s, l, p),
-        Mark::Vm => refuse(p.at),
-        Mark::Cut => refuse(p.at),
+        Mark::Vm => reject(p.at),
+        Mark::Cut => reject(p.at),
     }
 }
 
 // The test of the first record.
-pub fn first_step(s: Settings, l: &[u8]) -> Step
+pub fn first_step(s: Settings, l: &[u8]) -> Advance
     ensures { λ r. ⌜ r ≡ firstBy s (now (l .entry)) (markAt (now (l .entry)) 0) ⌝ }
 {
     let mark = image_form::mark_at(l, 0);
     match mark {
         Mark::Vm => step_vm(s, l),
-        Mark::Vc => refuse(0),
-        Mark::Ms => refuse(0),
-        Mark::Pa => refuse(0),
-        Mark::En => refuse(0),
-        Mark::Cut => refuse(0),
+        Mark::Vc => reject(0),
+        Mark::Ms => reject(0),
+        Mark::Pa => reject(0),
+        Mark::En => reject(0),
+        Mark::Cut => reject(0),
     }
 }

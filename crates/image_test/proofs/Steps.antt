@@ -15,7 +15,7 @@ use Rattle.wire.proofs.Laws.{le-or-lt, load-whole, load-byte}
 use Rattle.kvmi.specs.declared.Settings.{Settings}
 use Rattle.kvmi.specs.Bits.{isOn, putBit}
 use Rattle.kvmi.specs.Row.{readRow}
-use Rattle.kvmi.specs.Record.{Kind, VM, VC, MS, PA, EN, widths, size, Rec, whole, place, orderOf, kindAt, from, parse}
+use Rattle.kvmi.specs.Record.{Kind, VM, VC, MS, PA, EN, widths, size, Rec, whole, orderAt, orderOf, kindAt, from, parse}
 use Rattle.kvmi.specs.Tables.{Vcpu, Tables, resting, isMsr}
 use Rattle.kvmi.specs.Image.{vcpuOfRow, msrOfRow, pageOfRow, withRecord, vmForm, vmMay, msForm, Loaded, loaded, badForm, judge, ending, fitsIn, mayOf, loadRest, stated, loadRecords, loadImage}
 use Rattle.laws.proofs.Bool.{and-l, and-r, length-snoc}
@@ -28,8 +28,8 @@ use Rattle.image_form.specs.Form.{named, markAt, rowAt, vcFits, msFits, paFits}
 use Rattle.image_form.proofs.Forms.{size-least, mark-kind, mark-cut, mark-room}
 use Rattle.image_step.specs.declared.Progress.{Progress}
 use Rattle.image_step.specs.declared.Outcome.{Outcome}
-use Rattle.image_step.specs.declared.Step.{Step}
-use Rattle.image_step.specs.declared.Step.the-variants.{Next, Stop}
+use Rattle.image_step.specs.declared.Advance.{Advance}
+use Rattle.image_step.specs.declared.Advance.the-variants.{Next, Stop}
 use Rattle.image_step.specs.Step.{judgeStep, isAfter, firstProgress, pastVc, pastMs, pastPa, vmStep, vcStep, msStep, paStep, endStep, enStep, stepBy, nextStepOf, firstBy}
 use Rattle.image_test.specs.Test.{readyLoaded, outcome, Stands, recordsAt, Rest}
 
@@ -121,7 +121,7 @@ end-records t off l = ending-at t off (drop off l)
 -- ---- one step
 module _ (s : Settings) (l : List ℕ) (o : Outcome) where
   -- what a step at a place leaves to be shown
-  abbrev pub Goes : ℕ → Step → Type 0
+  abbrev pub Goes : ℕ → Advance → Type 0
   Goes at (Next q) = Rest s l q o × (at < q .at)
   Goes at (Stop x) = x ≡ o
 
@@ -284,7 +284,7 @@ module _ (s : Settings) (l : List ℕ) (o : Outcome) where
       let w : f .1 .0 ≤ 16 = leb-true (f .1 .0) 16 (search (and-l, and-r) depth 8) in (
         record {
           tables = stated (f .1 .1 .0);
-          least = suc (place 0 0 0);
+          least = suc (orderAt 0 0 0);
           stands = record {
             few = omega arith;
             inside = omega arith;
@@ -311,10 +311,10 @@ module _ (s : Settings) (l : List ℕ) (o : Outcome) where
   first-by Cut m e = sym (ap outcome (first-none s (drop 0 l) (mark-cut l 0 m))) ∙ e
 
   -- ---- what a step says
-  pub went : (at : ℕ) (x : Step) (q : Progress) → x ≡ Next q → Goes at x → Rest s l q o × (at < q .at)
+  pub went : (at : ℕ) (x : Advance) (q : Progress) → x ≡ Next q → Goes at x → Rest s l q o × (at < q .at)
   went at x q e g = rw e at g
 
-  pub stopped : (at : ℕ) (x : Step) (y : Outcome) → x ≡ Stop y → Goes at x → y ≡ o
+  pub stopped : (at : ℕ) (x : Advance) (y : Outcome) → x ≡ Stop y → Goes at x → y ≡ o
   stopped at x y e g = rw e at g
 
 pub first-goes : (s : Settings) (l : List ℕ) → Goes s l (outcome (loadImage s l)) 0 (firstBy s l (markAt l 0))

@@ -5,7 +5,7 @@ use mathlib.Core.List.{List, [], _∷_}
 use lib.ListN.{length, drop}
 use Rattle.kvmi.specs.declared.Settings.{Settings}
 use Rattle.kvmi.specs.Bits.{putBit}
-use Rattle.kvmi.specs.Record.{Rec, place, parse}
+use Rattle.kvmi.specs.Record.{Rec, orderAt, parse}
 use Rattle.kvmi.specs.Tables.{Vcpu, Tables}
 use Rattle.kvmi.specs.Image.{recordCount, Loaded, loaded, badForm, forbidden, loadRest}
 use Rattle.image_step.specs.declared.Progress.{Progress}
@@ -33,7 +33,7 @@ pub record Stands (s : Settings) (l : List ℕ) (p : Progress) (t : Tables) (lo 
   pub events : t .events ≡ p .events
   pub records : recordCount t ≡ p .records
   pub bound : p .records ≤ p .at
-  pub order : lo ≡ suc (place (p .kind) (p .major) (p .minor))
+  pub order : lo ≡ suc (orderAt (p .kind) (p .major) (p .minor))
 
 -- the bytes from a place on, cut into records
 unfoldable pub recordsAt : List ℕ → ℕ → List Rec

@@ -1,7 +1,7 @@
 // The test of a whole table image, record by record. It changes nothing.
+use image_step::Advance;
 use image_step::Outcome;
 use image_step::Progress;
-use image_step::Step;
 use kvmi::Settings;
 ghost use mathlib.Core.Path.{_≡_};
 ghost use Rattle.kvmi.specs.Image.{loadImage};
@@ -16,10 +16,10 @@ fn test_rest(s: Settings, l: &[u8], first: Progress) -> Outcome
     loop {
         let step = image_step::next_step(s, l, p);
         match step {
-            Step::Stop { outcome } => {
+            Advance::Stop { outcome } => {
                 return outcome;
             }
-            Step::Next { progress } => {
+            Advance::Next { progress } => {
                 p = progress;
             }
         }
@@ -32,7 +32,7 @@ pub fn test(s: Settings, l: &[u8]) -> Outcome
 {
     let first = image_step::first_step(s, l);
     match first {
-        Step::Stop { outcome } => outcome,
-        Step::Next { progress } => test_rest(s, l, progress),
+        Advance::Stop { outcome } => outcome,
+        Advance::Next { progress } => test_rest(s, l, progress),
     }
 }

@@ -44,7 +44,7 @@ pub fn write_image(s: Session, vcpus: &[u64], pages: &[u64], out: &mut [u8]) -> 
             session: s,
         };
     }
-    let n = image_bytes::stated(s.settings.vcpus);
+    let n = image_bytes::stated_count(s.settings.vcpus);
     if awaits(vcpus, n) {
         return Done {
             answer: Answer::Busy,

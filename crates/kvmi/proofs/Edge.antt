@@ -99,8 +99,8 @@ odd = featuring 0x1122334455667788 0xF2 0xF3 0xF4 0xF5 (given 3 8 everything eve
 abbrev pub lent : ℕ → List ℕ
 lent n = replicate n 0xAA
 
-abbrev pub state : List ℕ
-state = 1 ∷ replicate 534 0x55 ++ (2 ∷ [])
+abbrev pub registers : List ℕ
+registers = 1 ∷ replicate 534 0x55 ++ (2 ∷ [])
 
 -- messages 2 and 3
 abbrev pub naming : ℕ → List ℕ
@@ -185,7 +185,7 @@ joined (l ∷ ls) = l ++ joined ls
 
 -- the event bytes of a pause (552), with the event's seq, and of a command with seq 8 that failed (568), with the event's seq, code and id
 abbrev pub pauseBytes : ℕ → ℕ → List ℕ
-pauseBytes seq vcpu = 17 ∷ 0 ∷ 0x20 ∷ 2 ∷ le 4 seq ++ (0x20 ∷ 2 ∷ vcpu ∷ 0 ∷ 2 ∷ 0 ∷ 0 ∷ 0 ∷ state)
+pauseBytes seq vcpu = 17 ∷ 0 ∷ 0x20 ∷ 2 ∷ le 4 seq ++ (0x20 ∷ 2 ∷ vcpu ∷ 0 ∷ 2 ∷ 0 ∷ 0 ∷ 0 ∷ registers)
 
 abbrev pub failBytes : ℕ → List ℕ → ℕ → List ℕ
 failBytes seq code id = 17 ∷ 0 ∷ 0x30 ∷ 2 ∷ le 4 seq ++ (0x20 ∷ 2 ∷ 0 ∷ 0 ∷ 13 ∷ 0 ∷ 0 ∷ 0 ∷ replicate 536 0) ++ code ++ (8 ∷ 0 ∷ 0 ∷ 0 ∷ id ∷ 0 ∷ 0 ∷ 0 ∷ 0 ∷ 0 ∷ 0 ∷ 0 ∷ [])
@@ -232,18 +232,18 @@ started s start calls expected = record { settings = s; start = start; calls = c
 abbrev pub begun : Settings → Start → Outcome → Edge
 begun s start expected = started s start [] expected
 
-abbrev pub row : Settings → List Call → Outcome → Edge
-row s calls expected = started s anew calls expected
+abbrev pub afresh : Settings → List Call → Outcome → Edge
+afresh s calls expected = started s anew calls expected
 
 -- one message, by id and data, in the session of `two` with vCPU 0 ready: replied to with 0 and an image after it; with an error; closing
 abbrev pub taken : ℕ → List ℕ → List ℕ → Edge
-taken id d image = row two (ready 0 ∷ send id d ∷ []) (answered id c0 image)
+taken id d image = afresh two (ready 0 ∷ send id d ∷ []) (answered id c0 image)
 
 abbrev pub fails : ℕ → List ℕ → List ℕ → Edge
-fails id d code = row two (ready 0 ∷ send id d ∷ []) (answered id code readyImage)
+fails id d code = afresh two (ready 0 ∷ send id d ∷ []) (answered id code readyImage)
 
 abbrev pub closes : ℕ → List ℕ → Edge
-closes id d = row two (ready 0 ∷ send id d ∷ []) closing
+closes id d = afresh two (ready 0 ∷ send id d ∷ []) closing
 
 -- the same under other settings, and behind other calls
 abbrev pub under : Settings → Edge → Edge

@@ -5,7 +5,7 @@ use lib.ListN.{take, set}
 use Rattle.kvmi.specs.declared.Settings.{Settings}
 use Rattle.kvmi.specs.declared.Signal.the-variants.{Quiet}
 use Rattle.kvmi.specs.Answer.{handled, plainAt}
-use Rattle.kvmi.specs.Record.{place}
+use Rattle.kvmi.specs.Record.{orderAt}
 use Rattle.kvmi.specs.Image.{Loaded, badForm as badFormAt, paRecord, enRecord, loadRest}
 use Rattle.kvmi.specs.Call.{writeImage}
 use Rattle.kvmi.specs.Case.{fromBytes, two, vm, vc, en, freshImage}
@@ -213,7 +213,7 @@ ofImages = formEdges ++ orderEdges ++ permissionEdges
 
 -- the 1,024th PA, behind 28 + 14 * 1,023 bytes, is right; the 1,025th breaks form at its start
 abbrev pub pageLimitLoads : Loaded
-pageLimitLoads = loadRest two 2 14350 (place 3 0 1023) (holding 1023) (paRecord (stands 1023 1) ∷ paRecord (stands 1024 1) ∷ enRecord 1028 ∷ [])
+pageLimitLoads = loadRest two 2 14350 (orderAt 3 0 1023) (holding 1023) (paRecord (stands 1023 1) ∷ paRecord (stands 1024 1) ∷ enRecord 1028 ∷ [])
 
 abbrev pub pageLimitSeen : Loaded
 pageLimitSeen = badFormAt 14364

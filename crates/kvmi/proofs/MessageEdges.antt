@@ -13,7 +13,7 @@ use Rattle.kvmi.specs.Message.{firstPadding}
 use Rattle.kvmi.specs.Reply.{messageBytes}
 use Rattle.kvmi.specs.Call.{message, ready}
 use Rattle.kvmi.specs.Case.{two, out, page, send, vcpuHeader, physical, flagData, registerData, entry, accessData, pause, controlMsr, setAccess, reply, c0, c16, c22, vm, vc, en, freshImage, readyImage}
-use Rattle.kvmi.proofs.Edge.{Edge, left, given, everything, commanding, eventful, equipped, sized, without, few, naming, eventData, modeData, controlVmEvent, controlEvent, controlCr, singlestep, responses, to15, c1, c2, c11, c95, c1000, vmOf, vmHas, idle, ms, pa, joined, beside, nobody, quiet, over, told, answered, closing, row, taken, fails, closes, under, behind}
+use Rattle.kvmi.proofs.Edge.{Edge, left, given, everything, commanding, eventful, equipped, sized, without, few, naming, eventData, modeData, controlVmEvent, controlEvent, controlCr, singlestep, responses, to15, c1, c2, c11, c95, c1000, vmOf, vmHas, idle, ms, pa, joined, beside, nobody, quiet, over, told, answered, closing, afresh, taken, fails, closes, under, behind}
 
 -- ---- each message once as it is taken
 -- its data; in the session of `two` with vCPU 0 ready, its reply's data, its signal, and guest memory and image after it
@@ -56,13 +56,13 @@ acted =
 
 abbrev pub replying : Sample → Edge
 replying p =
-    row two (ready 0 ∷ send (p .id) (p .d) ∷ [])
+    afresh two (ready 0 ∷ send (p .id) (p .d) ∷ [])
     (left (handled (16 + length (p .bytes)) (p .signal)) (over (p .id ∷ 0 ∷ (8 + length (p .bytes)) ∷ 0 ∷ 8 ∷ 0 ∷ 0 ∷ 0 ∷ c0 ++ c0 ++ p .bytes) out) (p .guest) (p .image) quiet)
 
 -- with replies off: flags of message 15, and the mode that it leaves
 abbrev pub silent : ℕ → ReplyMode → Sample → Edge
 silent flags mode p =
-    row two (ready 0 ∷ responses 0 1 flags ∷ send (p .id) (p .d) ∷ [])
+    afresh two (ready 0 ∷ responses 0 1 flags ∷ send (p .id) (p .d) ∷ [])
     (left (handled 0 (p .signal)) out (p .guest) (p .image) (beside mode 0 nobody))
 
 -- test 3
@@ -142,39 +142,39 @@ fieldEdges =
 abbrev pub switchEdges : List Edge
 switchEdges =
     -- message 5 takes events 1 and 12, alone of 0 to 15; 0x10C is not 12; off again, and off where it is off
-    row two (map (λ e. controlVmEvent e 1) to15) (answered 5 c22 (vmHas 0x1002 ++ idle 0 ++ idle 1 ++ en 3))
+    afresh two (map (λ e. controlVmEvent e 1) to15) (answered 5 c22 (vmHas 0x1002 ++ idle 0 ++ idle 1 ++ en 3))
     ∷ fails 5 (eventData 0x10C 1) c22
-    ∷ row two (controlVmEvent 1 1 ∷ controlVmEvent 12 1 ∷ controlVmEvent 1 0 ∷ []) (answered 5 c0 (vmHas 0x1000 ++ idle 0 ++ idle 1 ++ en 3))
+    ∷ afresh two (controlVmEvent 1 1 ∷ controlVmEvent 12 1 ∷ controlVmEvent 1 0 ∷ []) (answered 5 c0 (vmHas 0x1000 ++ idle 0 ++ idle 1 ++ en 3))
     ∷ taken 5 (eventData 1 0) readyImage
     -- messages 2 and 3 only ask
-    ∷ row two (controlVmEvent 12 1 ∷ send 2 (naming 12) ∷ []) (answered 2 c0 (vmHas 0x1000 ++ idle 0 ++ idle 1 ++ en 3))
-    ∷ row two (controlVmEvent 12 1 ∷ send 3 (naming 12) ∷ []) (answered 3 c0 (vmHas 0x1000 ++ idle 0 ++ idle 1 ++ en 3))
+    ∷ afresh two (controlVmEvent 12 1 ∷ send 2 (naming 12) ∷ []) (answered 2 c0 (vmHas 0x1000 ++ idle 0 ++ idle 1 ++ en 3))
+    ∷ afresh two (controlVmEvent 12 1 ∷ send 3 (naming 12) ∷ []) (answered 3 c0 (vmHas 0x1000 ++ idle 0 ++ idle 1 ++ en 3))
     -- message 10 takes nine; 0x109 is not 9; off again, and off where it is off
-    ∷ row two (ready 0 ∷ map (λ e. controlEvent 0 e 1) to15) (answered 10 c22 (vm ++ vc 0 1 0 0x4FB8 0 ++ idle 1 ++ en 3))
+    ∷ afresh two (ready 0 ∷ map (λ e. controlEvent 0 e 1) to15) (answered 10 c22 (vm ++ vc 0 1 0 0x4FB8 0 ++ idle 1 ++ en 3))
     ∷ fails 10 (vcpuHeader 0 ++ eventData 0x109 1) c22
-    ∷ row two (ready 0 ∷ controlEvent 0 4 1 ∷ controlEvent 0 14 1 ∷ controlEvent 0 14 0 ∷ []) (answered 10 c0 (vm ++ vc 0 1 0 0x10 0 ++ idle 1 ++ en 3))
+    ∷ afresh two (ready 0 ∷ controlEvent 0 4 1 ∷ controlEvent 0 14 1 ∷ controlEvent 0 14 0 ∷ []) (answered 10 c0 (vm ++ vc 0 1 0 0x10 0 ++ idle 1 ++ en 3))
     ∷ taken 10 (vcpuHeader 0 ++ eventData 8 0) readyImage
     -- message 11: CR0, CR3 and CR4 have bits 1, 2 and 4; no other is taken, in any of its four bytes; off again, and off where it is off
     ∷ taken 11 (registerData 0 0 1) (vm ++ vc 0 1 1 0 0 ++ idle 1 ++ en 3)
     ∷ taken 11 (registerData 0 3 1) (vm ++ vc 0 1 2 0 0 ++ idle 1 ++ en 3)
-    ∷ row two (ready 0 ∷ map (λ r. controlCr 0 r 1) (1 ∷ 2 ∷ 5 ∷ 6 ∷ 7 ∷ 8 ∷ 0x103 ∷ 0x10003 ∷ 0x1000003 ∷ [])) (answered 11 c22 readyImage)
-    ∷ row two (ready 0 ∷ controlCr 0 0 1 ∷ controlCr 0 3 1 ∷ controlCr 0 4 1 ∷ controlCr 0 3 0 ∷ []) (answered 11 c0 (vm ++ vc 0 1 5 0 0 ++ idle 1 ++ en 3))
+    ∷ afresh two (ready 0 ∷ map (λ r. controlCr 0 r 1) (1 ∷ 2 ∷ 5 ∷ 6 ∷ 7 ∷ 8 ∷ 0x103 ∷ 0x10003 ∷ 0x1000003 ∷ [])) (answered 11 c22 readyImage)
+    ∷ afresh two (ready 0 ∷ controlCr 0 0 1 ∷ controlCr 0 3 1 ∷ controlCr 0 4 1 ∷ controlCr 0 3 0 ∷ []) (answered 11 c0 (vm ++ vc 0 1 5 0 0 ++ idle 1 ++ en 3))
     ∷ taken 11 (registerData 0 4 0) readyImage
     -- message 12: the ends of both ranges, in whichever order they come, and nothing beside them; off again, and off where it is off
-    ∷ row two (ready 0 ∷ map (λ r. controlMsr 0 r 1) (0xC0001FFF ∷ 0x1FFF ∷ 0xC0000000 ∷ 0 ∷ 0x2000 ∷ 0xBFFFFFFF ∷ 0xC0002000 ∷ 0xFFFFFFFF ∷ []))
+    ∷ afresh two (ready 0 ∷ map (λ r. controlMsr 0 r 1) (0xC0001FFF ∷ 0x1FFF ∷ 0xC0000000 ∷ 0 ∷ 0x2000 ∷ 0xBFFFFFFF ∷ 0xC0002000 ∷ 0xFFFFFFFF ∷ []))
     (answered 12 c22 (vm ++ vc 0 1 0 0 0 ++ idle 1 ++ ms 0 0 ++ ms 0 0x1FFF ++ ms 0 0xC0000000 ++ ms 0 0xC0001FFF ++ en 7))
-    ∷ row two (ready 0 ∷ controlMsr 0 0x10 1 ∷ controlMsr 0 0x20 1 ∷ controlMsr 0 0x10 0 ∷ []) (answered 12 c0 (vm ++ vc 0 1 0 0 0 ++ idle 1 ++ ms 0 0x20 ++ en 4))
+    ∷ afresh two (ready 0 ∷ controlMsr 0 0x10 1 ∷ controlMsr 0 0x20 1 ∷ controlMsr 0 0x10 0 ∷ []) (answered 12 c0 (vm ++ vc 0 1 0 0 0 ++ idle 1 ++ ms 0 0x20 ++ en 4))
     ∷ taken 12 (registerData 0 0x10 0) readyImage
     -- message 14, off again
-    ∷ row two (ready 0 ∷ singlestep 0 1 ∷ singlestep 0 0 ∷ []) (answered 14 c0 readyImage)
+    ∷ afresh two (ready 0 ∷ singlestep 0 1 ∷ singlestep 0 0 ∷ []) (answered 14 c0 readyImage)
     -- message 8 only asks
-    ∷ row (sized 4 1) (ready 3 ∷ controlEvent 3 3 1 ∷ controlCr 3 0 1 ∷ singlestep 3 1 ∷ send 8 (vcpuHeader 3) ∷ [])
+    ∷ afresh (sized 4 1) (ready 3 ∷ controlEvent 3 3 1 ∷ controlCr 3 0 1 ∷ singlestep 3 1 ∷ send 8 (vcpuHeader 3) ∷ [])
     (told (handled 24 Quiet) (8 ∷ 0 ∷ 16 ∷ 0 ∷ 8 ∷ 0 ∷ 0 ∷ 0 ∷ replicate 16 0) (vmOf 4 ++ idle 0 ++ idle 1 ++ idle 2 ++ vc 3 3 1 8 0 ++ en 5) (beside On 0 (replicate 4 none)))
     -- all of them of vCPU 1, and none of vCPU 0
-    ∷ row two (ready 1 ∷ controlEvent 1 4 1 ∷ controlCr 1 3 1 ∷ controlMsr 1 0x10 1 ∷ singlestep 1 1 ∷ pause 1 ∷ [])
+    ∷ afresh two (ready 1 ∷ controlEvent 1 4 1 ∷ controlCr 1 3 1 ∷ controlMsr 1 0x10 1 ∷ singlestep 1 1 ∷ pause 1 ∷ [])
     (told (handled 16 (Kick true 1)) (reply 9 c0) (vm ++ idle 0 ++ vc 1 3 2 0x10 1 ++ ms 1 0x10 ++ en 4) quiet)
     -- MSRs by vCPU, then MSR
-    ∷ row two (ready 0 ∷ ready 1 ∷ controlMsr 1 0x10 1 ∷ controlMsr 0 0xC0000000 1 ∷ controlMsr 1 0x11 1 ∷ controlMsr 1 0x11 1 ∷ [])
+    ∷ afresh two (ready 0 ∷ ready 1 ∷ controlMsr 1 0x10 1 ∷ controlMsr 0 0xC0000000 1 ∷ controlMsr 1 0x11 1 ∷ controlMsr 1 0x11 1 ∷ [])
     (answered 12 c0 (vm ++ vc 0 1 0 0 0 ++ vc 1 1 0 0 0 ++ ms 0 0xC0000000 ++ ms 1 0x10 ++ ms 1 0x11 ++ en 6))
     ∷ []
 
@@ -184,10 +184,10 @@ accessEdges =
     -- a page below rwx is stated once, with its last access; two addresses of one page
     taken 13 (accessData 3 0 (entry 0x7000 5 ++ entry 0x5000 1 ++ entry 0x7FFF 3)) (vm ++ vc 0 1 0 0 0 ++ idle 1 ++ pa 0 5 1 ++ pa 0 7 3 ++ en 5)
     -- page n set to access n: 0, 1, 3, 4 and 5 are taken
-    ∷ row two (map (λ a. setAccess 1 0 (entry (a * 4096) a)) (0 ∷ 1 ∷ 2 ∷ 3 ∷ 4 ∷ 5 ∷ 6 ∷ 8 ∷ []))
+    ∷ afresh two (map (λ a. setAccess 1 0 (entry (a * 4096) a)) (0 ∷ 1 ∷ 2 ∷ 3 ∷ 4 ∷ 5 ∷ 6 ∷ 8 ∷ []))
     (answered 13 c22 (vm ++ idle 0 ++ idle 1 ++ pa 0 0 0 ++ pa 0 1 1 ++ pa 0 3 3 ++ pa 0 4 4 ++ pa 0 5 5 ++ en 8))
     -- access 7 forgets a page, alone
-    ∷ row two (setAccess 2 0 (entry 0x5000 1 ++ entry 0x6000 3) ∷ setAccess 1 0 (entry 0x5000 7) ∷ []) (answered 13 c0 (vm ++ idle 0 ++ idle 1 ++ pa 0 6 3 ++ en 4))
+    ∷ afresh two (setAccess 2 0 (entry 0x5000 1 ++ entry 0x6000 3) ∷ setAccess 1 0 (entry 0x5000 7) ∷ []) (answered 13 c0 (vm ++ idle 0 ++ idle 1 ++ pa 0 6 3 ++ en 4))
     -- a later entry that is invalid keeps the first from acting
     ∷ fails 13 (accessData 2 0 (entry 0x5000 1 ++ entry 0x6000 6)) c22
     -- the last page that an address has
@@ -207,7 +207,7 @@ accessEdges =
     ∷ fails 13 (accessData 1 1 (entry 0x5000 1)) c22
     ∷ under (sized 2 8) (fails 13 (accessData 1 8 (entry 0x5000 1)) c22)
     ∷ under (sized 2 8) (fails 13 (accessData 1 0x100 (entry 0x5000 1)) c22)
-    ∷ row (sized 2 8) (setAccess 2 7 (entry 0x3000 1 ++ entry 0x9000 4) ∷ setAccess 3 0 (entry 0xA000 5 ++ entry 0x3000 0 ++ entry 0x9000 5) ∷ setAccess 1 0 (entry 0x3000 7) ∷ [])
+    ∷ afresh (sized 2 8) (setAccess 2 7 (entry 0x3000 1 ++ entry 0x9000 4) ∷ setAccess 3 0 (entry 0xA000 5 ++ entry 0x3000 0 ++ entry 0x9000 5) ∷ setAccess 1 0 (entry 0x3000 7) ∷ [])
     (answered 13 c0 (vm ++ idle 0 ++ idle 1 ++ pa 0 9 5 ++ pa 0 10 5 ++ pa 7 3 1 ++ pa 7 9 4 ++ en 7))
     ∷ []
 
@@ -222,7 +222,7 @@ half = page ++ replicate 4095 3
 -- with guest memory of its own, after which it is as said
 abbrev pub lending : List ℕ → ℕ → List ℕ → List ℕ → List ℕ → Edge
 lending guest id d bytes after =
-    row two (message (messageBytes id 8 d) out guest ∷ []) (left (handled (length bytes) Quiet) (over bytes out) after freshImage quiet)
+    afresh two (message (messageBytes id 8 d) out guest ∷ []) (left (handled (length bytes) Quiet) (over bytes out) after freshImage quiet)
 
 abbrev pub memoryEdges : List Edge
 memoryEdges =
@@ -262,19 +262,19 @@ memoryEdges =
 abbrev pub testEdges : List Edge
 testEdges =
     -- test 1: 7 bytes; a size one too small
-    row two (ready 0 ∷ message (1 ∷ 0 ∷ 0 ∷ 0 ∷ 8 ∷ 0 ∷ 0 ∷ []) out page ∷ []) closing
-    ∷ row two (ready 0 ∷ message (2 ∷ 0 ∷ 7 ∷ 0 ∷ 8 ∷ 0 ∷ 0 ∷ 0 ∷ 5 ∷ replicate 7 0) out page ∷ []) closing
+    afresh two (ready 0 ∷ message (1 ∷ 0 ∷ 0 ∷ 0 ∷ 8 ∷ 0 ∷ 0 ∷ []) out page ∷ []) closing
+    ∷ afresh two (ready 0 ∷ message (2 ∷ 0 ∷ 7 ∷ 0 ∷ 8 ∷ 0 ∷ 0 ∷ 0 ∷ 5 ∷ replicate 7 0) out page ∷ []) closing
     -- test 2: ids 0, 17 and 0x101 are unknown, whatever their size; the reply has their id
     ∷ fails 0 [] c1000
     ∷ fails 17 (0 ∷ []) c1000
-    ∷ row two (send 0x101 [] ∷ []) (told (handled 16 Quiet) (1 ∷ 1 ∷ 8 ∷ 0 ∷ 8 ∷ 0 ∷ 0 ∷ 0 ∷ c1000 ++ c0) freshImage quiet)
+    ∷ afresh two (send 0x101 [] ∷ []) (told (handled 16 Quiet) (1 ∷ 1 ∷ 8 ∷ 0 ∷ 8 ∷ 0 ∷ 0 ∷ 0 ∷ c1000 ++ c0) freshImage quiet)
     -- a notAllowed id is answered whatever its size; with no command allowed 1, 2, 3 and 16 are; with one allowed that one is
     ∷ under (commanding 0) (fails 9 [] c1)
     ∷ under (commanding 0) (replying (asking 1 [] (1 ∷ 0 ∷ 0 ∷ 0 ∷ 0 ∷ 0 ∷ 0 ∷ 0 ∷ 1 ∷ 1 ∷ 1 ∷ 1 ∷ 1 ∷ 0 ∷ 0 ∷ 0 ∷ [])))
     ∷ under (commanding 0) (taken 2 (naming 3) readyImage)
     ∷ under (commanding 0) (taken 3 (naming 3) readyImage)
     ∷ under (commanding 0x10) (replying (asking 4 [] (2 ∷ replicate 15 0)))
-    ∷ under (commanding 0x8000) (row two (responses 1 0 0 ∷ []) (answered 15 c0 freshImage))
+    ∷ under (commanding 0x8000) (afresh two (responses 1 0 0 ∷ []) (answered 15 c0 freshImage))
     -- with replies off either closes
     ∷ behind (responses 0 1 0 ∷ []) (closes 17 [])
     ∷ behind (responses 0 1 1 ∷ []) (closes 0 [])
@@ -290,17 +290,17 @@ testEdges =
     ∷ under (without 2) (closes 9 (flagData 1 1))
     ∷ under (without 2) (taken 2 (naming 5) readyImage)
     ∷ under (without 2) (taken 14 (flagData 0 0) readyImage)
-    ∷ under (eventful 4) (row two (ready 0 ∷ pause 0 ∷ []) (told (handled 16 (Kick true 0)) (reply 9 c0) (vm ++ vc 0 1 0 0 1 ++ idle 1 ++ en 3) quiet))
+    ∷ under (eventful 4) (afresh two (ready 0 ∷ pause 0 ∷ []) (told (handled 16 (Kick true 0)) (reply 9 c0) (vm ++ vc 0 1 0 0 1 ++ idle 1 ++ en 3) quiet))
     -- test 5: enable 0 with the flag while event 13 is not allowed, whatever now says; not with enable 1, without the flag, or with -22
     ∷ under (without 13) (closes 15 (modeData 0 0 1))
     ∷ under (without 13) (closes 15 (modeData 0 1 1))
     ∷ under (without 13) (taken 15 (modeData 1 0 1) readyImage)
-    ∷ row (without 13) (responses 0 0 0 ∷ []) (told (handled 16 Quiet) (reply 15 c0) freshImage (beside Off 0 nobody))
+    ∷ afresh (without 13) (responses 0 0 0 ∷ []) (told (handled 16 Quiet) (reply 15 c0) freshImage (beside Off 0 nobody))
     ∷ under (without 13) (fails 15 (modeData 0 2 1) c22)
     ∷ under (without 13) (fails 15 (modeData 0 0 3) c22)
     ∷ under (without 13) (fails 15 (set (modeData 0 0 1) 7 1) c22)
-    ∷ row (given 2 2 everything (everything - 2 ^ 13) 1 1 0) (setAccess 1 1 (entry 0x5000 1) ∷ []) (answered 13 c0 (vm ++ idle 0 ++ idle 1 ++ pa 1 5 1 ++ en 4))
-    ∷ row (eventful 0x2000) (responses 0 0 1 ∷ []) (told (handled 16 Quiet) (reply 15 c0) freshImage (beside ErrorsOnly 0 nobody))
+    ∷ afresh (given 2 2 everything (everything - 2 ^ 13) 1 1 0) (setAccess 1 1 (entry 0x5000 1) ∷ []) (answered 13 c0 (vm ++ idle 0 ++ idle 1 ++ pa 1 5 1 ++ en 4))
+    ∷ afresh (eventful 0x2000) (responses 0 0 1 ∷ []) (told (handled 16 Quiet) (reply 15 c0) freshImage (beside ErrorsOnly 0 nobody))
     -- -11: vCPU 1 is not ready
     ∷ fails 8 (vcpuHeader 1) c11
     ∷ fails 9 (flagData 1 1) c11
@@ -341,10 +341,10 @@ testEdges =
     -- what the settings lack, and a full queue, is no matter to the other messages, nor is a vCPU's number an event's
     ∷ under few (taken 10 (vcpuHeader 0 ++ eventData 9 1) (vm ++ vc 0 1 0 0x200 0 ++ idle 1 ++ en 3))
     ∷ under few (taken 15 (modeData 1 0 0) readyImage)
-    ∷ row two (ready 0 ∷ replicate 8 (pause 0) ++ (send 8 (vcpuHeader 0) ∷ []))
+    ∷ afresh two (ready 0 ∷ replicate 8 (pause 0) ++ (send 8 (vcpuHeader 0) ∷ []))
     (told (handled 24 Quiet) (8 ∷ 0 ∷ 16 ∷ 0 ∷ 8 ∷ 0 ∷ 0 ∷ 0 ∷ replicate 16 0) (vm ++ vc 0 1 0 0 8 ++ idle 1 ++ en 3) quiet)
-    ∷ row two (ready 0 ∷ replicate 8 (pause 0) ++ (controlCr 0 3 1 ∷ [])) (answered 11 c0 (vm ++ vc 0 1 2 0 8 ++ idle 1 ++ en 3))
-    ∷ row (given 16 1 everything everything 1 0 1) (ready 4 ∷ ready 8 ∷ pause 4 ∷ pause 8 ∷ controlCr 4 3 1 ∷ controlCr 8 3 1 ∷ controlMsr 4 0x10 1 ∷ controlMsr 8 0x10 1 ∷ singlestep 4 1 ∷ singlestep 8 1 ∷ [])
+    ∷ afresh two (ready 0 ∷ replicate 8 (pause 0) ++ (controlCr 0 3 1 ∷ [])) (answered 11 c0 (vm ++ vc 0 1 2 0 8 ++ idle 1 ++ en 3))
+    ∷ afresh (given 16 1 everything everything 1 0 1) (ready 4 ∷ ready 8 ∷ pause 4 ∷ pause 8 ∷ controlCr 4 3 1 ∷ controlCr 8 3 1 ∷ controlMsr 4 0x10 1 ∷ controlMsr 8 0x10 1 ∷ singlestep 4 1 ∷ singlestep 8 1 ∷ [])
     (told (handled 16 Quiet) (reply 14 c0) (vmOf 16 ++ joined (map idle (take 4 to15)) ++ vc 4 3 2 0 1 ++ idle 5 ++ idle 6 ++ idle 7 ++ vc 8 3 2 0 1 ++ joined (map idle (drop 9 to15)) ++ ms 4 0x10 ++ ms 8 0x10 ++ en 19) (beside On 0 (replicate 16 none)))
     -- the first code that applies: -22 before -11, -1, -95, -16 and -2; -11 before -1, -95 and -16; -1 before -95 and -16
     ∷ fails 10 (vcpuHeader 1 ++ eventData 6 1) c22

@@ -15,44 +15,44 @@ use Rattle.kvmi.specs.Change.{Run, takeEntries}
 use Rattle.kvmi.specs.Reply.{messageBytes}
 use Rattle.kvmi.specs.Call.{Call, message, ready, enter, writeImage}
 use Rattle.kvmi.specs.Case.{anew, fromBytes, standing, two, out, page, send, vcpuHeader, physical, entry, pause, controlMsr, setAccess, reply, c0, c22, vm, vc, en, freshImage, readyImage}
-use Rattle.kvmi.proofs.Edge.{Outcome, Edge, nothing, left, commanding, sized, odd, lent, state, naming, eventData, modeData, answerData, controlVmEvent, controlEvent, controlCr, singlestep, responses, sendAs, eventReply, to15, c11, c12, vmHas, idle, ms, pa, joined, vmOf, pauseBytes, failBytes, beside, nobody, awaits, quiet, shut, over, told, gave, answered, closing, started, begun, row}
+use Rattle.kvmi.proofs.Edge.{Outcome, Edge, nothing, left, commanding, sized, odd, lent, registers, naming, eventData, modeData, answerData, controlVmEvent, controlEvent, controlCr, singlestep, responses, sendAs, eventReply, to15, c11, c12, vmHas, idle, ms, pa, joined, vmOf, pauseBytes, failBytes, beside, nobody, awaits, quiet, shut, over, told, gave, answered, closing, started, begun, afresh}
 
 -- ---- replies and reply mode
 abbrev pub replyEdges : List Edge
 replyEdges =
     -- what the settings say, before any vCPU is ready, and a command's seq echoed; VCPU_GET_INFO of the last vCPU
-    row odd (sendAs 0x04030201 1 [] ∷ [])
+    afresh odd (sendAs 0x04030201 1 [] ∷ [])
     (told (handled 32 Quiet) (1 ∷ 0 ∷ 24 ∷ 0 ∷ 1 ∷ 2 ∷ 3 ∷ 4 ∷ c0 ++ c0 ++ (1 ∷ 0 ∷ 0 ∷ 0 ∷ 0 ∷ 0 ∷ 0 ∷ 0 ∷ 0xF1 ∷ 0xF2 ∷ 0xF3 ∷ 0xF4 ∷ 0xF5 ∷ 0 ∷ 0 ∷ 0 ∷ [])) (vmOf 3 ++ idle 0 ++ idle 1 ++ idle 2 ++ en 4) (beside On 0 (none ∷ none ∷ none ∷ [])))
-    ∷ row odd (send 4 [] ∷ [])
+    ∷ afresh odd (send 4 [] ∷ [])
     (told (handled 32 Quiet) (4 ∷ 0 ∷ 24 ∷ 0 ∷ 8 ∷ 0 ∷ 0 ∷ 0 ∷ c0 ++ c0 ++ (3 ∷ replicate 15 0)) (vmOf 3 ++ idle 0 ++ idle 1 ++ idle 2 ++ en 4) (beside On 0 (none ∷ none ∷ none ∷ [])))
-    ∷ row odd (ready 2 ∷ send 8 (vcpuHeader 2) ∷ [])
+    ∷ afresh odd (ready 2 ∷ send 8 (vcpuHeader 2) ∷ [])
     (told (handled 24 Quiet) (8 ∷ 0 ∷ 16 ∷ 0 ∷ 8 ∷ 0 ∷ 0 ∷ 0 ∷ c0 ++ c0 ++ (0x88 ∷ 0x77 ∷ 0x66 ∷ 0x55 ∷ 0x44 ∷ 0x33 ∷ 0x22 ∷ 0x11 ∷ [])) (vmOf 3 ++ idle 0 ++ idle 1 ++ vc 2 1 0 0 0 ++ en 4) (beside On 0 (none ∷ none ∷ none ∷ [])))
     -- from replies on: now 0 is replied to and now 1 is not; the flag is kept with enable 0
-    ∷ row two (responses 0 0 0 ∷ []) (told (handled 16 Quiet) (reply 15 c0) freshImage (beside Off 0 nobody))
-    ∷ row two (responses 0 0 1 ∷ []) (told (handled 16 Quiet) (reply 15 c0) freshImage (beside ErrorsOnly 0 nobody))
-    ∷ row two (responses 0 1 0 ∷ []) (told (handled 0 Quiet) [] freshImage (beside Off 0 nobody))
-    ∷ row two (responses 0 1 1 ∷ []) (told (handled 0 Quiet) [] freshImage (beside ErrorsOnly 0 nobody))
-    ∷ row two (responses 1 0 1 ∷ []) (answered 15 c0 freshImage)
-    ∷ row two (responses 1 1 1 ∷ []) (answered 15 c0 freshImage)
+    ∷ afresh two (responses 0 0 0 ∷ []) (told (handled 16 Quiet) (reply 15 c0) freshImage (beside Off 0 nobody))
+    ∷ afresh two (responses 0 0 1 ∷ []) (told (handled 16 Quiet) (reply 15 c0) freshImage (beside ErrorsOnly 0 nobody))
+    ∷ afresh two (responses 0 1 0 ∷ []) (told (handled 0 Quiet) [] freshImage (beside Off 0 nobody))
+    ∷ afresh two (responses 0 1 1 ∷ []) (told (handled 0 Quiet) [] freshImage (beside ErrorsOnly 0 nobody))
+    ∷ afresh two (responses 1 0 1 ∷ []) (answered 15 c0 freshImage)
+    ∷ afresh two (responses 1 1 1 ∷ []) (answered 15 c0 freshImage)
     -- from replies off: on again with now 0 in silence and with now 1 replied to; the flag set and dropped in silence
-    ∷ row two (responses 0 1 0 ∷ responses 1 0 0 ∷ []) (told (handled 0 Quiet) [] freshImage quiet)
-    ∷ row two (responses 0 1 0 ∷ responses 1 1 0 ∷ []) (answered 15 c0 freshImage)
-    ∷ row two (responses 0 1 1 ∷ responses 1 1 1 ∷ []) (answered 15 c0 freshImage)
-    ∷ row two (responses 0 1 0 ∷ responses 0 0 1 ∷ []) (told (handled 0 Quiet) [] freshImage (beside ErrorsOnly 0 nobody))
-    ∷ row two (responses 0 1 1 ∷ responses 0 1 0 ∷ []) (told (handled 0 Quiet) [] freshImage (beside Off 0 nobody))
+    ∷ afresh two (responses 0 1 0 ∷ responses 1 0 0 ∷ []) (told (handled 0 Quiet) [] freshImage quiet)
+    ∷ afresh two (responses 0 1 0 ∷ responses 1 1 0 ∷ []) (answered 15 c0 freshImage)
+    ∷ afresh two (responses 0 1 1 ∷ responses 1 1 1 ∷ []) (answered 15 c0 freshImage)
+    ∷ afresh two (responses 0 1 0 ∷ responses 0 0 1 ∷ []) (told (handled 0 Quiet) [] freshImage (beside ErrorsOnly 0 nobody))
+    ∷ afresh two (responses 0 1 1 ∷ responses 0 1 0 ∷ []) (told (handled 0 Quiet) [] freshImage (beside Off 0 nobody))
     -- an error in 15 follows the old mode, whatever now says
-    ∷ row two (responses 0 1 2 ∷ []) (answered 15 c22 freshImage)
-    ∷ row two (responses 0 1 0 ∷ responses 1 1 2 ∷ []) (told (handled 0 Quiet) [] freshImage (beside Off 0 nobody))
-    ∷ row two (responses 0 1 1 ∷ responses 1 1 2 ∷ []) (told (handled 568 Quiet) (failBytes 0 c22 15) freshImage (beside ErrorsOnly 1 nobody))
+    ∷ afresh two (responses 0 1 2 ∷ []) (answered 15 c22 freshImage)
+    ∷ afresh two (responses 0 1 0 ∷ responses 1 1 2 ∷ []) (told (handled 0 Quiet) [] freshImage (beside Off 0 nobody))
+    ∷ afresh two (responses 0 1 1 ∷ responses 1 1 2 ∷ []) (told (handled 568 Quiet) (failBytes 0 c22 15) freshImage (beside ErrorsOnly 1 nobody))
     -- an error with replies off: in silence without the flag, an event with it, of vCPU 0 whichever vCPU the command named, with the command's seq
-    ∷ row two (responses 0 1 0 ∷ controlCr 1 4 1 ∷ []) (told (handled 0 Quiet) [] freshImage (beside Off 0 nobody))
-    ∷ row two (responses 0 1 1 ∷ controlCr 1 4 1 ∷ []) (told (handled 568 Quiet) (failBytes 0 c11 11) freshImage (beside ErrorsOnly 1 nobody))
-    ∷ row two (responses 0 1 1 ∷ sendAs 0x04030201 2 (naming 0) ∷ [])
+    ∷ afresh two (responses 0 1 0 ∷ controlCr 1 4 1 ∷ []) (told (handled 0 Quiet) [] freshImage (beside Off 0 nobody))
+    ∷ afresh two (responses 0 1 1 ∷ controlCr 1 4 1 ∷ []) (told (handled 568 Quiet) (failBytes 0 c11 11) freshImage (beside ErrorsOnly 1 nobody))
+    ∷ afresh two (responses 0 1 1 ∷ sendAs 0x04030201 2 (naming 0) ∷ [])
     (told (handled 568 Quiet) (17 ∷ 0 ∷ 0x30 ∷ 2 ∷ 0 ∷ 0 ∷ 0 ∷ 0 ∷ 0x20 ∷ 2 ∷ 0 ∷ 0 ∷ 13 ∷ 0 ∷ 0 ∷ 0 ∷ replicate 536 0 ++ c22 ++ (1 ∷ 2 ∷ 3 ∷ 4 ∷ 2 ∷ 0 ∷ 0 ∷ 0 ∷ 0 ∷ 0 ∷ 0 ∷ 0 ∷ [])) freshImage (beside ErrorsOnly 1 nobody))
     -- the second error's event has the next seq; what is no error takes none
-    ∷ row two (responses 0 1 1 ∷ controlCr 1 4 1 ∷ send 2 (naming 5) ∷ send 2 (naming 0) ∷ []) (told (handled 568 Quiet) (failBytes 1 c22 2) freshImage (beside ErrorsOnly 2 nobody))
+    ∷ afresh two (responses 0 1 1 ∷ controlCr 1 4 1 ∷ send 2 (naming 5) ∷ send 2 (naming 0) ∷ []) (told (handled 568 Quiet) (failBytes 1 c22 2) freshImage (beside ErrorsOnly 2 nobody))
     -- an error that is replied to takes no seq
-    ∷ row two (send 2 (naming 0) ∷ responses 0 1 1 ∷ send 2 (naming 0) ∷ []) (told (handled 568 Quiet) (failBytes 0 c22 2) freshImage (beside ErrorsOnly 1 nobody))
+    ∷ afresh two (send 2 (naming 0) ∷ responses 0 1 1 ∷ send 2 (naming 0) ∷ []) (told (handled 568 Quiet) (failBytes 0 c22 2) freshImage (beside ErrorsOnly 1 nobody))
     ∷ []
 
 -- ---- vCPU entry and event replies
@@ -62,53 +62,53 @@ pausedAt seq = withSeq (onVcpu (fresh two) 0 (λ v. withPauses (withReady v true
 
 -- vCPU 0 has sent a pause event with seq 0
 abbrev pub sent : List Call
-sent = ready 0 ∷ pause 0 ∷ enter 0 state (lent 552) ∷ []
+sent = ready 0 ∷ pause 0 ∷ enter 0 registers (lent 552) ∷ []
 
 -- a reply to it that closes
 abbrev pub wrong : ℕ → List ℕ → Edge
-wrong seq d = row two (sent ++ (sendAs seq 16 d ∷ [])) closing
+wrong seq d = afresh two (sent ++ (sendAs seq 16 d ∷ [])) closing
 
 abbrev pub eventEdges : List Edge
 eventEdges =
     -- no pause is queued; the vCPU need not be ready
-    row two (enter 1 state (lent 552) ∷ []) (gave (handled 0 Quiet) [] (lent 552) freshImage quiet)
+    afresh two (enter 1 registers (lent 552) ∷ []) (gave (handled 0 Quiet) [] (lent 552) freshImage quiet)
     -- one of three pauses; the output behind the event
-    ∷ row two (ready 0 ∷ pause 0 ∷ pause 0 ∷ pause 0 ∷ enter 0 state (lent 553) ∷ [])
+    ∷ afresh two (ready 0 ∷ pause 0 ∷ pause 0 ∷ pause 0 ∷ enter 0 registers (lent 553) ∷ [])
     (gave (handled 552 Quiet) (pauseBytes 0 0) (lent 553) (vm ++ vc 0 1 0 0 2 ++ idle 1 ++ en 3) (beside On 1 (awaits 0 ∷ none ∷ [])))
     -- of vCPU 1; pauses and switches of vCPU 0 stay
-    ∷ row two (ready 0 ∷ ready 1 ∷ controlCr 0 3 1 ∷ pause 0 ∷ pause 1 ∷ enter 1 state (lent 552) ∷ [])
+    ∷ afresh two (ready 0 ∷ ready 1 ∷ controlCr 0 3 1 ∷ pause 0 ∷ pause 1 ∷ enter 1 registers (lent 552) ∷ [])
     (gave (handled 552 Quiet) (pauseBytes 0 1) (lent 552) (vm ++ vc 0 1 2 0 1 ++ vc 1 1 0 0 0 ++ en 3) (beside On 1 (none ∷ awaits 0 ∷ [])))
     -- with replies off too
-    ∷ row two (ready 0 ∷ pause 0 ∷ responses 0 1 0 ∷ enter 0 state (lent 552) ∷ [])
+    ∷ afresh two (ready 0 ∷ pause 0 ∷ responses 0 1 0 ∷ enter 0 registers (lent 552) ∷ [])
     (gave (handled 552 Quiet) (pauseBytes 0 0) (lent 552) readyImage (beside Off 1 (awaits 0 ∷ none ∷ [])))
     -- the next event has the next seq, be it a pause or an error
-    ∷ row two (ready 1 ∷ pause 1 ∷ sent ++ (enter 1 state (lent 552) ∷ []))
+    ∷ afresh two (ready 1 ∷ pause 1 ∷ sent ++ (enter 1 registers (lent 552) ∷ []))
     (gave (handled 552 Quiet) (pauseBytes 1 1) (lent 552) (vm ++ vc 0 1 0 0 0 ++ vc 1 1 0 0 0 ++ en 3) (beside On 2 (awaits 0 ∷ awaits 1 ∷ [])))
-    ∷ row two (sent ++ (responses 0 1 1 ∷ send 2 (naming 0) ∷ [])) (told (handled 568 Quiet) (failBytes 1 c22 2) readyImage (beside ErrorsOnly 2 (awaits 0 ∷ none ∷ [])))
-    ∷ row two (responses 0 1 1 ∷ send 2 (naming 0) ∷ sent) (gave (handled 552 Quiet) (pauseBytes 1 0) (lent 552) readyImage (beside ErrorsOnly 2 (awaits 1 ∷ none ∷ [])))
+    ∷ afresh two (sent ++ (responses 0 1 1 ∷ send 2 (naming 0) ∷ [])) (told (handled 568 Quiet) (failBytes 1 c22 2) readyImage (beside ErrorsOnly 2 (awaits 0 ∷ none ∷ [])))
+    ∷ afresh two (responses 0 1 1 ∷ send 2 (naming 0) ∷ sent) (gave (handled 552 Quiet) (pauseBytes 1 0) (lent 552) readyImage (beside ErrorsOnly 2 (awaits 1 ∷ none ∷ [])))
     -- refused in the order 4, 5, 3, 6
-    ∷ row two (enter 2 [] [] ∷ []) (gave (plain 4) [] [] freshImage quiet)
-    ∷ row two (enter 3 state (lent 552) ∷ []) (gave (plain 4) [] (lent 552) freshImage quiet)
-    ∷ row two (sent ++ (enter 0 (drop 1 state) (lent 551) ∷ [])) (gave (plain 5) [] (lent 551) readyImage (beside On 1 (awaits 0 ∷ none ∷ [])))
-    ∷ row two (enter 0 (0 ∷ state) (lent 552) ∷ []) (gave (plain 5) [] (lent 552) freshImage quiet)
-    ∷ row two (sent ++ (enter 0 state (lent 551) ∷ [])) (gave (plain 3) [] (lent 551) readyImage (beside On 1 (awaits 0 ∷ none ∷ [])))
-    ∷ row two (enter 0 state (lent 551) ∷ []) (gave (plain 3) [] (lent 551) freshImage quiet)
-    ∷ row two (sent ++ (enter 0 state (lent 552) ∷ [])) (gave (plain 6) [] (lent 552) readyImage (beside On 1 (awaits 0 ∷ none ∷ [])))
-    ∷ row two (sent ++ (pause 0 ∷ enter 0 state (lent 552) ∷ [])) (gave (plain 6) [] (lent 552) (vm ++ vc 0 1 0 0 1 ++ idle 1 ++ en 3) (beside On 1 (awaits 0 ∷ none ∷ [])))
+    ∷ afresh two (enter 2 [] [] ∷ []) (gave (plain 4) [] [] freshImage quiet)
+    ∷ afresh two (enter 3 registers (lent 552) ∷ []) (gave (plain 4) [] (lent 552) freshImage quiet)
+    ∷ afresh two (sent ++ (enter 0 (drop 1 registers) (lent 551) ∷ [])) (gave (plain 5) [] (lent 551) readyImage (beside On 1 (awaits 0 ∷ none ∷ [])))
+    ∷ afresh two (enter 0 (0 ∷ registers) (lent 552) ∷ []) (gave (plain 5) [] (lent 552) freshImage quiet)
+    ∷ afresh two (sent ++ (enter 0 registers (lent 551) ∷ [])) (gave (plain 3) [] (lent 551) readyImage (beside On 1 (awaits 0 ∷ none ∷ [])))
+    ∷ afresh two (enter 0 registers (lent 551) ∷ []) (gave (plain 3) [] (lent 551) freshImage quiet)
+    ∷ afresh two (sent ++ (enter 0 registers (lent 552) ∷ [])) (gave (plain 6) [] (lent 552) readyImage (beside On 1 (awaits 0 ∷ none ∷ [])))
+    ∷ afresh two (sent ++ (pause 0 ∷ enter 0 registers (lent 552) ∷ [])) (gave (plain 6) [] (lent 552) (vm ++ vc 0 1 0 0 1 ++ idle 1 ++ en 3) (beside On 1 (awaits 0 ∷ none ∷ [])))
     -- the other vCPU does not wait
-    ∷ row two (sent ++ (enter 1 state (lent 552) ∷ [])) (gave (handled 0 Quiet) [] (lent 552) readyImage (beside On 1 (awaits 0 ∷ none ∷ [])))
+    ∷ afresh two (sent ++ (enter 1 registers (lent 552) ∷ [])) (gave (handled 0 Quiet) [] (lent 552) readyImage (beside On 1 (awaits 0 ∷ none ∷ [])))
     -- a reply is taken once, with action 0 or 2, and in any reply mode; no command need be allowed
-    ∷ row two (sent ++ (eventReply 0 0 0 2 ∷ [])) (told (handled 0 Quiet) [] readyImage (beside On 1 nobody))
-    ∷ row two (sent ++ (eventReply 0 0 2 2 ∷ [])) (told (handled 0 (Crash 0)) [] readyImage (beside On 1 nobody))
-    ∷ row two (sent ++ (responses 0 1 1 ∷ eventReply 0 0 2 2 ∷ [])) (told (handled 0 (Crash 0)) [] readyImage (beside ErrorsOnly 1 nobody))
-    ∷ row two (sent ++ (eventReply 0 0 0 2 ∷ eventReply 0 0 0 2 ∷ [])) closing
-    ∷ started (commanding 0) (fromBytes (vm ++ idle 0 ++ vc 1 1 0 0 1 ++ en 3)) (enter 1 state (lent 552) ∷ eventReply 0 1 2 2 ∷ []) (told (handled 0 (Crash 1)) [] (vm ++ idle 0 ++ vc 1 1 0 0 0 ++ en 3) (beside On 1 nobody))
+    ∷ afresh two (sent ++ (eventReply 0 0 0 2 ∷ [])) (told (handled 0 Quiet) [] readyImage (beside On 1 nobody))
+    ∷ afresh two (sent ++ (eventReply 0 0 2 2 ∷ [])) (told (handled 0 (Crash 0)) [] readyImage (beside On 1 nobody))
+    ∷ afresh two (sent ++ (responses 0 1 1 ∷ eventReply 0 0 2 2 ∷ [])) (told (handled 0 (Crash 0)) [] readyImage (beside ErrorsOnly 1 nobody))
+    ∷ afresh two (sent ++ (eventReply 0 0 0 2 ∷ eventReply 0 0 0 2 ∷ [])) closing
+    ∷ started (commanding 0) (fromBytes (vm ++ idle 0 ++ vc 1 1 0 0 1 ++ en 3)) (enter 1 registers (lent 552) ∷ eventReply 0 1 2 2 ∷ []) (told (handled 0 (Crash 1)) [] (vm ++ idle 0 ++ vc 1 1 0 0 0 ++ en 3) (beside On 1 nobody))
     -- of two that are awaited, the one that is meant
-    ∷ row two (ready 1 ∷ pause 1 ∷ sent ++ (enter 1 state (lent 552) ∷ eventReply 1 1 0 2 ∷ []))
+    ∷ afresh two (ready 1 ∷ pause 1 ∷ sent ++ (enter 1 registers (lent 552) ∷ eventReply 1 1 0 2 ∷ []))
     (told (handled 0 Quiet) [] (vm ++ vc 0 1 0 0 0 ++ vc 1 1 0 0 0 ++ en 3) (beside On 2 (awaits 0 ∷ none ∷ [])))
-    ∷ row two (ready 1 ∷ pause 1 ∷ sent ++ (enter 1 state (lent 552) ∷ eventReply 0 1 0 2 ∷ [])) closing
+    ∷ afresh two (ready 1 ∷ pause 1 ∷ sent ++ (enter 1 registers (lent 552) ∷ eventReply 0 1 0 2 ∷ [])) closing
     -- after it the vCPU enters again
-    ∷ row two (ready 0 ∷ pause 0 ∷ sent ++ (eventReply 0 0 0 2 ∷ enter 0 state (lent 552) ∷ []))
+    ∷ afresh two (ready 0 ∷ pause 0 ∷ sent ++ (eventReply 0 0 0 2 ∷ enter 0 registers (lent 552) ∷ []))
     (gave (handled 552 Quiet) (pauseBytes 1 0) (lent 552) readyImage (beside On 2 (awaits 1 ∷ none ∷ [])))
     -- another seq, in its first and in its last byte; another event; action 1 and 3; another vCPU, and ones not below the count
     ∷ wrong 1 (answerData 0 0 2)
@@ -128,12 +128,12 @@ eventEdges =
     ∷ wrong 0 (answerData 0 0 2 ++ (0 ∷ []))
     ∷ wrong 0 (take 15 (answerData 0 0 2))
     -- none is awaited, whatever event is named
-    ∷ row two (eventReply 0 0 0 2 ∷ []) closing
-    ∷ row two (eventReply 0 0 0 1 ∷ []) closing
-    ∷ row two (eventReply 0 0 0 0 ∷ []) closing
+    ∷ afresh two (eventReply 0 0 0 2 ∷ []) closing
+    ∷ afresh two (eventReply 0 0 0 1 ∷ []) closing
+    ∷ afresh two (eventReply 0 0 0 0 ∷ []) closing
     -- the seq goes from 4,294,967,295 to 0
-    ∷ started two (standing (pausedAt 0xFFFFFFFF)) (enter 0 state (lent 552) ∷ []) (gave (handled 552 Quiet) (pauseBytes 0xFFFFFFFF 0) (lent 552) readyImage (beside On 0 (awaits 0xFFFFFFFF ∷ none ∷ [])))
-    ∷ started two (standing (pausedAt 0xFFFFFFFE)) (enter 0 state (lent 552) ∷ []) (gave (handled 552 Quiet) (pauseBytes 0xFFFFFFFE 0) (lent 552) readyImage (beside On 0xFFFFFFFF (awaits 0xFFFFFFFE ∷ none ∷ [])))
+    ∷ started two (standing (pausedAt 0xFFFFFFFF)) (enter 0 registers (lent 552) ∷ []) (gave (handled 552 Quiet) (pauseBytes 0xFFFFFFFF 0) (lent 552) readyImage (beside On 0 (awaits 0xFFFFFFFF ∷ none ∷ [])))
+    ∷ started two (standing (pausedAt 0xFFFFFFFE)) (enter 0 registers (lent 552) ∷ []) (gave (handled 552 Quiet) (pauseBytes 0xFFFFFFFE 0) (lent 552) readyImage (beside On 0xFFFFFFFF (awaits 0xFFFFFFFE ∷ none ∷ [])))
     ∷ []
 
 -- ---- each call changes its own and nothing else
@@ -168,7 +168,7 @@ ownEdges =
     ∷ onFull (singlestep 0 0) (answered 14 c0 (fullImage 0x1000 (vc 0 1 5 0x4218 3) records))
     -- a pause more and one less; the reply mode; a ready mark
     ∷ onFull (pause 0) (told (handled 16 (Kick true 0)) (reply 9 c0) (fullImage 0x1000 (vc 0 3 5 0x4218 4) records) quiet)
-    ∷ onFull (enter 0 state (lent 552)) (gave (handled 552 Quiet) (pauseBytes 0 0) (lent 552) (fullImage 0x1000 (vc 0 3 5 0x4218 2) records) (beside On 1 (awaits 0 ∷ none ∷ [])))
+    ∷ onFull (enter 0 registers (lent 552)) (gave (handled 552 Quiet) (pauseBytes 0 0) (lent 552) (fullImage 0x1000 (vc 0 3 5 0x4218 2) records) (beside On 1 (awaits 0 ∷ none ∷ [])))
     ∷ onFull (responses 0 0 1) (told (handled 16 Quiet) (reply 15 c0) (fullImage 0x1000 fullSession records) (beside ErrorsOnly 0 nobody))
     ∷ onFull (ready 0) (gave (handled 0 Quiet) [] [] (fullImage 0x1000 fullSession records) quiet)
     -- its 78 bytes
@@ -215,35 +215,35 @@ busyThenClosed = controlVmEvent 12 1 ∷ setAccess 1 0 (entry 0x5000 1) ∷ sent
 abbrev pub callEdges : List Edge
 callEdges =
     -- ready marks: of the last vCPU, a second time, of none
-    row two (ready 1 ∷ []) (gave (handled 0 Quiet) [] [] (vm ++ idle 0 ++ vc 1 1 0 0 0 ++ en 3) quiet)
-    ∷ row two (ready 0 ∷ controlEvent 0 4 1 ∷ controlCr 0 3 1 ∷ singlestep 0 1 ∷ pause 0 ∷ ready 0 ∷ []) (gave (handled 0 Quiet) [] [] (vm ++ vc 0 3 2 0x10 1 ++ idle 1 ++ en 3) quiet)
-    ∷ row two (ready 2 ∷ []) (gave (plain 4) [] [] freshImage quiet)
-    ∷ row two (ready 3 ∷ []) (gave (plain 4) [] [] freshImage quiet)
-    ∷ row (sized 16 1) (ready 16 ∷ ready 15 ∷ [])
+    afresh two (ready 1 ∷ []) (gave (handled 0 Quiet) [] [] (vm ++ idle 0 ++ vc 1 1 0 0 0 ++ en 3) quiet)
+    ∷ afresh two (ready 0 ∷ controlEvent 0 4 1 ∷ controlCr 0 3 1 ∷ singlestep 0 1 ∷ pause 0 ∷ ready 0 ∷ []) (gave (handled 0 Quiet) [] [] (vm ++ vc 0 3 2 0x10 1 ++ idle 1 ++ en 3) quiet)
+    ∷ afresh two (ready 2 ∷ []) (gave (plain 4) [] [] freshImage quiet)
+    ∷ afresh two (ready 3 ∷ []) (gave (plain 4) [] [] freshImage quiet)
+    ∷ afresh (sized 16 1) (ready 16 ∷ ready 15 ∷ [])
     (gave (handled 0 Quiet) [] [] (vmOf 16 ++ joined (map idle (take 15 to15)) ++ vc 15 1 0 0 0 ++ en 17) (beside On 0 (replicate 16 none)))
     -- image writing: as long as the image, one byte short, one byte more; 10 comes before 3
-    ∷ row two (writeImage (lent 34) ∷ []) (gave (handled 34 Quiet) freshImage (lent 34) freshImage quiet)
-    ∷ row two (writeImage (lent 33) ∷ []) (gave (plain 3) [] (lent 33) freshImage quiet)
-    ∷ row two (writeImage (lent 35) ∷ []) (gave (handled 34 Quiet) freshImage (lent 35) freshImage quiet)
-    ∷ row two (sent ++ (writeImage (lent 34) ∷ [])) (gave (plain 10) [] (lent 34) readyImage (beside On 1 (awaits 0 ∷ none ∷ [])))
-    ∷ row two (sent ++ (writeImage (lent 33) ∷ [])) (gave (plain 10) [] (lent 33) readyImage (beside On 1 (awaits 0 ∷ none ∷ [])))
-    ∷ row two (ready 1 ∷ pause 1 ∷ enter 1 state (lent 552) ∷ writeImage (lent 34) ∷ []) (gave (plain 10) [] (lent 34) (vm ++ idle 0 ++ vc 1 1 0 0 0 ++ en 3) (beside On 1 (none ∷ awaits 0 ∷ [])))
-    ∷ row two (sent ++ (eventReply 0 0 0 2 ∷ writeImage (lent 34) ∷ [])) (gave (handled 34 Quiet) readyImage (lent 34) readyImage (beside On 1 nobody))
+    ∷ afresh two (writeImage (lent 34) ∷ []) (gave (handled 34 Quiet) freshImage (lent 34) freshImage quiet)
+    ∷ afresh two (writeImage (lent 33) ∷ []) (gave (plain 3) [] (lent 33) freshImage quiet)
+    ∷ afresh two (writeImage (lent 35) ∷ []) (gave (handled 34 Quiet) freshImage (lent 35) freshImage quiet)
+    ∷ afresh two (sent ++ (writeImage (lent 34) ∷ [])) (gave (plain 10) [] (lent 34) readyImage (beside On 1 (awaits 0 ∷ none ∷ [])))
+    ∷ afresh two (sent ++ (writeImage (lent 33) ∷ [])) (gave (plain 10) [] (lent 33) readyImage (beside On 1 (awaits 0 ∷ none ∷ [])))
+    ∷ afresh two (ready 1 ∷ pause 1 ∷ enter 1 registers (lent 552) ∷ writeImage (lent 34) ∷ []) (gave (plain 10) [] (lent 34) (vm ++ idle 0 ++ vc 1 1 0 0 0 ++ en 3) (beside On 1 (none ∷ awaits 0 ∷ [])))
+    ∷ afresh two (sent ++ (eventReply 0 0 0 2 ∷ writeImage (lent 34) ∷ [])) (gave (handled 34 Quiet) readyImage (lent 34) readyImage (beside On 1 nobody))
     -- a message with 4,111 bytes of output, whole or not; with more than 4,112
-    ∷ row two (message (messageBytes 5 8 (eventData 12 1)) (lent 4111) page ∷ []) (left (plain 3) (lent 4111) page freshImage quiet)
-    ∷ row two (message [] (lent 4111) page ∷ []) (left (plain 3) (lent 4111) page freshImage quiet)
-    ∷ row two (message (messageBytes 15 8 (modeData 1 0 0)) (lent 4113) page ∷ []) (left (handled 16 Quiet) (over (reply 15 c0) (lent 4113)) page freshImage quiet)
+    ∷ afresh two (message (messageBytes 5 8 (eventData 12 1)) (lent 4111) page ∷ []) (left (plain 3) (lent 4111) page freshImage quiet)
+    ∷ afresh two (message [] (lent 4111) page ∷ []) (left (plain 3) (lent 4111) page freshImage quiet)
+    ∷ afresh two (message (messageBytes 15 8 (modeData 1 0 0)) (lent 4113) page ∷ []) (left (handled 16 Quiet) (over (reply 15 c0) (lent 4113)) page freshImage quiet)
     -- closing drops everything; what comes after it answers 2, whatever else is wrong with it
-    ∷ row two busyThenClosed closing
-    ∷ row two (busyThenClosed ++ (send 2 (naming 5) ∷ [])) (told (plain 2) [] freshImage shut)
-    ∷ row two (busyThenClosed ++ (message [] (lent 5) page ∷ [])) (left (plain 2) (lent 5) page freshImage shut)
-    ∷ row two (busyThenClosed ++ (send 7 (physical 0 1 ++ (1 ∷ [])) ∷ [])) (told (plain 2) [] freshImage shut)
-    ∷ row two (busyThenClosed ++ (ready 0 ∷ [])) (gave (plain 2) [] [] freshImage shut)
-    ∷ row two (busyThenClosed ++ (ready 2 ∷ [])) (gave (plain 2) [] [] freshImage shut)
-    ∷ row two (busyThenClosed ++ (enter 0 state (lent 552) ∷ [])) (gave (plain 2) [] (lent 552) freshImage shut)
-    ∷ row two (busyThenClosed ++ (enter 2 [] (lent 5) ∷ [])) (gave (plain 2) [] (lent 5) freshImage shut)
-    ∷ row two (busyThenClosed ++ (writeImage (lent 34) ∷ [])) (gave (plain 2) [] (lent 34) freshImage shut)
-    ∷ row two (busyThenClosed ++ (writeImage (lent 5) ∷ [])) (gave (plain 2) [] (lent 5) freshImage shut)
+    ∷ afresh two busyThenClosed closing
+    ∷ afresh two (busyThenClosed ++ (send 2 (naming 5) ∷ [])) (told (plain 2) [] freshImage shut)
+    ∷ afresh two (busyThenClosed ++ (message [] (lent 5) page ∷ [])) (left (plain 2) (lent 5) page freshImage shut)
+    ∷ afresh two (busyThenClosed ++ (send 7 (physical 0 1 ++ (1 ∷ [])) ∷ [])) (told (plain 2) [] freshImage shut)
+    ∷ afresh two (busyThenClosed ++ (ready 0 ∷ [])) (gave (plain 2) [] [] freshImage shut)
+    ∷ afresh two (busyThenClosed ++ (ready 2 ∷ [])) (gave (plain 2) [] [] freshImage shut)
+    ∷ afresh two (busyThenClosed ++ (enter 0 registers (lent 552) ∷ [])) (gave (plain 2) [] (lent 552) freshImage shut)
+    ∷ afresh two (busyThenClosed ++ (enter 2 [] (lent 5) ∷ [])) (gave (plain 2) [] (lent 5) freshImage shut)
+    ∷ afresh two (busyThenClosed ++ (writeImage (lent 34) ∷ [])) (gave (plain 2) [] (lent 34) freshImage shut)
+    ∷ afresh two (busyThenClosed ++ (writeImage (lent 5) ∷ [])) (gave (plain 2) [] (lent 5) freshImage shut)
     -- settings in and out of range, in both ways to begin; 7 comes before 8
     ∷ begun (sized 0 1) anew (nothing (plain 7))
     ∷ begun (sized 17 1) anew (nothing (plain 7))

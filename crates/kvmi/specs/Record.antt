@@ -100,16 +100,16 @@ pub data Rec : Type 0 where
   cut : List ℕ → Rec
 
 -- the place of a record in the image's order: kind, then vCPU or view (a u16, below 2^16), then MSR or page (a u32 or a u64, below 2^64)
-abbrev pub place : ℕ → ℕ → ℕ → ℕ
-place kind major minor = kind * 2 ^ 80 + (major * 2 ^ 64 + minor)
+abbrev pub orderAt : ℕ → ℕ → ℕ → ℕ
+orderAt kind major minor = kind * 2 ^ 80 + (major * 2 ^ 64 + minor)
 
 -- a record's place
 abbrev pub orderOf : (k : Kind) → Row (widths k) → ℕ
-orderOf VM f = place 0 0 0
-orderOf VC f = place 1 (vcVcpu f) 0
-orderOf MS f = place 2 (msVcpu f) (msMsr f)
-orderOf PA f = place 3 (paView f) (paPage f)
-orderOf EN f = place 4 0 0
+orderOf VM f = orderAt 0 0 0
+orderOf VC f = orderAt 1 (vcVcpu f) 0
+orderOf MS f = orderAt 2 (msVcpu f) (msMsr f)
+orderOf PA f = orderAt 3 (paView f) (paPage f)
+orderOf EN f = orderAt 4 0 0
 
 -- a record's bytes
 abbrev pub write : Rec → List ℕ

@@ -13,7 +13,7 @@ use Rattle.kvmi.specs.declared.Settings.{Settings}
 use Rattle.kvmi.specs.Bits.{bit, every}
 use Rattle.kvmi.specs.Ascending.{rising}
 use Rattle.kvmi.specs.Row.{Row}
-use Rattle.kvmi.specs.Record.{Kind, VM, VC, MS, PA, EN, widths, size, Rec, whole, cut, place, orderOf, writeAll, parse}
+use Rattle.kvmi.specs.Record.{Kind, VM, VC, MS, PA, EN, widths, size, Rec, whole, cut, orderAt, orderOf, writeAll, parse}
 use Rattle.kvmi.specs.Tables.{Vcpu, Msr, Page, Tables, msrKey, pageKey}
 use Rattle.kvmi.specs.Image.{vmRecord, vcRecord, msRecord, paRecord, enRecord, onto, vcRecords, recordCount, recordsBefore, records, image, vcpuOfRow, msrOfRow, pageOfRow, withRecord, vmForm, vcForm, msForm, paForm, vmMay, vcMay, paMay, mayOf, Loaded, loaded, badForm, forbidden, judge, ending, fitsIn, loadRest, stated, loadRecords, loadImage}
 use Rattle.laws.proofs.Bool.{and-l, and-r, and-i, every-snoc, length-snoc}
@@ -100,20 +100,20 @@ record Part (s : Settings) (n lo : ℕ) (t : Tables) : Type 0 where
   vcs : So (every (vcGood s) (t .vcpus))
   mss : So (every (msForm (t .vcpus)) (t .msrs))
   msUp : So (rising msrKey 0 (t .msrs))
-  msLo : Behind msrKey (place 2 0 0) lo (t .msrs)
+  msLo : Behind msrKey (orderAt 2 0 0) lo (t .msrs)
   pas : So (every (paGood s) (t .pages))
   paUp : So (rising pageKey 0 (t .pages))
   paFew : length (t .pages) ≤ pageLimit
-  paLo : Behind pageKey (place 3 0 0) lo (t .pages)
+  paLo : Behind pageKey (orderAt 3 0 0) lo (t .pages)
 
 -- a VC comes before every MS and PA, an MS before every PA
-vc-early : (s : Settings) (n lo : ℕ) (t : Tables) (f : Row (widths VC)) → Part s n lo t → So (fitsIn VC n lo t f) → (lo ≤ orderOf VC f) × (orderOf VC f < place 2 0 0)
+vc-early : (s : Settings) (n lo : ℕ) (t : Tables) (f : Row (widths VC)) → Part s n lo t → So (fitsIn VC n lo t f) → (lo ≤ orderOf VC f) × (orderOf VC f < orderAt 2 0 0)
 vc-early s n lo t f a h =
     let few = vm-few n (t .events) (a .vm) in
     let i : f .0 < n = ltb-true (f .0) n (search (and-l, and-r) depth 8) in
     (leb-true lo (orderOf VC f) (search (and-l, and-r) depth 8), omega arith)
 
-ms-early : (s : Settings) (n lo : ℕ) (t : Tables) (f : Row (widths MS)) → Part s n lo t → So (fitsIn MS n lo t f) → (lo ≤ orderOf MS f) × (orderOf MS f < place 3 0 0)
+ms-early : (s : Settings) (n lo : ℕ) (t : Tables) (f : Row (widths MS)) → Part s n lo t → So (fitsIn MS n lo t f) → (lo ≤ orderOf MS f) × (orderOf MS f < orderAt 3 0 0)
 ms-early s n lo t f a h =
     let few = vm-few n (t .events) (a .vm) in
     let w = a .vcFew in
@@ -166,8 +166,8 @@ part-ms s n lo t f h g a =
       vcFew = a .vcFew;
       vcs = a .vcs;
       mss = every-snoc (msForm (t .vcpus)) (t .msrs) (msrOfRow f) (a .mss) (search (and-l, and-r) depth 8);
-      msUp = rising-snoc msrKey 0 (t .msrs) (msrOfRow f) (a .msUp) (behind-low msrKey (place 2 0 0) lo (msrKey (msrOfRow f)) (t .msrs) (omega arith) (a .msLo));
-      msLo = behind-weak msrKey (place 2 0 0) (suc (place 2 0 0 + msrKey (msrOfRow f))) _ (t .msrs ++ (msrOfRow f ∷ [])) (omega arith) (behind-snoc msrKey (place 2 0 0) (t .msrs) (msrOfRow f));
+      msUp = rising-snoc msrKey 0 (t .msrs) (msrOfRow f) (a .msUp) (behind-low msrKey (orderAt 2 0 0) lo (msrKey (msrOfRow f)) (t .msrs) (omega arith) (a .msLo));
+      msLo = behind-weak msrKey (orderAt 2 0 0) (suc (orderAt 2 0 0 + msrKey (msrOfRow f))) _ (t .msrs ++ (msrOfRow f ∷ [])) (omega arith) (behind-snoc msrKey (orderAt 2 0 0) (t .msrs) (msrOfRow f));
       pas = a .pas;
       paUp = a .paUp;
       paFew = a .paFew;
@@ -186,11 +186,11 @@ part-pa s n lo t f h m a =
       vcs = a .vcs;
       mss = a .mss;
       msUp = a .msUp;
-      msLo = behind-weak msrKey (place 2 0 0) lo _ (t .msrs) (omega arith) (a .msLo);
+      msLo = behind-weak msrKey (orderAt 2 0 0) lo _ (t .msrs) (omega arith) (a .msLo);
       pas = every-snoc (paGood s) (t .pages) (pageOfRow f) (a .pas) (and-i (paForm (pageOfRow f)) _ (search (and-l, and-r) depth 8) m);
-      paUp = rising-snoc pageKey 0 (t .pages) (pageOfRow f) (a .paUp) (behind-low pageKey (place 3 0 0) lo (pageKey (pageOfRow f)) (t .pages) (omega arith) (a .paLo));
+      paUp = rising-snoc pageKey 0 (t .pages) (pageOfRow f) (a .paUp) (behind-low pageKey (orderAt 3 0 0) lo (pageKey (pageOfRow f)) (t .pages) (omega arith) (a .paLo));
       paFew = rw length-snoc (omega arith);
-      paLo = behind-weak pageKey (place 3 0 0) (suc (place 3 0 0 + pageKey (pageOfRow f))) _ (t .pages ++ (pageOfRow f ∷ [])) (omega arith) (behind-snoc pageKey (place 3 0 0) (t .pages) (pageOfRow f));
+      paLo = behind-weak pageKey (orderAt 3 0 0) (suc (orderAt 3 0 0 + pageKey (pageOfRow f))) _ (t .pages ++ (pageOfRow f ∷ [])) (omega arith) (behind-snoc pageKey (orderAt 3 0 0) (t .pages) (pageOfRow f));
     }
 
 whole-valid : (s : Settings) (n lo : ℕ) (t : Tables) → length (t .vcpus) ≡ n → Part s n lo t → Valid s t
@@ -207,32 +207,32 @@ whole-valid s n lo t q a =
     }
 
 -- ---- the records that load are those of what they load as
-abbrev Told : Settings → List Rec → Tables → Type 0
-Told s rs u = (rs ≡ records u) × Valid s u
+abbrev Recorded : Settings → List Rec → Tables → Type 0
+Recorded s rs u = (rs ≡ records u) × Valid s u
 
 ended : (s : Settings) (n lo off : ℕ) (t u : Tables) (rs : List Rec) → length (t .vcpus) ≡ n → ending t off rs ≡ loaded u → Part s n lo t
-    → Told s (recordsBefore n t (enRecord (recordCount t) ∷ rs)) u
+    → Recorded s (recordsBefore n t (enRecord (recordCount t) ∷ rs)) u
 ended s n lo off t u [] q e a =
     let same : t ≡ u = cc in
     let here : recordsBefore n t (enRecord (recordCount t) ∷ []) ≡ records t = ap (λ (k : ℕ). recordsBefore k t (enRecord (recordCount t) ∷ [])) (sym q) in
     (here ∙ ap records same, rw same at (whole-valid s n lo t q a))
 ended s n lo off t u (r ∷ rs) q e a = refused e
 
-rest-told : (s : Settings) (n off lo : ℕ) (t : Tables) (rs : List Rec) (u : Tables) → Part s n lo t → loadRest s n off lo t rs ≡ loaded u → Told s (recordsBefore n t rs) u
+rest-told : (s : Settings) (n off lo : ℕ) (t : Tables) (rs : List Rec) (u : Tables) → Part s n lo t → loadRest s n off lo t rs ≡ loaded u → Recorded s (recordsBefore n t rs) u
 rest-told s n off lo t [] u a e = refused e
 rest-told s n off lo t (cut l ∷ rs) u a e = refused e
 rest-told s n off lo t (whole VM f ∷ rs) u a e = refused e
 rest-told s n off lo t (whole VC f ∷ rs) u a e =
     let j = judged (fitsIn VC n lo t f) (mayOf VC s f) off (loadRest s n (off + size VC) (suc (orderOf VC f)) (withRecord VC t f) rs) u e in
     let w = vc-early s n lo t f a (j .0) in
-    let noMs = behind-empty msrKey (place 2 0 0) lo (orderOf VC f) (t .msrs) (w .0) (w .1) (a .msLo) in
-    let noPa = behind-empty pageKey (place 3 0 0) lo (orderOf VC f) (t .pages) (w .0) (omega arith) (a .paLo) in
+    let noMs = behind-empty msrKey (orderAt 2 0 0) lo (orderOf VC f) (t .msrs) (w .0) (w .1) (a .msLo) in
+    let noPa = behind-empty pageKey (orderAt 3 0 0) lo (orderOf VC f) (t .pages) (w .0) (omega arith) (a .paLo) in
     rw (vc-snoc n lo t f rs noMs noPa (j .0)) at
     (rest-told s n (off + size VC) (suc (orderOf VC f)) (withRecord VC t f) rs u (part-vc s n lo t f (j .0) (j .1) noMs noPa a) (j .2))
 rest-told s n off lo t (whole MS f ∷ rs) u a e =
     let j = judged (fitsIn MS n lo t f) (mayOf MS s f) off (loadRest s n (off + size MS) (suc (orderOf MS f)) (withRecord MS t f) rs) u e in
     let w = ms-early s n lo t f a (j .0) in
-    let noPa = behind-empty pageKey (place 3 0 0) lo (orderOf MS f) (t .pages) (w .0) (w .1) (a .paLo) in
+    let noPa = behind-empty pageKey (orderAt 3 0 0) lo (orderOf MS f) (t .pages) (w .0) (w .1) (a .paLo) in
     rw (ms-snoc n t f rs noPa) at
     (rest-told s n (off + size MS) (suc (orderOf MS f)) (withRecord MS t f) rs u (part-ms s n lo t f (j .0) noPa a) (j .2))
 rest-told s n off lo t (whole PA f ∷ rs) u a e =
@@ -247,7 +247,7 @@ rest-told s n off lo t (whole EN f ∷ rs) u a e =
     let same : whole EN f ≡ enRecord (recordCount t) = ap (λ (x : ℕ). whole EN (x, tt)) c in
     rw same (ended s n lo (off + size EN) t u rs all (j .2) a)
 
-records-told : (s : Settings) (rs : List Rec) (u : Tables) → loadRecords s rs ≡ loaded u → Told s rs u
+records-told : (s : Settings) (rs : List Rec) (u : Tables) → loadRecords s rs ≡ loaded u → Recorded s rs u
 records-told s [] u e = refused e
 records-told s (cut l ∷ rs) u e = refused e
 records-told s (whole VC f ∷ rs) u e = refused e

@@ -246,12 +246,12 @@ module _ (s : Settings) (ok : So (inRange s)) where
       (λ _. pick Kept (leb (s .vcpus) vcpu) _ _ (λ _. a)
       (λ _. vcpu-valid s (m .tables) vcpu _ (ready-good s (vcpuAt (m .tables) vcpu) (vcpu-good s (m .tables) vcpu a)) (λ _. refl) a))
 
-  pub enter-kept : (m : Model) (vcpu : ℕ) (state out : List ℕ) → Valid s (m .tables) → Kept (enterStep s m vcpu state out)
+  pub enter-kept : (m : Model) (vcpu : ℕ) (block out : List ℕ) → Valid s (m .tables) → Kept (enterStep s m vcpu block out)
   unfolding enterStep pausing
-  enter-kept m vcpu state out a =
+  enter-kept m vcpu block out a =
       pick Kept (m .closed) _ _ (λ _. a)
       (λ _. pick Kept (leb (s .vcpus) vcpu) _ _ (λ _. a)
-      (λ _. pick Kept (not (eqb (length state) 536)) _ _ (λ _. a)
+      (λ _. pick Kept (not (eqb (length block) 536)) _ _ (λ _. a)
       (λ _. pick Kept (ltb (length out) 552) _ _ (λ _. a)
       (λ _. pick Kept (isSome (awaitedBy m vcpu)) _ _ (λ _. a)
       (λ _. pick Kept (leb 1 (vcpuAt (m .tables) vcpu .pauses)) _ _
@@ -268,7 +268,7 @@ module _ (s : Settings) (ok : So (inRange s)) where
   unfolding step
   step-kept m (message msg out guest) a = message-kept m msg out guest a
   step-kept m (ready vcpu) a = ready-kept m vcpu a
-  step-kept m (enter vcpu state out) a = enter-kept m vcpu state out a
+  step-kept m (enter vcpu block out) a = enter-kept m vcpu block out a
   step-kept m (writeImage out) a = image-kept m out a
 
   pub after-kept : (m : Model) (cs : List Call) → Valid s (m .tables) → Valid s (after s m cs .tables)

@@ -12,7 +12,7 @@ use Rattle.kvmi.specs.declared.Settings.{Settings}
 use Rattle.kvmi.specs.Bits.{bit, every}
 use Rattle.kvmi.specs.Ascending.{rising}
 use Rattle.kvmi.specs.Row.{Row, fits}
-use Rattle.kvmi.specs.Record.{Kind, VM, VC, MS, PA, EN, widths, size, Rec, whole, cut, place, orderOf, writeAll, parse}
+use Rattle.kvmi.specs.Record.{Kind, VM, VC, MS, PA, EN, widths, size, Rec, whole, cut, orderAt, orderOf, writeAll, parse}
 use Rattle.kvmi.specs.Tables.{Vcpu, Msr, Page, Tables, msrKey, pageKey, withReady, withSinglestep, withVcpus, withMsrs, withPages}
 use Rattle.kvmi.specs.Image.{vcRow, msRow, paRow, vmRecord, vcRecord, msRecord, paRecord, enRecord, onto, vcRecords, recordCount, records, image, vcpuOfRow, withRecord, vmForm, vcForm, msForm, paForm, vmMay, vcMay, paMay, formOf, isNext, mayOf, Loaded, loaded, judge, fitsIn, loadRest, stated, loadRecords, loadImage}
 use Rattle.laws.proofs.Bool.{and-l, and-r, and-i, every-head, every-tail, length-snoc}
@@ -35,7 +35,7 @@ same? n = eq-eqb n n refl
 abbrev made : ℕ → List Vcpu → List Msr → List Page → Tables
 made e vs ms ps = withPages (withMsrs (withVcpus (stated e) vs) ms) ps
 
-load-pages : (s : Settings) (n off lo up e : ℕ) (vs : List Vcpu) (ms : List Msr) (qs ps : List Page) (u : Tables) → length vs ≡ n → lo ≤ place 3 0 up → up ≤ 2 ^ 80
+load-pages : (s : Settings) (n off lo up e : ℕ) (vs : List Vcpu) (ms : List Msr) (qs ps : List Page) (u : Tables) → length vs ≡ n → lo ≤ orderAt 3 0 up → up ≤ 2 ^ 80
     → made e vs ms (qs ++ ps) ≡ u → So (rising pageKey up ps) → So (every (paGood s) ps) → length qs + length ps ≤ pageLimit
     → loadRest s n off lo (made e vs ms qs) (onto paRecord ps (enRecord (recordCount u) ∷ [])) ≡ loaded u
 load-pages s n off lo up e vs ms qs [] u q l b r g h w =
@@ -55,7 +55,7 @@ load-pages s n off lo up e vs ms qs (p ∷ ps) u q l b r g h w =
     (ap (λ (x : List Page). made e vs ms x) (append-assoc qs (p ∷ []) ps) ∙ r) (rising-rest pageKey up p ps g) (every-tail (paGood s) p ps h)
     (rw length-snoc (omega arith))
 
-load-msrs : (s : Settings) (n off lo up e : ℕ) (vs : List Vcpu) (ns ms : List Msr) (ps : List Page) (u : Tables) → length vs ≡ n → n ≤ 16 → lo ≤ place 2 0 up → up ≤ 2 ^ 80
+load-msrs : (s : Settings) (n off lo up e : ℕ) (vs : List Vcpu) (ns ms : List Msr) (ps : List Page) (u : Tables) → length vs ≡ n → n ≤ 16 → lo ≤ orderAt 2 0 up → up ≤ 2 ^ 80
     → made e vs (ns ++ ms) ps ≡ u → So (rising msrKey up ms) → So (every (msForm vs) ms) → So (rising pageKey 0 ps) → So (every (paGood s) ps) → length ps ≤ pageLimit
     → loadRest s n off lo (made e vs ns []) (onto msRecord ms (onto paRecord ps (enRecord (recordCount u) ∷ []))) ≡ loaded u
 load-msrs s n off lo up e vs ns [] ps u q c l b r g h g′ h′ w =
@@ -79,7 +79,7 @@ vcpu-of-row i v =
     let f = flags-of (v .ready) (v .singlestep) in
     λ j. withSinglestep (withReady v (f .0 j)) (f .1 j)
 
-load-vcs : (s : Settings) (n off lo e i : ℕ) (vs ws : List Vcpu) (ms : List Msr) (ps : List Page) (u : Tables) → length vs ≡ i → i + length ws ≡ n → n ≤ 16 → lo ≤ place 1 i 0
+load-vcs : (s : Settings) (n off lo e i : ℕ) (vs ws : List Vcpu) (ms : List Msr) (ps : List Page) (u : Tables) → length vs ≡ i → i + length ws ≡ n → n ≤ 16 → lo ≤ orderAt 1 i 0
     → made e (vs ++ ws) ms ps ≡ u → So (every (vcGood s) ws) → So (rising msrKey 0 ms) → So (every (msForm (vs ++ ws)) ms) → So (rising pageKey 0 ps)
     → So (every (paGood s) ps) → length ps ≤ pageLimit
     → loadRest s n off lo (made e vs [] []) (vcRecords i ws (onto msRecord ms (onto paRecord ps (enRecord (recordCount u) ∷ [])))) ≡ loaded u

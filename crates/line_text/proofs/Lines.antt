@@ -13,28 +13,28 @@ use Rattle.stream.specs.declared.End.{End}
 use Rattle.stream.specs.declared.End.the-variants.{Open, Closed, Long}
 use Rattle.line_text.specs.Text.{ascii, digits, decimal, signedText, numberText, codeText, lineText, endText}
 
-record Row : Type 0 where
+record LineCase : Type 0 where
   index : ℕ
   line : Line
   text : String
 
-abbrev row : ℕ → Number → Number → ℕ → ℕ → Code → String → Row
-row index id seq answer count error text =
+abbrev lineCase : ℕ → Number → Number → ℕ → ℕ → Code → String → LineCase
+lineCase index id seq answer count error text =
     record { index = index; line = record { id = id; seq = seq; answer = answer; count = count; error = error }; text = text }
 
-abbrev rows : List Row
+abbrev rows : List LineCase
 rows =
-    row 0 (Shown 1) (Shown 7) 0 32 (Written (pos 0)) "0 1 7 0 32 0\n"
-    ∷ row 1 (Shown 9) (Shown 8) 0 16 (Written (negsuc 21)) "1 9 8 0 16 -22\n"
+    lineCase 0 (Shown 1) (Shown 7) 0 32 (Written (pos 0)) "0 1 7 0 32 0\n"
+    ∷ lineCase 1 (Shown 9) (Shown 8) 0 16 (Written (negsuc 21)) "1 9 8 0 16 -22\n"
     -- a cut tail closes: of its 1 byte neither id nor seq is whole, of its 7 bytes the id is
-    ∷ row 9 Missing Missing 1 0 Unwritten "9 - - 1 0 -\n"
-    ∷ row 10 (Shown 65535) Missing 1 0 Unwritten "10 65535 - 1 0 -\n"
-    ∷ row 99 (Shown 100) (Shown 101) 14 4112 (Written (negsuc 999)) "99 100 101 14 4112 -1000\n"
+    ∷ lineCase 9 Missing Missing 1 0 Unwritten "9 - - 1 0 -\n"
+    ∷ lineCase 10 (Shown 65535) Missing 1 0 Unwritten "10 65535 - 1 0 -\n"
+    ∷ lineCase 99 (Shown 100) (Shown 101) 14 4112 (Written (negsuc 999)) "99 100 101 14 4112 -1000\n"
     -- the largest and the smallest of each field
-    ∷ row 18446744073709551615 (Shown 4294967295) (Shown 4294967295) 255 18446744073709551615 (Written (pos 2147483647))
+    ∷ lineCase 18446744073709551615 (Shown 4294967295) (Shown 4294967295) 255 18446744073709551615 (Written (pos 2147483647))
     "18446744073709551615 4294967295 4294967295 255 18446744073709551615 2147483647\n"
-    ∷ row 10000000000000000000 (Shown 0) (Shown 0) 0 0 (Written (negsuc 2147483647)) "10000000000000000000 0 0 0 0 -2147483648\n"
-    ∷ row 9999999999999999999 (Shown 10) (Shown 19) 9 568 (Written (negsuc 0)) "9999999999999999999 10 19 9 568 -1\n"
+    ∷ lineCase 10000000000000000000 (Shown 0) (Shown 0) 0 0 (Written (negsuc 2147483647)) "10000000000000000000 0 0 0 0 -2147483648\n"
+    ∷ lineCase 9999999999999999999 (Shown 10) (Shown 19) 9 568 (Written (negsuc 0)) "9999999999999999999 10 19 9 568 -1\n"
     ∷ []
 
 pub rows-right : map (λ r. lineText (r .index) (r .line)) rows ≡ map (λ r. ascii (r .text)) rows

@@ -99,7 +99,7 @@ fn put_signed(text: &mut [u8], at: usize, e: i32) -> usize
 }
 
 // A space, and the error, where anything was written.
-fn put_code(text: &mut [u8], at: usize, code: Code) -> usize
+fn put_error(text: &mut [u8], at: usize, code: Code) -> usize
     requires { ⌜ at + 22 ≤ length (now text) ⌝ }
     ensures { λ r. ⌜ Put (now (text .entry)) at (ascii " " ++ codeText code) (now (text .exit)) r ⌝ }
     ensures { λ r. ⌜ r ≤ at + 22 ⌝ }
@@ -124,7 +124,7 @@ fn write_line(text: &mut [u8], index: u64, line: Line) -> usize
     let at = put_number(text, at, seq);
     let at = put_field(text, at, line.answer as u64);
     let at = put_field(text, at, line.count as u64);
-    let at = put_code(text, at, error);
+    let at = put_error(text, at, error);
     wire::store8(text, at, b'\n');
     at + 1
 }

@@ -137,8 +137,8 @@ module _ (st : State) (ok : So (inRange (st .session .settings))) (words : lengt
   abbrev size : ℕ
   size = st .session .settings .vcpus
 
-  abbrev mark : Bool
-  mark = isOn (st .session .shared .ready) vcpu
+  abbrev isReady : Bool
+  isReady = isOn (st .session .shared .ready) vcpu
 
   abbrev at-one : ℕ → Vcpu
   at-one = recordOf (st .session .shared .ready) (st .vcpus)
@@ -147,9 +147,9 @@ module _ (st : State) (ok : So (inRange (st .session .settings))) (words : lengt
   Agreed d out guest seq x = (x ≡ crVerdict vcpu cr on (listForm .answer)) × (recordsOf (judgedOf st 11 seq d out guest x .state) ≡ listForm .vcpus)
 
   -- a record's ready field is the bit
-  marked : not (eqb (at-one vcpu .ready) 0) ≡ mark
+  marked : not (eqb (at-one vcpu .ready) 0) ≡ isReady
   unfolding recordOf
-  marked = read mark
+  marked = read isReady
     where
       read : (b : Bool) → not (eqb (bit b) 0) ≡ b
       read true = refl
@@ -169,18 +169,18 @@ module _ (st : State) (ok : So (inRange (st .session .settings))) (words : lengt
       records-crs (st .session .shared .ready) (st .vcpus) size vcpu (putBit (field (st .vcpus) vcpu CRS) (crBit cr) on) (omega arith) h
 
   module _ (d out guest : List ℕ) (seq : ℕ) where
-    past : size ≤ vcpu → Agreed d out guest seq (judgedBy size vcpu cr on mark)
+    past : size ≤ vcpu → Agreed d out guest seq (judgedBy size vcpu cr on isReady)
     unfolding recordsOf crSet onRecord crVerdict judgedOf answeringOf
     past h = rw (le-leb size vcpu h, each-length at-one 0 size, le-ltb vcpu size h) (refl, refl)
 
-    there : vcpu < size → (i r : Bool) → isCr cr ≡ i → mark ≡ r → Agreed d out guest seq (judgedBy size vcpu cr on mark)
+    there : vcpu < size → (i r : Bool) → isCr cr ≡ i → isReady ≡ r → Agreed d out guest seq (judgedBy size vcpu cr on isReady)
     unfolding recordsOf crSet onRecord oneCr crVerdict judgedOf answeringOf change
     there h false r e f = rw (lt-leb size vcpu h, each-length at-one 0 size, lt-ltb vcpu size h, each-at at-one blank size vcpu h, e) (refl, again h)
     there h true false e f = rw (lt-leb size vcpu h, each-length at-one 0 size, lt-ltb vcpu size h, each-at at-one blank size vcpu h, e, marked, f) (refl, again h)
     there h true true e f = rw (lt-leb size vcpu h, each-length at-one 0 size, lt-ltb vcpu size h, each-at at-one blank size vcpu h, e, marked, f) (refl, switched h)
 
-    agreed : Agreed d out guest seq (judgedBy size vcpu cr on mark)
-    agreed = test (ltb vcpu size) (λ t. there (ltb-true vcpu size t) (isCr cr) mark refl refl) (λ t. past (ltb-false vcpu size t))
+    agreed : Agreed d out guest seq (judgedBy size vcpu cr on isReady)
+    agreed = test (ltb vcpu size) (λ t. there (ltb-true vcpu size t) (isCr cr) isReady refl refl) (λ t. past (ltb-false vcpu size t))
 
 -- an open session with settings in range, that allows command 11, and an output that a message can have
 module _ (st : State) (ok : So (inRange (st .session .settings))) (words : length (st .vcpus) ≡ vcpuWordCount) (lives : isClosed st ≡ false)

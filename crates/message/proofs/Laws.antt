@@ -25,7 +25,7 @@ use Rattle.kvmi.specs.Verdict.{verdict}
 use Rattle.kvmi.specs.Reply.{answerOf, answerSeq, replyData}
 use Rattle.verdict.specs.Handlers.{factsFor}
 use Rattle.reply.specs.declared.Answered.{Answered}
-use Rattle.reply.specs.Written.{Answers}
+use Rattle.reply.specs.Written.{AnswerWritten}
 use Rattle.reply.specs.Off.{kindSeq}
 use Rattle.session.specs.declared.Done.{Done}
 use Rattle.session.specs.declared.Session.{Session}
@@ -33,7 +33,7 @@ use Rattle.session.specs.State.{State, state, withTool}
 use Rattle.session.specs.Calls.{Told, told, toldClosing}
 use Rattle.change.specs.declared.Effect.{Effect}
 use Rattle.change.specs.Change.{change}
-use Rattle.change.specs.Effect.{Applied, appliedOf, sessionAfter, toolAfter}
+use Rattle.change.specs.Effect.{Enacted, enactedOf, sessionAfter, toolAfter}
 use Rattle.message.specs.Message.{askedOf, answeringOf, judgedOf, handledOf}
 use Rattle.message.proofs.Silent.{codeBy, reply-code}
 
@@ -47,7 +47,7 @@ kind-seq Silent Off n code h = refl
 kind-seq Silent ErrorsOnly n code h = rw (h refl)
 
 module _ (s : Session) (e : Effect) (a : Answered) (v p d out written guest : List ℕ) (id seq : ℕ) (r : Done) where
-  pub answered-as : Answers out written a
+  pub answered-as : AnswerWritten out written a
       (answerOf (layoutOf id .reply) (modeOfNumber (e .by)) (s .tool .seq) id seq (e .code) (replyData (s .settings) guest id d))
       (kindSeq (layoutOf id .reply) (modeOfNumber (e .by)) (s .tool .seq) (e .code))
       → (layoutOf id .reply ≡ Silent → e .code ≡ OK)
@@ -74,21 +74,21 @@ module _ (st : State) (id seq : ℕ) (d out guest : List ℕ) (m : ReplyMode) (v
     closes-as i = ap (λ (x : Verdict). judgedOf st id seq d out guest x) (sym i) ∙ judged-as
 
     -- the answer to what was done
-    abbrev pub answered-by : Applied → Told
+    abbrev pub answered-by : Enacted → Told
     answered-by x = answeringOf (x .mode) id seq (x .changed .code) d (x .signal) out (x .changed .guest) (x .changed .state)
 
     -- what was done meets no error where nothing answers, and its answer is the message's
-    abbrev pub Follows : Applied → Type 0
+    abbrev pub Follows : Enacted → Type 0
     Follows x = (layoutOf id .reply ≡ Silent → x .changed .code ≡ OK) × (answered-by x ≡ handledOf st id seq d out guest)
 
-    follows : (x : Applied) → x .changed .code ≡ codeBy st guest d v → answered-by x ≡ judgedOf st id seq d out guest v → Follows x
+    follows : (x : Enacted) → x .changed .code ≡ codeBy st guest d v → answered-by x ≡ judgedOf st id seq d out guest v → Follows x
     follows x e g = (λ k. e ∙ ap (λ (y : Verdict). codeBy st guest d y) h ∙ reply-code st guest _ _ id seq d k, g ∙ judged-as)
 
-    pub fails-as : (code : ℤ) (x : Applied) → v ≡ Fails code
+    pub fails-as : (code : ℤ) (x : Enacted) → v ≡ Fails code
         → x ≡ record { changed = record { state = st; guest = guest; code = code }; mode = modeOfNumber (st .session .tool .mode); signal = Quiet } → Follows x
     unfolding judgedOf
-    fails-as code x i k = follows x (rw i (ap (λ (y : Applied). y .changed .code) k)) (rw i (ap answered-by k))
+    fails-as code x i k = follows x (rw i (ap (λ (y : Enacted). y .changed .code) k)) (rw i (ap answered-by k))
 
-    pub does-as : (c : Change) (x : Applied) → v ≡ Does c → x ≡ appliedOf st guest d c → Follows x
+    pub does-as : (c : Change) (x : Enacted) → v ≡ Does c → x ≡ enactedOf st guest d c → Follows x
     unfolding judgedOf
-    does-as c x i k = follows x (rw i (ap (λ (y : Applied). y .changed .code) k)) (rw i (ap answered-by k))
+    does-as c x i k = follows x (rw i (ap (λ (y : Enacted). y .changed .code) k)) (rw i (ap answered-by k))

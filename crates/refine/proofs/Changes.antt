@@ -29,7 +29,7 @@ use Rattle.store.specs.Meaning.{msrsOf, vcpusOf, vcpuOfWords}
 use Rattle.page_words.specs.Meaning.{pagesOf}
 use Rattle.kvmi.specs.Mode.{numberOfMode, modeOfNumber}
 use Rattle.session.specs.State.{State, state, withField, withVcpuWords}
-use Rattle.change.specs.Change.{Changed, changed, change}
+use Rattle.change.specs.Change.{StateChanged, changed, change}
 use Rattle.session.specs.Meaning.{awaitedIn, awaitedOf, tablesOf, modelOf, WordsGood}
 use Rattle.laws.proofs.Bool.{test, every-and}
 use Rattle.laws.proofs.Kept.{vm-event-small, vcpu-event-small}
@@ -41,7 +41,7 @@ use Rattle.refine.proofs.Awaited.{awaited-length, awaited-same, awaited
 use Rattle.refine.proofs.Words.{tool-kept, pages-kept, field-past, vcpu-means, block-inside, field-kept, msr-kept, awaited-kept}
 
 -- what the words mean after a change is what the model's change gives
-pub record Meant (r : Changed) (a : Applied) : Type 0 where
+pub record Meant (r : StateChanged) (a : Applied) : Type 0 where
   pub model : modelOf (r .state) ≡ a .model
   pub guest : r .guest ≡ a .guest
   pub code : r .code ≡ a .code

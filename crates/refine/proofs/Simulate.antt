@@ -45,7 +45,7 @@ use Rattle.kvmi.specs.Mode.{modeOfNumber}
 use Rattle.page_words.specs.PageWords.{pageWordCount}
 use Rattle.session.specs.State.{State, state, freshSession, closedSession, clearedState, withReadyBits, withSeqOf, withField, isClosed}
 use Rattle.session.specs.Calls.{Told, toldSame, toldWritten, toldClosing, freshOf, readyOf}
-use Rattle.change.specs.Change.{Changed, changed, change}
+use Rattle.change.specs.Change.{StateChanged, changed, change}
 use Rattle.change.proofs.Laws.{change-keeps}
 use Rattle.message.specs.Message.{factsIn, answeringOf, judgedOf, headedOf, messageOf}
 use Rattle.entry.specs.Entry.{pausingOf, enterOf}

@@ -28,17 +28,17 @@ pub started : (vcpus pages : List ℕ) → startOf vcpus pages ≡ clearedState 
 unfolding inRange putBit bitOf isOn putBit64 freshOf readyOf startOf
 started vcpus pages = refl
 
-record Row : Type 0 where
+record RunCase : Type 0 where
   input : List ℕ
   printed : String
 
-abbrev row : List ℕ → String → Row
-row input printed = record { input = input; printed = printed }
+abbrev runCase : List ℕ → String → RunCase
+runCase input printed = record { input = input; printed = printed }
 
-abbrev rows : List Row
+abbrev rows : List RunCase
 rows =
     -- "Input `0100000007000000 0900100008000000 0200000000000000 0000000000000000` prints exactly"
-    row (
+    runCase (
     0x01 ∷ 0x00 ∷ 0x00 ∷ 0x00 ∷ 0x07 ∷ 0x00 ∷ 0x00 ∷ 0x00
     ∷ 0x09 ∷ 0x00 ∷ 0x10 ∷ 0x00 ∷ 0x08 ∷ 0x00 ∷ 0x00 ∷ 0x00
     ∷ 0x02 ∷ 0x00 ∷ 0x00 ∷ 0x00 ∷ 0x00 ∷ 0x00 ∷ 0x00 ∷ 0x00
@@ -46,14 +46,14 @@ rows =
     ∷ []
     ) "0 1 7 0 32 0\n1 9 8 0 16 -22\nend open\n"
     -- no input
-    ∷ row [] "end open\n"
+    ∷ runCase [] "end open\n"
     -- tails of 1 and of 7 bytes, and one behind a whole message
-    ∷ row (0x01 ∷ []) "0 - - 1 0 -\nend closed\n"
-    ∷ row (0x01 ∷ 0x00 ∷ 0x00 ∷ 0x00 ∷ 0x07 ∷ 0x00 ∷ 0x00 ∷ []) "0 1 - 1 0 -\nend closed\n"
-    ∷ row (0x01 ∷ 0x00 ∷ 0x00 ∷ 0x00 ∷ 0x07 ∷ 0x00 ∷ 0x00 ∷ 0x00 ∷ 0xFF ∷ 0xFF ∷ []) "0 1 7 0 32 0\n1 65535 - 1 0 -\nend closed\n"
+    ∷ runCase (0x01 ∷ []) "0 - - 1 0 -\nend closed\n"
+    ∷ runCase (0x01 ∷ 0x00 ∷ 0x00 ∷ 0x00 ∷ 0x07 ∷ 0x00 ∷ 0x00 ∷ []) "0 1 - 1 0 -\nend closed\n"
+    ∷ runCase (0x01 ∷ 0x00 ∷ 0x00 ∷ 0x00 ∷ 0x07 ∷ 0x00 ∷ 0x00 ∷ 0x00 ∷ 0xFF ∷ 0xFF ∷ []) "0 1 7 0 32 0\n1 65535 - 1 0 -\nend closed\n"
     -- headers of messages of 65,536 bytes, which is cut, and of 65,537
-    ∷ row (0x01 ∷ 0x00 ∷ 0xF8 ∷ 0xFF ∷ 0x07 ∷ 0x00 ∷ 0x00 ∷ 0x00 ∷ []) "0 1 7 1 0 -\nend closed\n"
-    ∷ row (0x01 ∷ 0x00 ∷ 0xF9 ∷ 0xFF ∷ 0x07 ∷ 0x00 ∷ 0x00 ∷ 0x00 ∷ []) "end long\n"
+    ∷ runCase (0x01 ∷ 0x00 ∷ 0xF8 ∷ 0xFF ∷ 0x07 ∷ 0x00 ∷ 0x00 ∷ 0x00 ∷ []) "0 1 7 1 0 -\nend closed\n"
+    ∷ runCase (0x01 ∷ 0x00 ∷ 0xF9 ∷ 0xFF ∷ 0x07 ∷ 0x00 ∷ 0x00 ∷ 0x00 ∷ []) "end long\n"
     ∷ []
 
 pub rows-right : map (λ r. printedOf (r .input)) rows ≡ map (λ r. ascii (r .printed)) rows

@@ -29,8 +29,8 @@ use Rattle.reply.specs.declared.Contents.the-variants.{Nothing, Version,
 
 -- ---- the data of a reply, by the handler's place among the handlers: messages 1 to 16 have them in order
 
-abbrev placeOf : ℕ → ℕ
-placeOf id = tagOf the-type (layoutOf id .handler)
+abbrev handlerTag : ℕ → ℕ
+handlerTag id = tagOf the-type (layoutOf id .handler)
 
 -- f holds of each number below n
 abbrev pub allBelow : (ℕ → Bool) → ℕ → Bool
@@ -46,11 +46,11 @@ below f (suc n) i h g =
     (λ q. let e : i ≡ n = omega arith in rw e (both .0))
     (le-or-lt (suc i) n)
 
-place-in : (n : ℕ) → n < 16 → n ≡ placeOf (suc n)
+place-in : (n : ℕ) → n < 16 → n ≡ handlerTag (suc n)
 unfolding layoutOf
-place-in n h = eqb-true n (placeOf (suc n)) (below (λ k. eqb k (placeOf (suc k))) 16 n refl h)
+place-in n h = eqb-true n (handlerTag (suc n)) (below (λ k. eqb k (handlerTag (suc k))) 16 n refl h)
 
-place-past : (n : ℕ) → 16 ≤ n → placeOf (suc n) ≡ 16
+place-past : (n : ℕ) → 16 ≤ n → handlerTag (suc n) ≡ 16
 unfolding layoutOf
 place-past n h = ap (λ (l : Layout). tagOf the-type (l .handler)) (List·getD-eq-default messages unknown {n = suc n} (omega arith))
 
@@ -59,7 +59,7 @@ module _ (s : Settings) (guest d : List ℕ) where
   unfolding replyData
   no-data n a b c e = simp (ne-eqb n 1 a, ne-eqb n 4 b, ne-eqb n 6 c, ne-eqb n 8 e)
 
-  pub by-place : (id : ℕ) → replyData s guest id d ≡ replyData s guest (suc (placeOf id)) d
+  pub by-place : (id : ℕ) → replyData s guest id d ≡ replyData s guest (suc (handlerTag id)) d
   unfolding replyData layoutOf
   by-place zero = refl
   by-place (suc n) = ⊎-elim

@@ -18,7 +18,7 @@ use Rattle.kvmi.specs.Codes.{isError}
 use Rattle.kvmi.specs.Model.{nextSeq}
 use Rattle.kvmi.specs.Reply.{commandErrorEvent, replyBytes, answerBytes, answerSeq, answerOf}
 use Rattle.reply.specs.declared.Answered.{Answered}
-use Rattle.reply.specs.Written.{Written, Answers}
+use Rattle.reply.specs.Written.{Written, AnswerWritten}
 use Rattle.reply.specs.Off.{isTold, offBytes, offSeq, kindSeq}
 
 -- the test of both, with the code as it is passed on
@@ -58,21 +58,21 @@ module _ (mode next id seq : ℕ) (code : ℤ) (d : List ℕ) where
   on-seq h = rw (eq-eqb mode 0 h)
 
   -- kinds that are answered
-  pub spoken : {out after : List ℕ} {r : Answered} → Answers out after r (answerBytes (modeOfNumber mode) next id seq code d) (answerSeq (modeOfNumber mode) next code)
-      → Answers out after r (answerOf CodeOnly (modeOfNumber mode) next id seq code d) (kindSeq CodeOnly (modeOfNumber mode) next code)
+  pub spoken : {out after : List ℕ} {r : Answered} → AnswerWritten out after r (answerBytes (modeOfNumber mode) next id seq code d) (answerSeq (modeOfNumber mode) next code)
+      → AnswerWritten out after r (answerOf CodeOnly (modeOfNumber mode) next id seq code d) (kindSeq CodeOnly (modeOfNumber mode) next code)
   unfolding answerOf kindSeq
   spoken a = a
 
-  pub spoken-data : {out after : List ℕ} {r : Answered} → Answers out after r (answerBytes (modeOfNumber mode) next id seq code d) (answerSeq (modeOfNumber mode) next code)
-      → Answers out after r (answerOf WithData (modeOfNumber mode) next id seq code d) (kindSeq WithData (modeOfNumber mode) next code)
+  pub spoken-data : {out after : List ℕ} {r : Answered} → AnswerWritten out after r (answerBytes (modeOfNumber mode) next id seq code d) (answerSeq (modeOfNumber mode) next code)
+      → AnswerWritten out after r (answerOf WithData (modeOfNumber mode) next id seq code d) (kindSeq WithData (modeOfNumber mode) next code)
   unfolding answerOf kindSeq
   spoken-data a = a
 
   module _ {out after : List ℕ} {r : Answered} where
-    pub off-as : (mode ≡ 0 → ⊥) → Answers out after r (offBytes mode next id seq code) (offSeq mode next code)
-        → Answers out after r (answerBytes (modeOfNumber mode) next id seq code d) (answerSeq (modeOfNumber mode) next code)
+    pub off-as : (mode ≡ 0 → ⊥) → AnswerWritten out after r (offBytes mode next id seq code) (offSeq mode next code)
+        → AnswerWritten out after r (answerBytes (modeOfNumber mode) next id seq code d) (answerSeq (modeOfNumber mode) next code)
     off-as h a = rw (off-bytes h, off-seq h) at a
 
     pub on-as : mode ≡ 0 → Written out after (r .count) (replyBytes id seq code d) → r .next ≡ next
-        → Answers out after r (answerBytes (modeOfNumber mode) next id seq code d) (answerSeq (modeOfNumber mode) next code)
+        → AnswerWritten out after r (answerBytes (modeOfNumber mode) next id seq code d) (answerSeq (modeOfNumber mode) next code)
     on-as h w e = rw (← on-bytes h, ← on-seq h) (record { written = w; next = e })

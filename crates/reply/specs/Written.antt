@@ -12,6 +12,6 @@ pub record Written (before after : List ℕ) (r : ℕ) (bytes : List ℕ) : Type
   pub there : after ≡ store before 0 bytes
 
 -- what answers a message is written, and the next event's seq told
-pub record Answers (before after : List ℕ) (r : Answered) (bytes : List ℕ) (seq : ℕ) : Type 0 where
+pub record AnswerWritten (before after : List ℕ) (r : Answered) (bytes : List ℕ) (seq : ℕ) : Type 0 where
   pub written : Written before after (r .count) bytes
   pub next : r .next ≡ seq

@@ -13,7 +13,7 @@ ghost use Rattle.kvmi.specs.Message.{layoutOf};
 ghost use Rattle.kvmi.specs.Model.{nextSeq};
 ghost use Rattle.kvmi.specs.Reply.{replyBytes, replyData, pauseEvent, commandErrorEvent, answerOf};
 ghost use Rattle.kvmi.specs.Mode.{modeOfNumber};
-ghost use Rattle.reply.specs.Written.{Written, Answers};
+ghost use Rattle.reply.specs.Written.{Written, AnswerWritten};
 ghost use Rattle.reply.specs.Off.{offBytes, offSeq, kindSeq};
 ghost use Rattle.reply.specs.Contents.{contentsBytes, contentsCount, contentsEnd, Chosen, Picked};
 ghost use Rattle.reply.specs.Event.{eventFront};
@@ -214,7 +214,7 @@ fn put_command_error(out: &mut [u8], next: u32, code: i32, seq: u32, id: u16) ->
 
 // The answer while replies are off: where errors are told and this is one, the event that tells it, which takes a seq.
 fn answer_off(out: &mut [u8], mode: u32, next: u32, id: u16, seq: u32, code: i32) -> Answered
-    ensures { λ r. ⌜ Answers (now (out .entry)) (now (out .exit)) r (offBytes mode next id seq code) (offSeq mode next code) ⌝ }
+    ensures { λ r. ⌜ AnswerWritten (now (out .entry)) (now (out .exit)) r (offBytes mode next id seq code) (offSeq mode next code) ⌝ }
 {
     if (mode != 1) & is_error(code) {
         return Answered {
@@ -238,7 +238,7 @@ pub fn answer(
     code: i32,
     d: &[u8],
 ) -> Answered
-    ensures { λ r. ⌜ Answers (now (out .entry)) (now (out .exit)) r (answerOf (layoutOf id .reply) (modeOfNumber mode) next id seq code (replyData settings (now (guest .entry)) id (now (d .entry)))) (kindSeq (layoutOf id .reply) (modeOfNumber mode) next code) ⌝ }
+    ensures { λ r. ⌜ AnswerWritten (now (out .entry)) (now (out .exit)) r (answerOf (layoutOf id .reply) (modeOfNumber mode) next id seq code (replyData settings (now (guest .entry)) id (now (d .entry)))) (kindSeq (layoutOf id .reply) (modeOfNumber mode) next code) ⌝ }
 {
     let row = kvmi::table::layout(id);
     let kind = row.reply;

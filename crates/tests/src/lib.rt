@@ -127,7 +127,7 @@ pub fn replies_on(mode: ReplyMode) -> bool
 }
 
 // The mode that VM_CONTROL_CMD_RESPONSE sets. Its flag counts only where replies go off.
-pub fn mode_of(enable: bool, flag: bool) -> ReplyMode
+pub fn mode_from(enable: bool, flag: bool) -> ReplyMode
     ensures { λ r. ⌜ r ≡ modeOf enable flag ⌝ }
 {
     if enable {

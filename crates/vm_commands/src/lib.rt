@@ -92,7 +92,7 @@ pub fn control_replies(settings: Settings, facts: Facts, d: &[u8]) -> Verdict
     let switches = tests::is_switch(enable) & (tests::is_switch(now) & tests::is_switch(flag));
     let mut c = Causes::new((padding::of_switch(d) != 0) | !switches, false);
     c.closing = (enable != 1) & (flag == 1) & !tests::is_on(settings.events, 13);
-    let mode = tests::mode_of(enable == 1, flag == 1);
+    let mode = tests::mode_from(enable == 1, flag == 1);
     c.decide(Change::SetReplies {
         mode,
         now: now == 1,

@@ -8,8 +8,8 @@ use borrow.Author.Needs.{needs}
 use Rattle.image_bytes.proofs.put.Statement.{statement}
 use Rattle.image_bytes.proofs.put.Tie as tie
 
-stated-requires : tie.Need-stated-requires
-stated-requires c κs = search needs
+stated-count-requires : tie.Need-stated-count-requires
+stated-count-requires c κs = search needs
 
 smaller-requires : tie.Need-smaller-requires
 smaller-requires c κs = search needs
@@ -43,7 +43,7 @@ put-requires c κs = search needs
 
 size-of-requires : tie.Need-size-of-requires
 size-of-requires c κs =
-    let b = msrs-bound (c .before .before .before .before .before .before .before .before .before .before .args .vcpus .now) (c .before .before .before .before .before .before .stated .result) in
+    let b = msrs-bound (c .before .before .before .before .before .before .before .before .before .before .args .vcpus .now) (c .before .before .before .before .before .before .stated-count .result) in
     let e = c .before .before .put .ensures .0 in
     omega (arith, b, e)
 
@@ -56,7 +56,7 @@ same-length c = search needs
 returns : tie.Need-returns
 returns c =
     let a = c .before .before .before .before .before .before .before .before .before .before .before .before .before .before .before .before .args in
-    let n = c .before .before .before .before .before .before .before .before .before .before .before .before .stated .ensures in
+    let n = c .before .before .before .before .before .before .before .before .before .before .before .before .stated-count .ensures in
     let held = c .before .before .before .before .before .before .before .before .before .before .before .smaller .ensures in
     let on = c .before .before .before .before .before .before .before .before .put .ensures in
     let size = c .before .before .before .before .before .size-of .ensures in
@@ -71,7 +71,7 @@ same-length-2 c = search needs
 returns-2 : tie.Need-returns-2
 returns-2 c =
     let a = c .before .before .before .before .before .before .before .before .before .before .before .before .args in
-    let n = c .before .before .before .before .before .before .before .before .stated .ensures in
+    let n = c .before .before .before .before .before .before .before .before .stated-count .ensures in
     let held = c .before .before .before .before .before .before .before .smaller .ensures in
     let on = c .before .before .before .before .put .ensures in
     let size = c .before .size-of .ensures in
@@ -84,7 +84,7 @@ pub put-spec : {M : Type 1} → statement M
 put-spec =
     tie.close
     (tie.spec
-    stated-requires
+    stated-count-requires
     smaller-requires
     mul-less
     add-less

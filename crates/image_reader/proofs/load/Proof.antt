@@ -26,8 +26,8 @@ loop-holds c = (omega arith, refl, refl, λ s u e. load-begins s (now (c .before
 mark-at-requires : tie.Need-mark-at-requires Inv-loop μ-loop
 mark-at-requires c κs = search needs
 
-size-of-requires : tie.Need-size-of-requires Inv-loop μ-loop
-size-of-requires c κs = search needs
+record-size-requires : tie.Need-record-size-requires Inv-loop μ-loop
+record-size-requires c κs = search needs
 
 same-length : tie.Need-same-length Inv-loop μ-loop
 same-length c = c .before .before .before .loop .inv .1
@@ -36,7 +36,7 @@ same-length-2 : tie.Need-same-length-2 Inv-loop μ-loop
 same-length-2 c = c .before .before .before .loop .inv .2
 
 returns : tie.Need-returns Inv-loop μ-loop
-returns c = λ s u e. load-ended s (now (c .before .before .before .before .before .before .before .args .l)) u _ _ _ _ _ _ (c .before .before .before .loop .inv .3 s u e) (sym (c .before .size-of .ensures ∙ ap sizeBy (c .before .before .mark-at .ensures)) ∙ c .if1 .taken)
+returns c = λ s u e. load-ended s (now (c .before .before .before .before .before .before .before .args .l)) u _ _ _ _ _ _ (c .before .before .before .loop .inv .3 s u e) (sym (c .before .record-size .ensures ∙ ap sizeBy (c .before .before .mark-at .ensures)) ∙ c .if1 .taken)
 
 load-record-requires : tie.Need-load-record-requires Inv-loop μ-loop
 load-record-requires c κs = c .before .before .before .before .mark-at .ensures
@@ -45,16 +45,16 @@ pages-of-requires : tie.Need-pages-of-requires Inv-loop μ-loop
 pages-of-requires c κs = search needs
 
 add-i : tie.Need-add-i Inv-loop μ-loop
-add-i c = let q : c .before .before .before .before .before .before .before .before .before .size-of .result ≡ sizeBy (markAt (now (c .before .before .before .before .before .before .before .before .before .before .before .before .before .before .before .args .l)) (c .before .before .before .before .before .before .before .before .before .before .before .loop .at)) = c .before .before .before .before .before .before .before .before .before .size-of .ensures ∙ ap sizeBy (c .before .before .before .before .before .before .before .before .before .before .mark-at .ensures) in let some : 0 < sizeBy (markAt (now (c .before .before .before .before .before .before .before .before .before .before .before .before .before .before .before .args .l)) (c .before .before .before .before .before .before .before .before .before .before .before .loop .at)) = some-size _ _ q (c .before .before .before .before .before .before .before .before .if1 .left) in let r = load-room (now (c .before .before .before .before .before .before .before .before .before .before .before .before .before .before .before .args .l)) (c .before .before .before .before .before .before .before .before .before .before .before .loop .at) some in let g = page-small (markAt (now (c .before .before .before .before .before .before .before .before .before .before .before .before .before .before .before .args .l)) (c .before .before .before .before .before .before .before .before .before .before .before .loop .at)) in let w : c .pages-of .result ≡ pageBy (markAt (now (c .before .before .before .before .before .before .before .before .before .before .before .before .before .before .before .args .l)) (c .before .before .before .before .before .before .before .before .before .before .before .loop .at)) = c .pages-of .ensures ∙ ap pageBy (c .before .before .before .before .before .before .before .before .before .before .mark-at .ensures) in omega (arith, q, r, g, w, c .before .before .before .before .before .before .before .before .before .before .before .loop .inv .0, c .before .before .before .before .before .before .before .before .before .before .before .before .before .before .before .good .0 .0)
+add-i c = let q : c .before .before .before .before .before .before .before .before .before .record-size .result ≡ sizeBy (markAt (now (c .before .before .before .before .before .before .before .before .before .before .before .before .before .before .before .args .l)) (c .before .before .before .before .before .before .before .before .before .before .before .loop .at)) = c .before .before .before .before .before .before .before .before .before .record-size .ensures ∙ ap sizeBy (c .before .before .before .before .before .before .before .before .before .before .mark-at .ensures) in let some : 0 < sizeBy (markAt (now (c .before .before .before .before .before .before .before .before .before .before .before .before .before .before .before .args .l)) (c .before .before .before .before .before .before .before .before .before .before .before .loop .at)) = some-size _ _ q (c .before .before .before .before .before .before .before .before .if1 .left) in let r = load-room (now (c .before .before .before .before .before .before .before .before .before .before .before .before .before .before .before .args .l)) (c .before .before .before .before .before .before .before .before .before .before .before .loop .at) some in let g = page-small (markAt (now (c .before .before .before .before .before .before .before .before .before .before .before .before .before .before .before .args .l)) (c .before .before .before .before .before .before .before .before .before .before .before .loop .at)) in let w : c .pages-of .result ≡ pageBy (markAt (now (c .before .before .before .before .before .before .before .before .before .before .before .before .before .before .before .args .l)) (c .before .before .before .before .before .before .before .before .before .before .before .loop .at)) = c .pages-of .ensures ∙ ap pageBy (c .before .before .before .before .before .before .before .before .before .before .mark-at .ensures) in omega (arith, q, r, g, w, c .before .before .before .before .before .before .before .before .before .before .before .loop .inv .0, c .before .before .before .before .before .before .before .before .before .before .before .before .before .before .before .good .0 .0)
 
 add-at : tie.Need-add-at Inv-loop μ-loop
-add-at c = let q : c .before .before .before .before .before .before .before .before .before .size-of .result ≡ sizeBy (markAt (now (c .before .before .before .before .before .before .before .before .before .before .before .before .before .before .before .args .l)) (c .before .before .before .before .before .before .before .before .before .before .before .loop .at)) = c .before .before .before .before .before .before .before .before .before .size-of .ensures ∙ ap sizeBy (c .before .before .before .before .before .before .before .before .before .before .mark-at .ensures) in let some : 0 < sizeBy (markAt (now (c .before .before .before .before .before .before .before .before .before .before .before .before .before .before .before .args .l)) (c .before .before .before .before .before .before .before .before .before .before .before .loop .at)) = some-size _ _ q (c .before .before .before .before .before .before .before .before .if1 .left) in let r = load-room (now (c .before .before .before .before .before .before .before .before .before .before .before .before .before .before .before .args .l)) (c .before .before .before .before .before .before .before .before .before .before .before .loop .at) some in omega (arith, q, r, c .before .before .before .before .before .before .before .before .before .before .before .before .before .before .before .good .0 .0)
+add-at c = let q : c .before .before .before .before .before .before .before .before .before .record-size .result ≡ sizeBy (markAt (now (c .before .before .before .before .before .before .before .before .before .before .before .before .before .before .before .args .l)) (c .before .before .before .before .before .before .before .before .before .before .before .loop .at)) = c .before .before .before .before .before .before .before .before .before .record-size .ensures ∙ ap sizeBy (c .before .before .before .before .before .before .before .before .before .before .mark-at .ensures) in let some : 0 < sizeBy (markAt (now (c .before .before .before .before .before .before .before .before .before .before .before .before .before .before .before .args .l)) (c .before .before .before .before .before .before .before .before .before .before .before .loop .at)) = some-size _ _ q (c .before .before .before .before .before .before .before .before .if1 .left) in let r = load-room (now (c .before .before .before .before .before .before .before .before .before .before .before .before .before .before .before .args .l)) (c .before .before .before .before .before .before .before .before .before .before .before .loop .at) some in omega (arith, q, r, c .before .before .before .before .before .before .before .before .before .before .before .before .before .before .before .good .0 .0)
 
 loop-less : tie.Need-loop-less Inv-loop μ-loop
-loop-less c = let q : c .before .before .before .before .before .before .before .before .before .size-of .result ≡ sizeBy (markAt (now (c .before .before .before .before .before .before .before .before .before .before .before .before .before .before .before .args .l)) (c .before .before .before .before .before .before .before .before .before .before .before .loop .at)) = c .before .before .before .before .before .before .before .before .before .size-of .ensures ∙ ap sizeBy (c .before .before .before .before .before .before .before .before .before .before .mark-at .ensures) in let some : 0 < sizeBy (markAt (now (c .before .before .before .before .before .before .before .before .before .before .before .before .before .before .before .args .l)) (c .before .before .before .before .before .before .before .before .before .before .before .loop .at)) = some-size _ _ q (c .before .before .before .before .before .before .before .before .if1 .left) in let r = load-room (now (c .before .before .before .before .before .before .before .before .before .before .before .before .before .before .before .args .l)) (c .before .before .before .before .before .before .before .before .before .before .before .loop .at) some in omega (arith, q, r, some)
+loop-less c = let q : c .before .before .before .before .before .before .before .before .before .record-size .result ≡ sizeBy (markAt (now (c .before .before .before .before .before .before .before .before .before .before .before .before .before .before .before .args .l)) (c .before .before .before .before .before .before .before .before .before .before .before .loop .at)) = c .before .before .before .before .before .before .before .before .before .record-size .ensures ∙ ap sizeBy (c .before .before .before .before .before .before .before .before .before .before .mark-at .ensures) in let some : 0 < sizeBy (markAt (now (c .before .before .before .before .before .before .before .before .before .before .before .before .before .before .before .args .l)) (c .before .before .before .before .before .before .before .before .before .before .before .loop .at)) = some-size _ _ q (c .before .before .before .before .before .before .before .before .if1 .left) in let r = load-room (now (c .before .before .before .before .before .before .before .before .before .before .before .before .before .before .before .args .l)) (c .before .before .before .before .before .before .before .before .before .before .before .loop .at) some in omega (arith, q, r, some)
 
 loop-again : tie.Need-loop-again Inv-loop μ-loop
-loop-again c = let q : c .before .before .before .before .before .before .before .before .before .size-of .result ≡ sizeBy (markAt (now (c .before .before .before .before .before .before .before .before .before .before .before .before .before .before .before .args .l)) (c .before .before .before .before .before .before .before .before .before .before .before .loop .at)) = c .before .before .before .before .before .before .before .before .before .size-of .ensures ∙ ap sizeBy (c .before .before .before .before .before .before .before .before .before .before .mark-at .ensures) in let some : 0 < sizeBy (markAt (now (c .before .before .before .before .before .before .before .before .before .before .before .before .before .before .before .args .l)) (c .before .before .before .before .before .before .before .before .before .before .before .loop .at)) = some-size _ _ q (c .before .before .before .before .before .before .before .before .if1 .left) in let r = load-room (now (c .before .before .before .before .before .before .before .before .before .before .before .before .before .before .before .args .l)) (c .before .before .before .before .before .before .before .before .before .before .before .loop .at) some in let g = page-small (markAt (now (c .before .before .before .before .before .before .before .before .before .before .before .before .before .before .before .args .l)) (c .before .before .before .before .before .before .before .before .before .before .before .loop .at)) in let w : c .pages-of .result ≡ pageBy (markAt (now (c .before .before .before .before .before .before .before .before .before .before .before .before .before .before .before .args .l)) (c .before .before .before .before .before .before .before .before .before .before .before .loop .at)) = c .pages-of .ensures ∙ ap pageBy (c .before .before .before .before .before .before .before .before .before .before .mark-at .ensures) in (omega (arith, q, g, w, c .before .before .before .before .before .before .before .before .before .before .before .loop .inv .0), c .before .before .before .before .before .load-record .kept .1 .0 ∙ c .before .before .before .before .before .before .before .before .before .before .before .loop .inv .1, c .before .before .before .before .before .load-record .kept .1 .1 .0 ∙ c .before .before .before .before .before .before .before .before .before .before .before .loop .inv .2, λ s u e. rw (c .before .before .before .before .before .load-record .ensures .0, c .before .before .before .before .before .load-record .ensures .1, c .before .before .before .before .before .before .before .before .before .size-of .ensures, c .pages-of .ensures, c .before .before .before .before .before .before .before .before .before .before .mark-at .ensures) (load-more s (now (c .before .before .before .before .before .before .before .before .before .before .before .before .before .before .before .args .l)) u _ _ _ _ _ _ (c .before .before .before .before .before .before .before .before .before .before .before .loop .inv .3 s u e) some))
+loop-again c = let q : c .before .before .before .before .before .before .before .before .before .record-size .result ≡ sizeBy (markAt (now (c .before .before .before .before .before .before .before .before .before .before .before .before .before .before .before .args .l)) (c .before .before .before .before .before .before .before .before .before .before .before .loop .at)) = c .before .before .before .before .before .before .before .before .before .record-size .ensures ∙ ap sizeBy (c .before .before .before .before .before .before .before .before .before .before .mark-at .ensures) in let some : 0 < sizeBy (markAt (now (c .before .before .before .before .before .before .before .before .before .before .before .before .before .before .before .args .l)) (c .before .before .before .before .before .before .before .before .before .before .before .loop .at)) = some-size _ _ q (c .before .before .before .before .before .before .before .before .if1 .left) in let r = load-room (now (c .before .before .before .before .before .before .before .before .before .before .before .before .before .before .before .args .l)) (c .before .before .before .before .before .before .before .before .before .before .before .loop .at) some in let g = page-small (markAt (now (c .before .before .before .before .before .before .before .before .before .before .before .before .before .before .before .args .l)) (c .before .before .before .before .before .before .before .before .before .before .before .loop .at)) in let w : c .pages-of .result ≡ pageBy (markAt (now (c .before .before .before .before .before .before .before .before .before .before .before .before .before .before .before .args .l)) (c .before .before .before .before .before .before .before .before .before .before .before .loop .at)) = c .pages-of .ensures ∙ ap pageBy (c .before .before .before .before .before .before .before .before .before .before .mark-at .ensures) in (omega (arith, q, g, w, c .before .before .before .before .before .before .before .before .before .before .before .loop .inv .0), c .before .before .before .before .before .load-record .kept .1 .0 ∙ c .before .before .before .before .before .before .before .before .before .before .before .loop .inv .1, c .before .before .before .before .before .load-record .kept .1 .1 .0 ∙ c .before .before .before .before .before .before .before .before .before .before .before .loop .inv .2, λ s u e. rw (c .before .before .before .before .before .load-record .ensures .0, c .before .before .before .before .before .load-record .ensures .1, c .before .before .before .before .before .before .before .before .before .record-size .ensures, c .pages-of .ensures, c .before .before .before .before .before .before .before .before .before .before .mark-at .ensures) (load-more s (now (c .before .before .before .before .before .before .before .before .before .before .before .before .before .before .before .args .l)) u _ _ _ _ _ _ (c .before .before .before .before .before .before .before .before .before .before .before .loop .inv .3 s u e) some))
 
 pub load-spec : {M : Type 1} → statement M
 load-spec =
@@ -64,7 +64,7 @@ load-spec =
     μ-loop
     loop-holds
     mark-at-requires
-    size-of-requires
+    record-size-requires
     same-length
     same-length-2
     returns

@@ -38,14 +38,14 @@ step-en-requires c κs = mark-room (now (c .before .before .before .before .args
 enum-told-5 : tie.Need-enum-told-5
 enum-told-5 c = search needs
 
-refuse-requires : tie.Need-refuse-requires
-refuse-requires c κs = search needs
+reject-requires : tie.Need-reject-requires
+reject-requires c κs = search needs
 
 enum-told-6 : tie.Need-enum-told-6
 enum-told-6 c = search needs
 
-refuse-requires-2 : tie.Need-refuse-requires-2
-refuse-requires-2 c κs = search needs
+reject-requires-2 : tie.Need-reject-requires-2
+reject-requires-2 c κs = search needs
 
 returns : tie.Need-returns
 unfolding nextStepOf stepBy
@@ -65,11 +65,11 @@ returns-4 c = rw (← c .before .before .before .mark-at .ensures, c .before .en
 
 returns-5 : tie.Need-returns-5
 unfolding nextStepOf stepBy
-returns-5 c = rw (← c .before .before .before .mark-at .ensures, c .before .enum-told5 .given .1) (c .refuse .ensures)
+returns-5 c = rw (← c .before .before .before .mark-at .ensures, c .before .enum-told5 .given .1) (c .reject .ensures)
 
 returns-6 : tie.Need-returns-6
 unfolding nextStepOf stepBy
-returns-6 c = rw (← c .before .before .before .mark-at .ensures, c .before .enum-told6 .given .1) (c .refuse2 .ensures)
+returns-6 c = rw (← c .before .before .before .mark-at .ensures, c .before .enum-told6 .given .1) (c .reject2 .ensures)
 
 pub next-step-spec : {M : Type 1} → statement M
 next-step-spec =
@@ -85,9 +85,9 @@ next-step-spec =
     enum-told-4
     step-en-requires
     enum-told-5
-    refuse-requires
+    reject-requires
     enum-told-6
-    refuse-requires-2
+    reject-requires-2
     returns
     returns-2
     returns-3

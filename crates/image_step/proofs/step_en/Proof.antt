@@ -17,36 +17,36 @@ load32-requires c κs = search needs
 is-after-requires : tie.Need-is-after-requires
 is-after-requires c κs = search needs
 
-refuse-requires : tie.Need-refuse-requires
-refuse-requires c κs = search needs
+reject-requires : tie.Need-reject-requires
+reject-requires c κs = search needs
 
 returns : tie.Need-returns
 unfolding enStep
-returns c = rw (← c .before .before .before .load32 .ensures, ← c .before .before .is-after .ensures, not-true (c .before .before .is-after .result) (c .before .if1 .taken)) (c .refuse .ensures)
+returns c = rw (← c .before .before .before .load32 .ensures, ← c .before .before .is-after .ensures, not-true (c .before .before .is-after .result) (c .before .if1 .taken)) (c .reject .ensures)
 
-refuse-requires-2 : tie.Need-refuse-requires-2
-refuse-requires-2 c κs = search needs
+reject-requires-2 : tie.Need-reject-requires-2
+reject-requires-2 c κs = search needs
 
 returns-2 : tie.Need-returns-2
 unfolding enStep
-returns-2 c = rw (← c .before .before .before .before .before .before .load32 .ensures, ← c .before .before .before .before .before .is-after .ensures, not-false (c .before .before .before .before .before .is-after .result) (c .before .before .before .before .if1 .left), ne-eqb _ _ (c .before .if2 .taken)) (c .refuse2 .ensures)
+returns-2 c = rw (← c .before .before .before .before .before .before .load32 .ensures, ← c .before .before .before .before .before .is-after .ensures, not-false (c .before .before .before .before .before .is-after .result) (c .before .before .before .before .if1 .left), ne-eqb _ _ (c .before .if2 .taken)) (c .reject2 .ensures)
 
 cast-if3 : tie.Need-cast-if3
 cast-if3 c = search needs
 
-refuse-requires-3 : tie.Need-refuse-requires-3
-refuse-requires-3 c κs = search needs
+reject-requires-3 : tie.Need-reject-requires-3
+reject-requires-3 c κs = search needs
 
 returns-3 : tie.Need-returns-3
 unfolding enStep
-returns-3 c = rw (← c .before .before .before .before .before .before .before .before .load32 .ensures, ← c .before .before .before .before .before .before .before .is-after .ensures, not-false (c .before .before .before .before .before .before .before .is-after .result) (c .before .before .before .before .before .before .if1 .left), eq-eqb _ _ (c .before .before .before .if2 .left), ne-eqb _ _ (c .before .if3 .taken)) (c .refuse3 .ensures)
+returns-3 c = rw (← c .before .before .before .before .before .before .before .before .load32 .ensures, ← c .before .before .before .before .before .before .before .is-after .ensures, not-false (c .before .before .before .before .before .before .before .is-after .result) (c .before .before .before .before .before .before .if1 .left), eq-eqb _ _ (c .before .before .before .if2 .left), ne-eqb _ _ (c .before .if3 .taken)) (c .reject3 .ensures)
 
-refuse-requires-4 : tie.Need-refuse-requires-4
-refuse-requires-4 c κs = search needs
+reject-requires-4 : tie.Need-reject-requires-4
+reject-requires-4 c κs = search needs
 
 returns-4 : tie.Need-returns-4
 unfolding enStep
-returns-4 c = rw (← c .before .before .before .before .before .before .before .before .before .load32 .ensures, ← c .before .before .before .before .before .before .before .before .is-after .ensures, not-false (c .before .before .before .before .before .before .before .before .is-after .result) (c .before .before .before .before .before .before .before .if1 .left), eq-eqb _ _ (c .before .before .before .before .if2 .left), eq-eqb _ _ (c .before .before .if3 .left), ne-eqb _ _ (c .before .if4 .taken)) (c .refuse4 .ensures)
+returns-4 c = rw (← c .before .before .before .before .before .before .before .before .before .load32 .ensures, ← c .before .before .before .before .before .before .before .before .is-after .ensures, not-false (c .before .before .before .before .before .before .before .before .is-after .result) (c .before .before .before .before .before .before .before .if1 .left), eq-eqb _ _ (c .before .before .before .before .if2 .left), eq-eqb _ _ (c .before .before .if3 .left), ne-eqb _ _ (c .before .if4 .taken)) (c .reject4 .ensures)
 
 returns-5 : tie.Need-returns-5
 unfolding enStep
@@ -60,13 +60,13 @@ step-en-spec =
     add-load32
     load32-requires
     is-after-requires
-    refuse-requires
+    reject-requires
     returns
-    refuse-requires-2
+    reject-requires-2
     returns-2
     cast-if3
-    refuse-requires-3
+    reject-requires-3
     returns-3
-    refuse-requires-4
+    reject-requires-4
     returns-4
     returns-5)

@@ -26,29 +26,29 @@ cast-is-after c = search needs
 is-after-requires : tie.Need-is-after-requires
 is-after-requires c κs = search needs
 
-refuse-requires : tie.Need-refuse-requires
-refuse-requires c κs = search needs
+reject-requires : tie.Need-reject-requires
+reject-requires c κs = search needs
 
 returns : tie.Need-returns
 unfolding msStep
-returns c = rw (← c .before .before .before .before .load16 .ensures, ← c .before .before .before .load32 .ensures, ← c .before .before .is-after .ensures, not-true (c .before .before .is-after .result) (c .before .if1 .taken)) (c .refuse .ensures)
+returns c = rw (← c .before .before .before .before .load16 .ensures, ← c .before .before .before .load32 .ensures, ← c .before .before .is-after .ensures, not-true (c .before .before .is-after .result) (c .before .if1 .taken)) (c .reject .ensures)
 
-refuse-requires-2 : tie.Need-refuse-requires-2
-refuse-requires-2 c κs = search needs
+reject-requires-2 : tie.Need-reject-requires-2
+reject-requires-2 c κs = search needs
 
 returns-2 : tie.Need-returns-2
 unfolding msStep
-returns-2 c = rw (← c .before .before .before .before .before .before .before .load16 .ensures, ← c .before .before .before .before .before .before .load32 .ensures, ← c .before .before .before .before .before .is-after .ensures, not-false (c .before .before .before .before .before .is-after .result) (c .before .before .before .before .if1 .left), ne-eqb _ _ (c .before .if2 .taken)) (c .refuse2 .ensures)
+returns-2 c = rw (← c .before .before .before .before .before .before .before .load16 .ensures, ← c .before .before .before .before .before .before .load32 .ensures, ← c .before .before .before .before .before .is-after .ensures, not-false (c .before .before .before .before .before .is-after .result) (c .before .before .before .before .if1 .left), ne-eqb _ _ (c .before .if2 .taken)) (c .reject2 .ensures)
 
 ms-form-requires : tie.Need-ms-form-requires
 ms-form-requires c κs = search needs
 
-refuse-requires-3 : tie.Need-refuse-requires-3
-refuse-requires-3 c κs = search needs
+reject-requires-3 : tie.Need-reject-requires-3
+reject-requires-3 c κs = search needs
 
 returns-3 : tie.Need-returns-3
 unfolding msStep
-returns-3 c = rw (← c .before .before .before .before .before .before .before .before .before .load16 .ensures, ← c .before .before .before .before .before .before .before .before .load32 .ensures, ← c .before .before .before .before .before .before .before .is-after .ensures, not-false (c .before .before .before .before .before .before .before .is-after .result) (c .before .before .before .before .before .before .if1 .left), eq-eqb _ _ (c .before .before .before .if2 .left), ← c .before .before .ms-form .ensures, not-true (c .before .before .ms-form .result) (c .before .if3 .taken)) (c .refuse3 .ensures)
+returns-3 c = rw (← c .before .before .before .before .before .before .before .before .before .load16 .ensures, ← c .before .before .before .before .before .before .before .before .load32 .ensures, ← c .before .before .before .before .before .before .before .is-after .ensures, not-false (c .before .before .before .before .before .before .before .is-after .result) (c .before .before .before .before .before .before .if1 .left), eq-eqb _ _ (c .before .before .before .if2 .left), ← c .before .before .ms-form .ensures, not-true (c .before .before .ms-form .result) (c .before .if3 .taken)) (c .reject3 .ensures)
 
 wrapping-add-usize-requires : tie.Need-wrapping-add-usize-requires
 wrapping-add-usize-requires c κs = search needs
@@ -71,12 +71,12 @@ step-ms-spec =
     load32-requires
     cast-is-after
     is-after-requires
-    refuse-requires
+    reject-requires
     returns
-    refuse-requires-2
+    reject-requires-2
     returns-2
     ms-form-requires
-    refuse-requires-3
+    reject-requires-3
     returns-3
     wrapping-add-usize-requires
     cast-t11

@@ -39,29 +39,29 @@ byte-requires-2 c κs = search needs
 is-after-requires : tie.Need-is-after-requires
 is-after-requires c κs = search needs
 
-refuse-requires : tie.Need-refuse-requires
-refuse-requires c κs = search needs
+reject-requires : tie.Need-reject-requires
+reject-requires c κs = search needs
 
 returns : tie.Need-returns
 unfolding paStep paMay
-returns c = rw (← c .before .before .before .before .before .load16 .ensures, ← c .before .before .before .before .byte .ensures, ← c .before .before .before .byte2 .ensures, ← c .before .before .before .before .before .before .load64 .ensures, ← c .before .before .is-after .ensures, not-true (c .before .before .is-after .result) (c .before .if1 .taken)) (c .refuse .ensures)
+returns c = rw (← c .before .before .before .before .before .load16 .ensures, ← c .before .before .before .before .byte .ensures, ← c .before .before .before .byte2 .ensures, ← c .before .before .before .before .before .before .load64 .ensures, ← c .before .before .is-after .ensures, not-true (c .before .before .is-after .result) (c .before .if1 .taken)) (c .reject .ensures)
 
-refuse-requires-2 : tie.Need-refuse-requires-2
-refuse-requires-2 c κs = search needs
+reject-requires-2 : tie.Need-reject-requires-2
+reject-requires-2 c κs = search needs
 
 returns-2 : tie.Need-returns-2
 unfolding paStep paMay
-returns-2 c = rw (← c .before .before .before .before .before .before .before .before .load16 .ensures, ← c .before .before .before .before .before .before .before .byte .ensures, ← c .before .before .before .before .before .before .byte2 .ensures, ← c .before .before .before .before .before .before .before .before .before .load64 .ensures, ← c .before .before .before .before .before .is-after .ensures, not-false (c .before .before .before .before .before .is-after .result) (c .before .before .before .before .if1 .left), ne-eqb _ _ (c .before .if2 .taken)) (c .refuse2 .ensures)
+returns-2 c = rw (← c .before .before .before .before .before .before .before .before .load16 .ensures, ← c .before .before .before .before .before .before .before .byte .ensures, ← c .before .before .before .before .before .before .byte2 .ensures, ← c .before .before .before .before .before .before .before .before .before .load64 .ensures, ← c .before .before .before .before .before .is-after .ensures, not-false (c .before .before .before .before .before .is-after .result) (c .before .before .before .before .if1 .left), ne-eqb _ _ (c .before .if2 .taken)) (c .reject2 .ensures)
 
 pa-form-requires : tie.Need-pa-form-requires
 pa-form-requires c κs = search needs
 
-refuse-requires-3 : tie.Need-refuse-requires-3
-refuse-requires-3 c κs = search needs
+reject-requires-3 : tie.Need-reject-requires-3
+reject-requires-3 c κs = search needs
 
 returns-3 : tie.Need-returns-3
 unfolding paStep paMay
-returns-3 c = rw (← c .before .before .before .before .before .before .before .before .before .before .load16 .ensures, ← c .before .before .before .before .before .before .before .before .before .byte .ensures, ← c .before .before .before .before .before .before .before .before .byte2 .ensures, ← c .before .before .before .before .before .before .before .before .before .before .before .load64 .ensures, ← c .before .before .before .before .before .before .before .is-after .ensures, not-false (c .before .before .before .before .before .before .before .is-after .result) (c .before .before .before .before .before .before .if1 .left), eq-eqb _ _ (c .before .before .before .if2 .left), ← c .before .before .pa-form .ensures, not-true (c .before .before .pa-form .result) (c .before .if3 .taken)) (c .refuse3 .ensures)
+returns-3 c = rw (← c .before .before .before .before .before .before .before .before .before .before .load16 .ensures, ← c .before .before .before .before .before .before .before .before .before .byte .ensures, ← c .before .before .before .before .before .before .before .before .byte2 .ensures, ← c .before .before .before .before .before .before .before .before .before .before .before .load64 .ensures, ← c .before .before .before .before .before .before .before .is-after .ensures, not-false (c .before .before .before .before .before .before .before .is-after .result) (c .before .before .before .before .before .before .if1 .left), eq-eqb _ _ (c .before .before .before .if2 .left), ← c .before .before .pa-form .ensures, not-true (c .before .before .pa-form .result) (c .before .if3 .taken)) (c .reject3 .ensures)
 
 cast-if4 : tie.Need-cast-if4
 cast-if4 c = search needs
@@ -97,12 +97,12 @@ step-pa-spec =
     add-byte-2
     byte-requires-2
     is-after-requires
-    refuse-requires
+    reject-requires
     returns
-    refuse-requires-2
+    reject-requires-2
     returns-2
     pa-form-requires
-    refuse-requires-3
+    reject-requires-3
     returns-3
     cast-if4
     forbid-requires

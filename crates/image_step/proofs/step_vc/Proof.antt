@@ -49,32 +49,32 @@ byte-requires-4 c κs = search needs
 is-after-requires : tie.Need-is-after-requires
 is-after-requires c κs = search needs
 
-refuse-requires : tie.Need-refuse-requires
-refuse-requires c κs = search needs
+reject-requires : tie.Need-reject-requires
+reject-requires c κs = search needs
 
 returns : tie.Need-returns
 unfolding vcStep
-returns c = rw (← c .before .before .before .before .before .before .before .before .load16 .ensures, ← c .before .before .is-after .ensures, not-true (c .before .before .is-after .result) (c .before .if1 .taken)) (c .refuse .ensures)
+returns c = rw (← c .before .before .before .before .before .before .before .before .load16 .ensures, ← c .before .before .is-after .ensures, not-true (c .before .before .is-after .result) (c .before .if1 .taken)) (c .reject .ensures)
 
 cast-if2 : tie.Need-cast-if2
 cast-if2 c = search needs
 
-refuse-requires-2 : tie.Need-refuse-requires-2
-refuse-requires-2 c κs = search needs
+reject-requires-2 : tie.Need-reject-requires-2
+reject-requires-2 c κs = search needs
 
 returns-2 : tie.Need-returns-2
 unfolding vcStep
-returns-2 c = rw (← c .before .before .before .before .before .before .before .before .before .before .load16 .ensures, ← c .before .before .before .before .is-after .ensures, not-false (c .before .before .before .before .is-after .result) (c .before .before .before .if1 .left), ne-eqb _ _ (c .before .if2 .taken)) (c .refuse2 .ensures)
+returns-2 c = rw (← c .before .before .before .before .before .before .before .before .before .before .load16 .ensures, ← c .before .before .before .before .is-after .ensures, not-false (c .before .before .before .before .is-after .result) (c .before .before .before .if1 .left), ne-eqb _ _ (c .before .if2 .taken)) (c .reject2 .ensures)
 
 vc-form-requires : tie.Need-vc-form-requires
 vc-form-requires c κs = search needs
 
-refuse-requires-3 : tie.Need-refuse-requires-3
-refuse-requires-3 c κs = search needs
+reject-requires-3 : tie.Need-reject-requires-3
+reject-requires-3 c κs = search needs
 
 returns-3 : tie.Need-returns-3
 unfolding vcStep
-returns-3 c = rw (← c .before .before .before .before .before .before .before .before .before .before .before .before .load16 .ensures, ← c .before .before .before .before .before .before .before .before .before .before .before .byte .ensures, ← c .before .before .before .before .before .before .before .before .before .before .byte2 .ensures, ← c .before .before .before .before .before .before .before .before .before .load162 .ensures, ← c .before .before .before .before .before .before .before .before .byte3 .ensures, ← c .before .before .before .before .before .before .before .byte4 .ensures, ← c .before .before .vc-form .ensures, ← c .before .before .before .before .before .before .is-after .ensures, not-false (c .before .before .before .before .before .before .is-after .result) (c .before .before .before .before .before .if1 .left), eq-eqb _ _ (c .before .before .before .if2 .left), not-true (c .before .before .vc-form .result) (c .before .if3 .taken)) (c .refuse3 .ensures)
+returns-3 c = rw (← c .before .before .before .before .before .before .before .before .before .before .before .before .load16 .ensures, ← c .before .before .before .before .before .before .before .before .before .before .before .byte .ensures, ← c .before .before .before .before .before .before .before .before .before .before .byte2 .ensures, ← c .before .before .before .before .before .before .before .before .before .load162 .ensures, ← c .before .before .before .before .before .before .before .before .byte3 .ensures, ← c .before .before .before .before .before .before .before .byte4 .ensures, ← c .before .before .vc-form .ensures, ← c .before .before .before .before .before .before .is-after .ensures, not-false (c .before .before .before .before .before .before .is-after .result) (c .before .before .before .before .before .if1 .left), eq-eqb _ _ (c .before .before .before .if2 .left), not-true (c .before .before .vc-form .result) (c .before .if3 .taken)) (c .reject3 .ensures)
 
 vc-may-requires : tie.Need-vc-may-requires
 vc-may-requires c κs = search needs
@@ -117,13 +117,13 @@ step-vc-spec =
     add-byte-4
     byte-requires-4
     is-after-requires
-    refuse-requires
+    reject-requires
     returns
     cast-if2
-    refuse-requires-2
+    reject-requires-2
     returns-2
     vc-form-requires
-    refuse-requires-3
+    reject-requires-3
     returns-3
     vc-may-requires
     forbid-requires

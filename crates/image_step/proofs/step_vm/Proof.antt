@@ -14,22 +14,22 @@ load16-requires-2 c κs = search needs
 load16-requires-3 : tie.Need-load16-requires-3
 load16-requires-3 c κs = search needs
 
-refuse-requires : tie.Need-refuse-requires
-refuse-requires c κs = search needs
+reject-requires : tie.Need-reject-requires
+reject-requires c κs = search needs
 
 returns : tie.Need-returns
 unfolding vmStep
-returns c = rw (← c .before .before .load163 .ensures, ne-eqb _ _ (c .before .if1 .taken)) (c .refuse .ensures)
+returns c = rw (← c .before .before .load163 .ensures, ne-eqb _ _ (c .before .if1 .taken)) (c .reject .ensures)
 
 vm-form-requires : tie.Need-vm-form-requires
 vm-form-requires c κs = search needs
 
-refuse-requires-2 : tie.Need-refuse-requires-2
-refuse-requires-2 c κs = search needs
+reject-requires-2 : tie.Need-reject-requires-2
+reject-requires-2 c κs = search needs
 
 returns-2 : tie.Need-returns-2
 unfolding vmStep
-returns-2 c = rw (← c .before .before .before .before .load163 .ensures, ← c .before .before .before .before .before .before .load16 .ensures, ← c .before .before .before .before .before .load162 .ensures, eq-eqb _ _ (c .before .before .before .if1 .left), ← c .before .before .vm-form .ensures, not-true (c .before .before .vm-form .result) (c .before .if2 .taken)) (c .refuse2 .ensures)
+returns-2 c = rw (← c .before .before .before .before .load163 .ensures, ← c .before .before .before .before .before .before .load16 .ensures, ← c .before .before .before .before .before .load162 .ensures, eq-eqb _ _ (c .before .before .before .if1 .left), ← c .before .before .vm-form .ensures, not-true (c .before .before .vm-form .result) (c .before .if2 .taken)) (c .reject2 .ensures)
 
 vm-may-requires : tie.Need-vm-may-requires
 vm-may-requires c κs = search needs
@@ -55,10 +55,10 @@ step-vm-spec =
     load16-requires
     load16-requires-2
     load16-requires-3
-    refuse-requires
+    reject-requires
     returns
     vm-form-requires
-    refuse-requires-2
+    reject-requires-2
     returns-2
     vm-may-requires
     forbid-requires

@@ -18,8 +18,8 @@ returns : tie.Need-returns
 unfolding imageOf
 returns c = simp (eq-eqb _ _ (c .if1 .taken))
 
-stated-requires : tie.Need-stated-requires
-stated-requires c κs = search needs
+stated-count-requires : tie.Need-stated-count-requires
+stated-count-requires c κs = search needs
 
 awaits-requires : tie.Need-awaits-requires
 awaits-requires c κs = search needs
@@ -28,7 +28,7 @@ returns-2 : tie.Need-returns-2
 returns-2 c =
     let a = c .before .before .before .before .before .before .before .before .args in
     let st = state (a .s) (a .vcpus .now) (a .pages .now) in
-    image-busy st _ (c .before .before .stated .ensures) (ne-eqb _ _ (c .before .before .before .if1 .left)) _ (sym (c .before .awaits .ensures) ∙ c .if2 .taken)
+    image-busy st _ (c .before .before .stated-count .ensures) (ne-eqb _ _ (c .before .before .before .if1 .left)) _ (sym (c .before .awaits .ensures) ∙ c .if2 .taken)
 
 put-requires : tie.Need-put-requires
 put-requires c κs = search needs
@@ -42,7 +42,7 @@ returns-3 c =
     let st = state (a .s) (a .vcpus .now) (a .pages .now) in
     let size = c .before .before .before .put .ensures .0 ∙ ap (λ (t : Tables). length (image t)) (stated-same st) in
     let there = c .before .before .before .put .ensures .1 ∙ ap (λ (t : Tables). store (a .out .now) 0 (image t)) (stated-same st) in
-    image-past st _ (c .before .before .before .before .before .before .before .stated .ensures) (ne-eqb _ _ (c .before .before .before .before .before .before .before .before .if1 .left)) _ (sym (c .before .before .before .before .before .before .awaits .ensures) ∙ c .before .before .before .before .before .if2 .left) _ _ there size (c .if3 .taken)
+    image-past st _ (c .before .before .before .before .before .before .before .stated-count .ensures) (ne-eqb _ _ (c .before .before .before .before .before .before .before .before .if1 .left)) _ (sym (c .before .before .before .before .before .before .awaits .ensures) ∙ c .before .before .before .before .before .if2 .left) _ _ there size (c .if3 .taken)
 
 wrote-requires : tie.Need-wrote-requires
 wrote-requires c κs = search needs
@@ -57,14 +57,14 @@ returns-4 c =
     let size = c .before .before .before .before .put .ensures .0 ∙ ap (λ (t : Tables). length (image t)) (stated-same st) in
     let there = c .before .before .before .before .put .ensures .1 ∙ ap (λ (t : Tables). store (a .out .now) 0 (image t)) (stated-same st) in
     let room : length (image (statedTables st)) ≤ length (a .out .now) = rw (there, length-store, size) at (c .before .if3 .left) in
-    rw (c .wrote .ensures, there, size) (image-whole st _ (c .before .before .before .before .before .before .before .before .stated .ensures) (ne-eqb _ _ (c .before .before .before .before .before .before .before .before .before .if1 .left)) _ (sym (c .before .before .before .before .before .before .before .awaits .ensures) ∙ c .before .before .before .before .before .before .if2 .left) room)
+    rw (c .wrote .ensures, there, size) (image-whole st _ (c .before .before .before .before .before .before .before .before .stated-count .ensures) (ne-eqb _ _ (c .before .before .before .before .before .before .before .before .before .if1 .left)) _ (sym (c .before .before .before .before .before .before .before .awaits .ensures) ∙ c .before .before .before .before .before .before .if2 .left) room)
 
 pub write-image-spec : {M : Type 1} → statement M
 write-image-spec =
     tie.close
     (tie.spec
     returns
-    stated-requires
+    stated-count-requires
     awaits-requires
     returns-2
     put-requires

@@ -27,8 +27,8 @@ put-field-requires c κs = search needs
 put-field-requires-2 : tie.Need-put-field-requires-2
 put-field-requires-2 c κs = search needs
 
-put-code-requires : tie.Need-put-code-requires
-put-code-requires c κs = search needs
+put-error-requires : tie.Need-put-error-requires
+put-error-requires c κs = search needs
 
 store8-requires : tie.Need-store8-requires
 store8-requires c κs = search needs
@@ -48,13 +48,13 @@ returns c =
     let b3 = c .before .before .before .before .before .before .before .before .before .before .before .before .before .before .before .before .before .before .before .put-number2 .ensures .1 in
     let b4 = c .before .before .before .before .before .before .before .before .before .before .before .before .before .before .put-field .ensures .1 in
     let b5 = c .before .before .before .before .before .before .before .before .before .before .put-field2 .ensures .1 in
-    let b6 = c .before .before .before .before .before .before .put-code .ensures .1 in
+    let b6 = c .before .before .before .before .before .before .put-error .ensures .1 in
     let p1 = c .before .before .before .before .before .before .before .before .before .before .before .before .before .before .before .before .before .before .before .before .before .before .before .before .before .before .before .put-decimal .ensures .0 in
     let p2 = put-then p1 (c .before .before .before .before .before .before .before .before .before .before .before .before .before .before .before .before .before .before .before .before .before .before .before .put-number .ensures .0) (omega (arith, room, b1, b2)) in
     let p3 = put-then p2 (c .before .before .before .before .before .before .before .before .before .before .before .before .before .before .before .before .before .before .before .put-number2 .ensures .0) (omega (arith, room, b1, b2, b3)) in
     let p4 = put-then p3 (c .before .before .before .before .before .before .before .before .before .before .before .before .before .before .put-field .ensures .0) (omega (arith, room, b1, b2, b3, b4)) in
     let p5 = put-then p4 (c .before .before .before .before .before .before .before .before .before .before .put-field2 .ensures .0) (omega (arith, room, b1, b2, b3, b4, b5)) in
-    let p6 = put-then p5 (c .before .before .before .before .before .before .put-code .ensures .0) (omega (arith, room, b1, b2, b3, b4, b5, b6)) in
+    let p6 = put-then p5 (c .before .before .before .before .before .before .put-error .ensures .0) (omega (arith, room, b1, b2, b3, b4, b5, b6)) in
     let p7 = put-then p6 (record { there = c .before .before .store8 .ensures; behind = refl }) (omega (arith, room, b1, b2, b3, b4, b5, b6)) in
     (simp append-assoc (simp append-assoc at p7), omega (arith, b1, b2, b3, b4, b5, b6))
 
@@ -68,7 +68,7 @@ write-line-spec =
     cast-put-field
     put-field-requires
     put-field-requires-2
-    put-code-requires
+    put-error-requires
     store8-requires
     add-result
     same-length

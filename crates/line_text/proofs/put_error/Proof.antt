@@ -5,8 +5,8 @@ use mir.Val.{SFits}
 use native.Mathlib.Omega.{arith}
 use Rattle.line_text.specs.Text.{codeText}
 use borrow.Author.Needs.{needs}
-use Rattle.line_text.proofs.put_code.Statement.{statement}
-use Rattle.line_text.proofs.put_code.Tie as tie
+use Rattle.line_text.proofs.put_error.Statement.{statement}
+use Rattle.line_text.proofs.put_error.Tie as tie
 
 enum-told : tie.Need-enum-told
 enum-told c = search needs
@@ -36,8 +36,8 @@ returns-2 c =
     let f : SFits w32 (c .before .before .before .before .before .code .given .0 .0) = search needs in
     rw (c .before .before .before .before .before .code .given .1) (rw (toZ-ofZ f) at (c .before .before .put-signed .ensures))
 
-pub put-code-spec : {M : Type 1} → statement M
-put-code-spec =
+pub put-error-spec : {M : Type 1} → statement M
+put-error-spec =
     tie.close
     (tie.spec
     enum-told

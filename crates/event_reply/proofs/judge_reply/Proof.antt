@@ -4,8 +4,8 @@ use lib.Dec.{eqb}
 use borrow.Author.Needs.{needs}
 use Rattle.kvmi.specs.Message.{vcpuOf}
 use Rattle.kvmi.specs.Verdict.{eventReplyVerdict}
-use Rattle.event_reply.proofs.decide.Statement.{statement}
-use Rattle.event_reply.proofs.decide.Tie as tie
+use Rattle.event_reply.proofs.judge_reply.Statement.{statement}
+use Rattle.event_reply.proofs.judge_reply.Tie as tie
 
 byte-requires : tie.Need-byte-requires
 byte-requires c κs = search needs
@@ -30,8 +30,8 @@ returns-2 : tie.Need-returns-2
 unfolding eventReplyVerdict
 returns-2 c = rw (← c .before .before .before .before .byte .ensures, ← c .before .before .byte2 .ensures, ← c .before .before .before .of-event-reply .ensures, ← c .before .is-awaited .ensures, or-false (eqb (c .before .before .before .before .byte .result) 2), c .if1 .left)
 
-pub decide-spec : {M : Type 1} → statement M
-decide-spec =
+pub judge-reply-spec : {M : Type 1} → statement M
+judge-reply-spec =
     tie.close
     (tie.spec
     byte-requires
