@@ -40,10 +40,10 @@ use Rattle.page_words.specs.PageWords.{runEntries}
 use Rattle.session.specs.State.{State, isClosed}
 use Rattle.session.specs.Calls.{Told, toldSame}
 use Rattle.change.specs.Change.{change}
-use Rattle.message.specs.Message.{factsIn, answeringOf, judgedOf, headedOf, messageOf}
+use Rattle.message.specs.Message.{factsIn, codeBy, answeringOf, judgedOf, headedOf, messageOf}
 use Rattle.stream.specs.declared.Code.the-variants.{Written}
 use Rattle.stream.specs.Line.{errorOf}
-use Rattle.refine.specs.Errors.{codeBy, codeHeaded, codeOf}
+use Rattle.refine.specs.Errors.{codeHeaded, codeOf}
 use Rattle.history.specs.Demand2.{WritesError}
 use Rattle.laws.proofs.Bool.{and-r}
 use Rattle.laws.proofs.Verdicts.{pick, Admitted, verdict-cases}

@@ -25,9 +25,6 @@ const VM_EVENTS: u64 = 4098;
 
 const VCPU_EVENTS: u64 = 20408;
 
-// How many pages a view has, 2^52.
-const PAGES: u64 = 4503599627370496;
-
 // How many bytes there are from a place on.
 fn bytes_left(n: usize, at: usize) -> usize
     ensures { λ r. ⌜ r ≡ n - at ⌝ }
@@ -70,7 +67,7 @@ fn has_bits(w: u16, allowed: u64) -> bool
     let mut x = w;
     let mut i: u32 = 0;
     while i < 16 {
-        if !bit_fits(x, store::bits::bit_on(allowed, i)) {
+        if !bit_fits(x, kvmi::bits::is_on(allowed, i)) {
             return false;
         }
         x = x / 2;
@@ -83,7 +80,7 @@ fn has_bits(w: u16, allowed: u64) -> bool
 fn may_enable(s: Settings, event: u32) -> bool
     ensures { λ r. ⌜ r ≡ mayEnable s event ⌝ }
 {
-    if !store::bits::bit_on(s.events as u64, event) {
+    if !kvmi::bits::is_on(s.events as u64, event) {
         return false;
     }
     if event == 4 {
@@ -186,7 +183,7 @@ fn may_pause(s: Settings, pauses: u8) -> bool
     if pauses == 0 {
         return true;
     }
-    store::bits::bit_on(s.events as u64, 2)
+    kvmi::bits::is_on(s.events as u64, 2)
 }
 
 // Whether the settings permit a VC record: three of its numbers say so.
@@ -215,7 +212,7 @@ pub fn ms_form(count: u32, ready: u64, vcpu: u16, msr: u32) -> bool
     if !store::words::is_msr(msr) {
         return false;
     }
-    store::bits::bit_on(ready, vcpu as u32)
+    kvmi::bits::is_on(ready, vcpu as u32)
 }
 
 // The form of a PA record, behind PA records of `pages` pages.
@@ -234,7 +231,7 @@ pub fn pa_form(pages: usize, view: u16, access: u8, zero: u8, page: u64) -> bool
     if access == 2 {
         return false;
     }
-    if PAGES <= page {
+    if kvmi::PAGES <= page {
         return false;
     }
     Session::has_room(pages)

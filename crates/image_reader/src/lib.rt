@@ -25,9 +25,6 @@ ghost use Rattle.session.specs.Calls.{told};
 ghost use Rattle.image_reader.specs.Load.{sizeBy, pageBy, wordOf, vcpusBy, pagesBy};
 ghost use Rattle.image_form.specs.Form.{markAt, rowAt};
 
-// How many pages a view has, 2^52.
-const PAGES: u64 = 4503599627370496;
-
 // The bytes of a record that loads words.
 fn record_size(mark: Mark) -> usize
     ensures { λ r. ⌜ r ≡ sizeBy mark ⌝ }
@@ -66,7 +63,7 @@ fn bit_of(on: bool) -> u64
 fn word_of(view: u16, page: u64, access: u8) -> u64
     ensures { λ r. ⌜ r ≡ wordOf view page access ⌝ }
 {
-    (view % 8) as u64 * 36028797018963968 + (page % PAGES) * 8 + access as u64
+    (view % 8) as u64 * 36028797018963968 + (page % kvmi::PAGES) * 8 + access as u64
 }
 
 fn load_vc(vcpus: &mut [u64], l: &[u8], at: usize)

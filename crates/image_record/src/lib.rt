@@ -25,9 +25,6 @@ const EN: u16 = 0x4E45;
 // Views stand in a page word from this number on, 2^55.
 const VIEW: u64 = 36028797018963968;
 
-// How many pages a view has, 2^52.
-const PAGES: u64 = 4503599627370496;
-
 // The flags of a vCPU: 1 ready, 2 singlestep.
 fn flags_of(ready: bool, singlestep: u64) -> u8
     ensures { λ r. ⌜ r ≡ bit ready + 2 * bit (not (eqb singlestep 0)) ⌝ }
@@ -55,7 +52,7 @@ pub fn vm(out: &mut [u8], n: u16, events: u64)
 pub fn vc(out: &mut [u8], ready: u64, words: &[u64], i: u16)
     ensures { λ _. ⌜ now (out .exit) ≡ store (now (out .entry)) 0 (write (vcRecord i (vcpuOfWords ready (now (words .entry)) i))) ⌝ }
 {
-    let is_ready = store::bits::bit_on(ready, i as u32);
+    let is_ready = kvmi::bits::is_on(ready, i as u32);
     let singlestep = store::words::read_field(words, i, store::words::SINGLESTEP);
     let crs = store::words::read_field(words, i, store::words::CRS);
     let events = store::words::read_field(words, i, store::words::EVENTS);
@@ -91,7 +88,7 @@ pub fn pa(out: &mut [u8], w: u64)
         wire::store16(out, 0, PA);
         wire::store16(out, 2, (w / VIEW) as u16);
         wire::store16(out, 4, (w % 8) as u16);
-        wire::store64(out, 6, w / 8 % PAGES);
+        wire::store64(out, 6, w / 8 % kvmi::PAGES);
     }
 }
 

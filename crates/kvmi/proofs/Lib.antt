@@ -1,5 +1,6 @@
 pub mod Cases
 pub mod Numbers
+mod Past
 mod Edge
 mod MessageEdges
 mod SessionEdges

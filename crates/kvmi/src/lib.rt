@@ -1,6 +1,10 @@
 // KVMI as the filter speaks it: the types that every layer shares. Ids, events, errors and actions have kvmi.rst's names.
 pub mod answers;
+pub mod bits;
 pub mod table;
+
+// How many pages a view has, 2^52.
+pub const PAGES: u64 = 4503599627370496;
 
 // What the host allows and has, fixed for a session. Unsigned integers only: a flag is set where it is not 0.
 #[repr(C)]

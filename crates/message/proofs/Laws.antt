@@ -34,8 +34,8 @@ use Rattle.session.specs.Calls.{Told, told, toldClosing}
 use Rattle.change.specs.declared.Effect.{Effect}
 use Rattle.change.specs.Change.{change}
 use Rattle.change.specs.Effect.{Enacted, enactedOf, sessionAfter, toolAfter}
-use Rattle.message.specs.Message.{askedOf, answeringOf, judgedOf, handledOf}
-use Rattle.message.proofs.Silent.{codeBy, reply-code}
+use Rattle.message.specs.Message.{codeBy, askedOf, answeringOf, judgedOf, handledOf}
+use Rattle.message.proofs.Silent.{reply-code}
 
 -- ---- an answer written, and the seq after it
 kind-seq : (k : ReplyKind) (m : ReplyMode) (n : ℕ) (code : ℤ) → (k ≡ Silent → code ≡ OK) → kindSeq k m n code ≡ answerSeq m n code

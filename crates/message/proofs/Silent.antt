@@ -26,13 +26,8 @@ use Rattle.kvmi.specs.Verdict.{verdict, repliesOn, eventReplyVerdict, isAwaited
 use Rattle.laws.proofs.Verdicts.{pick}
 use Rattle.reply.proofs.Data.{below}
 use Rattle.session.specs.State.{State}
+use Rattle.message.specs.Message.{codeBy}
 use Rattle.change.specs.Change.{change}
-
--- the code of what a verdict leads to
-abbrev pub codeBy : State → List ℕ → List ℕ → Verdict → ℤ
-codeBy st guest d Closes = OK
-codeBy st guest d (Fails code) = code
-codeBy st guest d (Does c) = change st guest d c .code
 
 abbrev isSilent : ReplyKind → Bool
 isSilent CodeOnly = false

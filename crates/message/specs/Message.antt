@@ -15,6 +15,7 @@ use Rattle.kvmi.specs.declared.Signal.the-variants.{Quiet}
 use Rattle.kvmi.specs.declared.Verdict.{Verdict}
 use Rattle.kvmi.specs.declared.Verdict.the-variants.{Closes, Fails, Does}
 use Rattle.kvmi.specs.Bits.{isOn}
+use Rattle.kvmi.specs.Codes.{OK}
 use Rattle.kvmi.specs.Limits.{leastOut}
 use Rattle.kvmi.specs.Mode.{modeOfNumber}
 use Rattle.kvmi.specs.Message.{layoutOf, vcpuOf}
@@ -39,6 +40,12 @@ factsIn st guest vcpu =
       awaited = field (st .vcpus) vcpu AWAITED;
       seq = field (st .vcpus) vcpu AWAITED-SEQ;
     }
+
+-- the code with which a message is answered, where it is: that of its verdict, or of its change
+abbrev pub codeBy : State → List ℕ → List ℕ → Verdict → ℤ
+codeBy st guest d Closes = OK
+codeBy st guest d (Fails code) = code
+codeBy st guest d (Does c) = change st guest d c .code
 
 -- ---- a message
 unfoldable pub answeringOf : ReplyMode → ℕ → ℕ → ℤ → List ℕ → Signal → List ℕ → List ℕ → State → Told

@@ -16,9 +16,6 @@ pub type PageWords = [u64; PAGE_WORDS];
 // The access of a page that no word stands for: read, write and execute.
 const RWX: u8 = 7;
 
-// How many pages a view has, 2^52.
-const PAGES: u64 = 4503599627370496;
-
 // How many keys a word can have, 2^61.
 const KEYS: u64 = 2305843009213693952;
 
@@ -194,7 +191,7 @@ pub fn put_entries(
 ) -> Taken
     ensures { λ r. ⌜ pageTable (now (words .exit)) (r .count) (r .skipped) ≡ runEntries limit view (entriesOf n (now (d .entry))) (now (words .entry)) count ⌝ }
 {
-    let first = ((view % 8) as u64) * PAGES;
+    let first = ((view % 8) as u64) * kvmi::PAGES;
     let mut t = Taken {
         count: wire::smaller(count, words.len()),
         skipped: false,

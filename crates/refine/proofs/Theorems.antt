@@ -35,10 +35,10 @@ use Rattle.kvmi.specs.Mode.{modeOfNumber}
 use Rattle.session.specs.State.{State, state, freshSession, clearedState, withField, withSeqOf, isClosed}
 use Rattle.session.specs.Calls.{Told, toldSame, freshOf, readyOf}
 use Rattle.change.specs.Change.{change}
-use Rattle.message.specs.Message.{factsIn, answeringOf, judgedOf, headedOf, messageOf}
+use Rattle.message.specs.Message.{factsIn, codeBy, answeringOf, judgedOf, headedOf, messageOf}
 use Rattle.entry.specs.Entry.{enterOf}
 use Rattle.session.specs.Meaning.{tablesOf, modelOf, WordsGood, WellFormed}
-use Rattle.refine.specs.Errors.{codeBy, codeHeaded, codeOf, withPagesOf, ErrorSpares}
+use Rattle.refine.specs.Errors.{codeHeaded, codeOf, withPagesOf, ErrorSpares}
 use Rattle.laws.proofs.Verdicts.{pick, Passed, verdict-cases, sound-of}
 use Rattle.laws.proofs.Kept.{empty-valid}
 use Rattle.laws.proofs.Steps.{message-kept, ready-kept, enter-kept}

@@ -19,18 +19,13 @@ use Rattle.kvmi.specs.Verdict.{verdict}
 use Rattle.session.specs.State.{State, state, withTool, withToolPages, withSeqOf, isClosed}
 use Rattle.session.specs.Calls.{Told}
 use Rattle.change.specs.Change.{change}
-use Rattle.message.specs.Message.{factsIn}
+use Rattle.message.specs.Message.{factsIn, codeBy}
 
 -- a whole message with an id
 abbrev pub HasId : List ℕ → ℕ → Type 0
 HasId msg id = (size : ℕ) × (seq : ℕ) × (headerOf msg ≡ Whole id size seq)
 
 -- ---- the code with which a message is answered, where it is: that of its verdict, or of its change
-abbrev pub codeBy : State → List ℕ → List ℕ → Verdict → ℤ
-codeBy st guest d Closes = OK
-codeBy st guest d (Fails code) = code
-codeBy st guest d (Does c) = change st guest d c .code
-
 abbrev pub codeHeaded : State → List ℕ → List ℕ → Header → ℤ
 codeHeaded st guest d Broken = OK
 codeHeaded st guest d (Whole id size seq) = codeBy st guest d (verdict (st .session .settings) (factsIn st (length guest) (vcpuOf d)) id seq d)

@@ -2,7 +2,7 @@
 use mathlib.Core.Path.{_≡_, refl, sym, ap, _∙_}
 use mathlib.Core.Bool.{Bool, true, false, cond}
 use Prim.Native.Nat.{ℕ, suc, _+_, _-_, _*_, _/_, _%_, _^_, _≤_, _<_}
-use native.Mathlib.Nat.{add-mul, le-trans, mod-le, mod-lt, mul-le-mul-right, div-mul-le-self, div-eq-of-lt, one-le-pow, pow-suc, pow-le-pow-right}
+use native.Mathlib.Nat.{add-mul, le-trans, mod-le, mod-lt, mul-le-mul-right, div-mul-le-self, one-le-pow, pow-suc}
 use native.Mathlib.Omega.{arith}
 use lib.Arith.{digits-lt}
 use lib.Dec.{eqb, ltb}
@@ -27,14 +27,6 @@ bit-le w k = le-trans (mul-le-mul-right (2 ^ k) (mod-le (w / 2 ^ k) 2)) (div-mul
 -- a bit that is shifted up stays inside the word
 pub shifted : (b k : ℕ) → b < 2 → k < 64 → b * 2 ^ k % 2 ^ 64 ≡ b * 2 ^ k
 shifted b k h g = shl-exact 1 k 64 h (omega arith)
-
--- a word has no bit from 64 on
-pub off-past : (w k : ℕ) → w < 2 ^ 64 → 64 ≤ k → isOn w k ≡ false
-unfolding isOn bitOf
-off-past w k h g =
-    let two : 0 < 2 = omega arith in
-    let p : 2 ^ 64 ≤ 2 ^ k = pow-le-pow-right two g in
-    rw (div-eq-of-lt (le-trans h p))
 
 -- a word above its bit k, with another bit for its lowest
 put-parts : (w k o : ℕ) → w - w / 2 ^ k % 2 * 2 ^ k + o * 2 ^ k ≡ (w / 2 ^ k / 2 * 2 + o) * 2 ^ k + w % 2 ^ k

@@ -1,5 +1,4 @@
 // The vCPU words: a block for each vCPU, plain fields first and then a bit for each MSR switch.
-use crate::bits::bit_on;
 use crate::bits::put_bit;
 use crate::bits::put_cr;
 ghost use mathlib.Core.Path.{_≡_};
@@ -120,7 +119,7 @@ fn slot_on(words: &[u64], vcpu: u16, msr: u32) -> bool
     ensures { λ r. ⌜ r ≡ msrSlotOn (now (words .entry)) vcpu msr ⌝ }
 {
     let w = word(words, msr_word(vcpu, msr));
-    bit_on(w, msr_slot(msr) % 64)
+    kvmi::bits::is_on(w, msr_slot(msr) % 64)
 }
 
 // Whether a vCPU's switch for an MSR is on; what has none is off.

@@ -16,13 +16,6 @@ ghost use Rattle.tests.specs.Known.{isKnown};
 
 // ---- numbers
 
-// Whether k is in a set of bits.
-pub fn is_on(w: u32, k: u16) -> bool
-    ensures { λ r. ⌜ r ≡ isOn w k ⌝ }
-{
-    if k < 32 { (w >> k) % 2 == 1 } else { false }
-}
-
 // Whether a flag of the settings is set.
 pub fn is_set(flag: u8) -> bool
     ensures { λ r. ⌜ r ≡ isSet flag ⌝ }
@@ -49,7 +42,18 @@ pub fn is_malformed(padding: usize, vcpus: u32, vcpu: u16, switch: u8) -> bool
 pub fn allows_command(commands: u32, id: u16) -> bool
     ensures { λ r. ⌜ r ≡ (among id (1 ∷ 2 ∷ 3 ∷ 16 ∷ []) || isOn commands id) ⌝ }
 {
-    (id == 1) | (id == 2) | (id == 3) | (id == 16) | is_on(commands, id)
+    (id == 1) | (id == 2) | (id == 3) | (id == 16) | kvmi::bits::is_on(commands as u64, id as u32)
+}
+
+// Whether an event is allowed. Of the 32 bits by themselves: over `kvmi::bits::is_on` the compiler makes more code of the switches.
+pub fn allows_event(events: u32, event: u16) -> bool
+    ensures { λ r. ⌜ r ≡ isOn events event ⌝ }
+{
+    if event < 32 {
+        (events >> event) % 2 == 1
+    } else {
+        false
+    }
 }
 
 // Whether VM_CHECK_COMMAND takes a command.

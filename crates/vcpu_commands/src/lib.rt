@@ -38,7 +38,7 @@ fn pause_vcpu(settings: Settings, facts: Facts, d: &[u8]) -> Verdict
 pub fn pause(settings: Settings, facts: Facts, d: &[u8]) -> Verdict
     ensures { λ r. ⌜ r ≡ cond (not (allowsEvent settings 2)) Verdict.Closes (commandVerdict settings facts 9 (now (d .entry))) ⌝ }
 {
-    if tests::is_on(settings.events, 2) {
+    if tests::allows_event(settings.events, 2) {
         return pause_vcpu(settings, facts, d);
     }
     Verdict::Closes
@@ -54,7 +54,7 @@ pub fn control_vcpu_events(settings: Settings, facts: Facts, d: &[u8]) -> Verdic
     let on = enable == 1;
     let malformed = tests::is_malformed(padding::of_vcpu_event(d), settings.vcpus, vcpu, enable);
     let mut c = Causes::new(malformed | !tests::is_vcpu_event(event), !facts.ready);
-    c.denied = !tests::is_on(settings.events, event);
+    c.denied = !tests::allows_event(settings.events, event);
     c.unsupported = on & ((event == 8) & !tests::is_set(settings.descriptors));
     c.busy = on & ((event == 4) & tests::is_set(settings.breakpoints));
     c.decide(Change::SetVcpuEvent {

@@ -69,7 +69,7 @@ fn facts_of(a: Asked, vcpus: &[u64], d: &[u8]) -> Facts
     Facts {
         mode,
         guest: a.guest,
-        ready: store::bits::bit_on(a.ready, vcpu as u32),
+        ready: kvmi::bits::is_on(a.ready, vcpu as u32),
         pauses: pending.pauses,
         awaited: pending.awaited,
         seq: pending.seq,

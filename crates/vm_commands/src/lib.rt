@@ -26,7 +26,7 @@ pub fn check_event(settings: Settings, facts: Facts, d: &[u8]) -> Verdict
     let event = wire::load16(d, 0);
     let invalid = (padding::of_number(d) != 0) | !tests::is_event(event);
     let mut c = Causes::new(invalid, false);
-    c.denied = !tests::is_on(settings.events, event);
+    c.denied = !tests::allows_event(settings.events, event);
     c.decide(Change::Nothing)
 }
 
@@ -38,7 +38,7 @@ pub fn control_vm_events(settings: Settings, facts: Facts, d: &[u8]) -> Verdict
     let enable = wire::byte(d, 2);
     let malformed = (padding::of_switch(d) != 0) | !tests::is_switch(enable);
     let mut c = Causes::new(malformed | !tests::is_vm_event(event), false);
-    c.denied = !tests::is_on(settings.events, event);
+    c.denied = !tests::allows_event(settings.events, event);
     c.decide(Change::SetVmEvent {
         event,
         on: enable == 1,
@@ -91,7 +91,7 @@ pub fn control_replies(settings: Settings, facts: Facts, d: &[u8]) -> Verdict
     let flag = wire::byte(d, 2);
     let switches = tests::is_switch(enable) & (tests::is_switch(now) & tests::is_switch(flag));
     let mut c = Causes::new((padding::of_switch(d) != 0) | !switches, false);
-    c.closing = (enable != 1) & (flag == 1) & !tests::is_on(settings.events, 13);
+    c.closing = (enable != 1) & (flag == 1) & !tests::allows_event(settings.events, 13);
     let mode = tests::mode_from(enable == 1, flag == 1);
     c.decide(Change::SetReplies {
         mode,

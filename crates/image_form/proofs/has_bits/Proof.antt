@@ -18,14 +18,14 @@ abbrev μ-loop : tie.MeasureT-loop
 loop-holds : tie.Need-loop-holds Inv-loop μ-loop
 loop-holds c = refl
 
-bit-on-requires : tie.Need-bit-on-requires Inv-loop μ-loop
-bit-on-requires c κs = search needs
+is-on-requires : tie.Need-is-on-requires Inv-loop μ-loop
+is-on-requires c κs = search needs
 
 bit-fits-requires : tie.Need-bit-fits-requires Inv-loop μ-loop
 bit-fits-requires c κs = search needs
 
 returns : tie.Need-returns Inv-loop μ-loop
-returns c = sym (bits-stop (isOn (c .before .before .before .before .before .args .allowed)) (c .before .before .before .before .loop .i) (c .before .before .before .before .loop .x) (omega arith) (rw (← c .before .before .bit-on .ensures) (sym (c .before .bit-fits .ensures) ∙ not-true _ (c .if1 .taken)))) ∙ c .before .before .before .before .loop .inv
+returns c = sym (bits-stop (isOn (c .before .before .before .before .before .args .allowed)) (c .before .before .before .before .loop .i) (c .before .before .before .before .loop .x) (omega arith) (rw (← c .before .before .is-on .ensures) (sym (c .before .bit-fits .ensures) ∙ not-true _ (c .if1 .taken)))) ∙ c .before .before .before .before .loop .inv
 
 add-i : tie.Need-add-i Inv-loop μ-loop
 add-i c = omega arith
@@ -34,7 +34,7 @@ loop-less : tie.Need-loop-less Inv-loop μ-loop
 loop-less c = omega arith
 
 loop-again : tie.Need-loop-again Inv-loop μ-loop
-loop-again c = sym (bits-step (isOn (c .before .before .before .before .before .args .allowed)) (c .before .before .before .before .loop .i) (c .before .before .before .before .loop .x) (omega arith) (rw (← c .before .before .bit-on .ensures) (sym (c .before .bit-fits .ensures) ∙ not-false _ (c .if1 .left)))) ∙ c .before .before .before .before .loop .inv
+loop-again c = sym (bits-step (isOn (c .before .before .before .before .before .args .allowed)) (c .before .before .before .before .loop .i) (c .before .before .before .before .loop .x) (omega arith) (rw (← c .before .before .is-on .ensures) (sym (c .before .bit-fits .ensures) ∙ not-false _ (c .if1 .left)))) ∙ c .before .before .before .before .loop .inv
 
 returns-2 : tie.Need-returns-2 Inv-loop μ-loop
 returns-2 c = sym (bits-end (isOn (c .before .before .args .allowed)) (c .before .loop .i) (c .before .loop .x) (omega arith)) ∙ c .before .loop .inv
@@ -46,7 +46,7 @@ has-bits-spec =
     Inv-loop
     μ-loop
     loop-holds
-    bit-on-requires
+    is-on-requires
     bit-fits-requires
     returns
     add-i

@@ -8,15 +8,15 @@ use Rattle.image_form.proofs.may_pause.Tie as tie
 returns : tie.Need-returns
 returns c = simp (eq-eqb _ _ (c .if1 .taken))
 
-cast-bit-on : tie.Need-cast-bit-on
-cast-bit-on c = search needs
+cast-is-on : tie.Need-cast-is-on
+cast-is-on c = search needs
 
-bit-on-requires : tie.Need-bit-on-requires
-bit-on-requires c κs = search needs
+is-on-requires : tie.Need-is-on-requires
+is-on-requires c κs = search needs
 
 returns-2 : tie.Need-returns-2
 unfolding allowsEvent
-returns-2 c = simp (ne-eqb _ _ (c .before .before .if1 .left)) (c .bit-on .ensures)
+returns-2 c = simp (ne-eqb _ _ (c .before .before .if1 .left)) (c .is-on .ensures)
 
 pub may-pause-spec : {M : Type 1} → statement M
-may-pause-spec = tie.close (tie.spec returns cast-bit-on bit-on-requires returns-2)
+may-pause-spec = tie.close (tie.spec returns cast-is-on is-on-requires returns-2)

@@ -16,12 +16,12 @@ returns-2 : tie.Need-returns-2
 unfolding msFits
 returns-2 c = simp (lt-ltb _ _ (c .before .before .if1 .left), ← c .before .is-msr .ensures, not-true (c .before .is-msr .result) (c .if2 .taken))
 
-bit-on-requires : tie.Need-bit-on-requires
-bit-on-requires c κs = search needs
+is-on-requires : tie.Need-is-on-requires
+is-on-requires c κs = search needs
 
 returns-3 : tie.Need-returns-3
 unfolding msFits
-returns-3 c = simp (lt-ltb _ _ (c .before .before .before .if1 .left), ← c .before .before .is-msr .ensures, not-false (c .before .before .is-msr .result) (c .before .if2 .left)) (c .bit-on .ensures)
+returns-3 c = simp (lt-ltb _ _ (c .before .before .before .if1 .left), ← c .before .before .is-msr .ensures, not-false (c .before .before .is-msr .result) (c .before .if2 .left)) (c .is-on .ensures)
 
 pub ms-form-spec : {M : Type 1} → statement M
-ms-form-spec = tie.close (tie.spec returns is-msr-requires returns-2 bit-on-requires returns-3)
+ms-form-spec = tie.close (tie.spec returns is-msr-requires returns-2 is-on-requires returns-3)

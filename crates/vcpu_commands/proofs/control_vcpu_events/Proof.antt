@@ -30,8 +30,8 @@ is-vcpu-event-requires c κs = search needs
 new-requires : tie.Need-new-requires
 new-requires c κs = search needs
 
-is-on-requires : tie.Need-is-on-requires
-is-on-requires c κs = search needs
+allows-event-requires : tie.Need-allows-event-requires
+allows-event-requires c κs = search needs
 
 is-set-requires : tie.Need-is-set-requires
 is-set-requires c κs = search needs
@@ -48,7 +48,7 @@ decide-requires c κs = search needs
 returns : tie.Need-returns
 unfolding commandVerdict isInvalid isUnready isDenied isUnsupported isBusy isAbsent losesErrors changeOf decided namesVcpu switchesAt vcpuOf eventOf takesEvent enables enableAt allowsEvent uncatchable heldByHost
 returns c =
-    c .decide .ensures ∙ rw (c .before .before .before .before .new .ensures, ← c .before .before .before .before .before .before .before .before .before .before .before .load16 .ensures, ← c .before .before .before .before .before .before .before .before .before .before .load162 .ensures, ← c .before .before .before .before .before .before .before .before .before .byte .ensures, ← c .before .before .before .before .before .before .before .before .of-vcpu-event .ensures, and-true, ← c .before .before .before .before .before .before .before .is-malformed .ensures, ← c .before .before .before .before .before .before .is-vcpu-event .ensures, ← c .before .before .before .is-on .ensures, ← c .before .before .is-set .ensures, ← c .before .is-set2 .ensures) (simp or-false)
+    c .decide .ensures ∙ rw (c .before .before .before .before .new .ensures, ← c .before .before .before .before .before .before .before .before .before .before .before .load16 .ensures, ← c .before .before .before .before .before .before .before .before .before .before .load162 .ensures, ← c .before .before .before .before .before .before .before .before .before .byte .ensures, ← c .before .before .before .before .before .before .before .before .of-vcpu-event .ensures, and-true, ← c .before .before .before .before .before .before .before .is-malformed .ensures, ← c .before .before .before .before .before .before .is-vcpu-event .ensures, ← c .before .before .before .allows-event .ensures, ← c .before .before .is-set .ensures, ← c .before .is-set2 .ensures) (simp or-false)
 
 pub control-vcpu-events-spec : {M : Type 1} → statement M
 control-vcpu-events-spec =
@@ -61,7 +61,7 @@ control-vcpu-events-spec =
     is-malformed-requires
     is-vcpu-event-requires
     new-requires
-    is-on-requires
+    allows-event-requires
     is-set-requires
     is-set-requires-2
     cast-t15

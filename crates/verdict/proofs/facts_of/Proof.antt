@@ -10,16 +10,16 @@ load16-requires c κs = search needs
 read-pending-requires : tie.Need-read-pending-requires
 read-pending-requires c κs = search needs
 
-cast-bit-on : tie.Need-cast-bit-on
-cast-bit-on c = search needs
+cast-is-on : tie.Need-cast-is-on
+cast-is-on c = search needs
 
-bit-on-requires : tie.Need-bit-on-requires
-bit-on-requires c κs = search needs
+is-on-requires : tie.Need-is-on-requires
+is-on-requires c κs = search needs
 
 returns : tie.Need-returns
 unfolding vcpuOf
-returns c = simp (c .before .read-pending .ensures, c .bit-on .ensures, c .before .before .load16 .ensures)
+returns c = simp (c .before .read-pending .ensures, c .is-on .ensures, c .before .before .load16 .ensures)
 
 pub facts-of-spec : {M : Type 1} → statement M
 facts-of-spec =
-    tie.close (tie.spec load16-requires read-pending-requires cast-bit-on bit-on-requires returns)
+    tie.close (tie.spec load16-requires read-pending-requires cast-is-on is-on-requires returns)

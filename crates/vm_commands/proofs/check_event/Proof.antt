@@ -21,8 +21,8 @@ is-event-requires c κs = search needs
 new-requires : tie.Need-new-requires
 new-requires c κs = search needs
 
-is-on-requires : tie.Need-is-on-requires
-is-on-requires c κs = search needs
+allows-event-requires : tie.Need-allows-event-requires
+allows-event-requires c κs = search needs
 
 decide-requires : tie.Need-decide-requires
 decide-requires c κs = search needs
@@ -30,7 +30,7 @@ decide-requires c κs = search needs
 returns : tie.Need-returns
 unfolding commandVerdict isInvalid isUnready isDenied isUnsupported isBusy isAbsent losesErrors changeOf decided namesVcpu switchesAt eventOf takesEvent firstPadding padding allowsEvent
 returns c =
-    c .decide .ensures ∙ rw (c .before .before .new .ensures, ← c .before .before .before .before .before .load16 .ensures, ← c .before .before .before .before .of-number .ensures, ← c .before .before .before .is-event .ensures, ← c .before .is-on .ensures) (simp (or-false, and-true))
+    c .decide .ensures ∙ rw (c .before .before .new .ensures, ← c .before .before .before .before .before .load16 .ensures, ← c .before .before .before .before .of-number .ensures, ← c .before .before .before .is-event .ensures, ← c .before .allows-event .ensures) (simp (or-false, and-true))
 
 pub check-event-spec : {M : Type 1} → statement M
 check-event-spec =
@@ -40,6 +40,6 @@ check-event-spec =
     of-number-requires
     is-event-requires
     new-requires
-    is-on-requires
+    allows-event-requires
     decide-requires
     returns)

@@ -33,8 +33,8 @@ of-switch-requires c κs = search needs
 new-requires : tie.Need-new-requires
 new-requires c κs = search needs
 
-is-on-requires : tie.Need-is-on-requires
-is-on-requires c κs = search needs
+allows-event-requires : tie.Need-allows-event-requires
+allows-event-requires c κs = search needs
 
 mode-from-requires : tie.Need-mode-from-requires
 mode-from-requires c κs = search needs
@@ -45,7 +45,7 @@ decide-requires c κs = search needs
 returns : tie.Need-returns
 unfolding commandVerdict isInvalid isUnready isDenied isUnsupported isBusy isAbsent losesErrors changeOf decided namesVcpu switchesAt enables enableAt firstPadding padding allowsEvent
 returns c =
-    c .decide .ensures ∙ rw (c .before .before .before .new .ensures, ← c .before .before .before .before .before .before .before .before .before .before .byte .ensures, ← c .before .before .before .before .before .before .before .before .before .byte2 .ensures, ← c .before .before .before .before .before .before .before .before .byte3 .ensures, ← c .before .before .before .before .of-switch .ensures, ← c .before .before .before .before .before .before .before .is-switch .ensures, ← c .before .before .before .before .before .before .is-switch2 .ensures, ← c .before .before .before .before .before .is-switch3 .ensures, ← c .before .before .is-on .ensures, ← c .before .mode-from .ensures) (simp (or-false, and-true))
+    c .decide .ensures ∙ rw (c .before .before .before .new .ensures, ← c .before .before .before .before .before .before .before .before .before .before .byte .ensures, ← c .before .before .before .before .before .before .before .before .before .byte2 .ensures, ← c .before .before .before .before .before .before .before .before .byte3 .ensures, ← c .before .before .before .before .of-switch .ensures, ← c .before .before .before .before .before .before .before .is-switch .ensures, ← c .before .before .before .before .before .before .is-switch2 .ensures, ← c .before .before .before .before .before .is-switch3 .ensures, ← c .before .before .allows-event .ensures, ← c .before .mode-from .ensures) (simp (or-false, and-true))
 
 pub control-replies-spec : {M : Type 1} → statement M
 control-replies-spec =
@@ -59,7 +59,7 @@ control-replies-spec =
     is-switch-requires-3
     of-switch-requires
     new-requires
-    is-on-requires
+    allows-event-requires
     mode-from-requires
     decide-requires
     returns)

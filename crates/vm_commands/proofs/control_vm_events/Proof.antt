@@ -27,8 +27,8 @@ is-vm-event-requires c κs = search needs
 new-requires : tie.Need-new-requires
 new-requires c κs = search needs
 
-is-on-requires : tie.Need-is-on-requires
-is-on-requires c κs = search needs
+allows-event-requires : tie.Need-allows-event-requires
+allows-event-requires c κs = search needs
 
 decide-requires : tie.Need-decide-requires
 decide-requires c κs = search needs
@@ -36,7 +36,7 @@ decide-requires c κs = search needs
 returns : tie.Need-returns
 unfolding commandVerdict isInvalid isUnready isDenied isUnsupported isBusy isAbsent losesErrors changeOf decided namesVcpu switchesAt eventOf takesEvent enables enableAt allowsEvent
 returns c =
-    c .decide .ensures ∙ rw (c .before .before .new .ensures, ← c .before .before .before .before .before .before .before .load16 .ensures, ← c .before .before .before .before .before .before .byte .ensures, ← c .before .before .before .before .before .of-switch .ensures, ← c .before .before .before .before .is-switch .ensures, ← c .before .before .before .is-vm-event .ensures, ← c .before .is-on .ensures) (simp (or-false, and-true))
+    c .decide .ensures ∙ rw (c .before .before .new .ensures, ← c .before .before .before .before .before .before .before .load16 .ensures, ← c .before .before .before .before .before .before .byte .ensures, ← c .before .before .before .before .before .of-switch .ensures, ← c .before .before .before .before .is-switch .ensures, ← c .before .before .before .is-vm-event .ensures, ← c .before .allows-event .ensures) (simp (or-false, and-true))
 
 pub control-vm-events-spec : {M : Type 1} → statement M
 control-vm-events-spec =
@@ -48,6 +48,6 @@ control-vm-events-spec =
     is-switch-requires
     is-vm-event-requires
     new-requires
-    is-on-requires
+    allows-event-requires
     decide-requires
     returns)

@@ -13,13 +13,13 @@ word-requires c κs = search needs
 msr-slot-requires : tie.Need-msr-slot-requires
 msr-slot-requires c κs = search needs
 
-bit-on-requires : tie.Need-bit-on-requires
-bit-on-requires c κs = search needs
+is-on-requires : tie.Need-is-on-requires
+is-on-requires c κs = search needs
 
 returns : tie.Need-returns
 unfolding msrSlotOn
-returns c = simp (← c .before .before .before .msr-word .ensures, ← c .before .msr-slot .ensures, ← c .before .before .word .ensures, c .bit-on .ensures)
+returns c = simp (← c .before .before .before .msr-word .ensures, ← c .before .msr-slot .ensures, ← c .before .before .word .ensures, c .is-on .ensures)
 
 pub slot-on-spec : {M : Type 1} → statement M
 slot-on-spec =
-    tie.close (tie.spec msr-word-requires word-requires msr-slot-requires bit-on-requires returns)
+    tie.close (tie.spec msr-word-requires word-requires msr-slot-requires is-on-requires returns)

@@ -4,8 +4,8 @@ use native.Mathlib.Omega.{arith}
 use borrow.Author.Needs.{needs}
 use Rattle.kvmi.specs.Bits.{isOn, bitOf}
 use Rattle.tests.proofs.Alike.{on-past}
-use Rattle.tests.proofs.is_on.Statement.{statement}
-use Rattle.tests.proofs.is_on.Tie as tie
+use Rattle.tests.proofs.allows_event.Statement.{statement}
+use Rattle.tests.proofs.allows_event.Tie as tie
 
 shr-result : tie.Need-shr-result
 shr-result c = search needs
@@ -17,5 +17,5 @@ returns c = refl
 returns-2 : tie.Need-returns-2
 returns-2 c = sym (on-past _ _ (omega arith) (c .if1 .left))
 
-pub is-on-spec : {M : Type 1} → statement M
-is-on-spec = tie.close (tie.spec shr-result returns returns-2)
+pub allows-event-spec : {M : Type 1} → statement M
+allows-event-spec = tie.close (tie.spec shr-result returns returns-2)
