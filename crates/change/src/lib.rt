@@ -90,7 +90,8 @@ pub fn apply(
     d: &[u8],
     c: Change,
 ) -> Effect
-    ensures { λ r. ⌜ effect s r (now (vcpus .exit)) (now (pages .exit)) (now (guest .exit)) ≡ enactedOf (state s (now (vcpus .entry)) (now (pages .entry))) (now (guest .entry)) (now (d .entry)) c ⌝ }
+    ensures { λ r. ⌜ effect s r (now (vcpus .exit)) (now (pages .exit)) (now (guest .exit)) ≡
+        enactedOf (state s (now (vcpus .entry)) (now (pages .entry))) (now (guest .entry)) (now (d .entry)) c ⌝ }
 {
     let tool = s.tool;
     match c {

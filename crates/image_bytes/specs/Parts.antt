@@ -4,7 +4,7 @@ use mathlib.Core.List.{List, [], _++_}
 use lib.ListN.{length}
 use Rattle.kvmi.specs.Record.{write, writeAll}
 use Rattle.kvmi.specs.Tables.{Vcpu, Page, Tables, emptyTables, withVmEvents, withVcpus, withMsrs, withPages}
-use Rattle.kvmi.specs.Image.{vmRecord, vcRecords, onto, paRecord, enRecord}
+use Rattle.kvmi.specs.Image.{vmRecord, vcRecords, onto, paRecord, enRecord, image}
 use Rattle.store.specs.Meaning.{msrsOf, vcpusOf}
 use Rattle.page_words.specs.Meaning.{pagesOf}
 
@@ -33,3 +33,7 @@ tables events ready n used w pages =
 -- what an image states: no more vCPUs than there are blocks of words, and no more pages than words
 abbrev pub statedOf : ℕ → ℕ → ℕ → ℕ → List ℕ → List ℕ → Tables
 statedOf events ready vcpus used w pages = tables events ready (min vcpus 16) (min used (length pages)) w pages
+
+-- the image that states it
+abbrev pub statedBytes : ℕ → ℕ → ℕ → ℕ → List ℕ → List ℕ → List ℕ
+statedBytes events ready vcpus used w pages = image (statedOf events ready vcpus used w pages)

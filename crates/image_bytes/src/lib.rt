@@ -4,10 +4,9 @@ ghost use mathlib.Core.Path.{_≡_};
 ghost use Prim.Native.Nat.{ℕ, _+_, _-_, _*_, _≤_, _<_, _^_, min};
 ghost use lib.ListN.{length};
 ghost use Rattle.wire.specs.Bytes.{store};
-ghost use Rattle.kvmi.specs.Image.{image};
 ghost use Rattle.store.specs.Meaning.{vcpusOf};
 ghost use Rattle.page_words.specs.Meaning.{pagesOf};
-ghost use Rattle.image_bytes.specs.Parts.{vcBytes, paBytes, frontBytes, backBytes, statedOf};
+ghost use Rattle.image_bytes.specs.Parts.{vcBytes, paBytes, frontBytes, backBytes, statedBytes};
 
 // How many vCPUs an image states: no more than there are blocks of words.
 pub fn stated_count(vcpus: u32) -> u16
@@ -71,7 +70,9 @@ fn put_frame(
     pages: &[u64],
 )
     requires { ⌜ (used ≤ length (now pages)) × (14 + 10 * n + 8 * on + 14 * used ≤ length (now out)) ⌝ }
-    ensures { λ _. ⌜ now (out .exit) ≡ store (store (now (out .entry)) 0 (frontBytes events ready n (now (vcpus .entry)))) (8 + 10 * n + 8 * on) (backBytes (1 + n + on + used) used (now (pages .entry))) ⌝ }
+    ensures { λ _. ⌜ now (out .exit) ≡
+        store (store (now (out .entry)) 0 (frontBytes events ready n (now (vcpus .entry)))) (8 + 10 * n + 8 * on)
+        (backBytes (1 + n + on + used) used (now (pages .entry))) ⌝ }
 {
     let rest = 8 + 10 * (n as usize) + 8 * on;
     let last = rest + 14 * used;
@@ -84,7 +85,7 @@ fn put_frame(
 
 // How many bytes an image has; events and ready marks are no matter.
 pub fn measure(count: u32, used: u64, vcpus: &[u64], pages: &[u64]) -> usize
-    ensures { λ r. ⌜ ((events ready : ℕ) → r ≡ length (image (statedOf events ready count used (now (vcpus .entry)) (now (pages .entry))))) ⌝ }
+    ensures { λ r. ⌜ ((events ready : ℕ) → r ≡ length (statedBytes events ready count used (now (vcpus .entry)) (now (pages .entry)))) ⌝ }
 {
     let n = stated_count(count);
     let held = wire::smaller(used as usize, pages.len());
@@ -103,7 +104,8 @@ pub fn put(
     vcpus: &[u64],
     pages: &[u64],
 ) -> usize
-    ensures { λ r. ⌜ (r ≡ length (image (statedOf events ready count used (now (vcpus .entry)) (now (pages .entry))))) × (now (out .exit) ≡ store (now (out .entry)) 0 (image (statedOf events ready count used (now (vcpus .entry)) (now (pages .entry))))) ⌝ }
+    ensures { λ r. ⌜ r ≡ length (statedBytes events ready count used (now (vcpus .entry)) (now (pages .entry))) ⌝ }
+    ensures { λ _. ⌜ now (out .exit) ≡ store (now (out .entry)) 0 (statedBytes events ready count used (now (vcpus .entry)) (now (pages .entry))) ⌝ }
 {
     let n = stated_count(count);
     let held = wire::smaller(used as usize, pages.len());

@@ -31,6 +31,10 @@ pageBy Cut = 0
 unfoldable pub wordOf : ℕ → ℕ → ℕ → ℕ
 wordOf view page access = view % 8 * 2 ^ 55 + page % 2 ^ 52 * 8 + access
 
+-- of the PA record at a byte of an image
+abbrev pub wordAt : List ℕ → ℕ → ℕ
+wordAt l at = wordOf (rowAt PA l at .0) (rowAt PA l at .1 .1 .1 .0) (rowAt PA l at .1 .0)
+
 unfoldable pub vcpusBy : Mark → List ℕ → ℕ → List ℕ → List ℕ
 vcpusBy Vm l at w = w
 vcpusBy Vc l at w = vcpuLoaded w (rowAt VC l at .0) (vcpuOfRow (rowAt VC l at))
@@ -43,6 +47,6 @@ unfoldable pub pagesBy : Mark → List ℕ → ℕ → ℕ → List ℕ → List
 pagesBy Vm l at i w = w
 pagesBy Vc l at i w = w
 pagesBy Ms l at i w = w
-pagesBy Pa l at i w = set w i (wordOf (rowAt PA l at .0) (rowAt PA l at .1 .1 .1 .0) (rowAt PA l at .1 .0))
+pagesBy Pa l at i w = set w i (wordAt l at)
 pagesBy En l at i w = w
 pagesBy Cut l at i w = w

@@ -1,5 +1,6 @@
 -- The image reader as code performs it: an accepted image on cleared words, record by record; a refused one leaves every word as it was.
 use Prim.Native.Nat.{ℕ, suc, _+_, _*_, _^_}
+use mathlib.Core.Path.{_≡_}
 use mathlib.Core.List.{List, [], _∷_}
 use mathlib.Core.Bool.{true, cond}
 use lib.ListN.{length, set}
@@ -39,6 +40,12 @@ pageWord p = p .view * 2 ^ 55 + p .page * 8 + p .access
 unfoldable pub pagesLoaded : List ℕ → ℕ → List Page → List ℕ
 pagesLoaded ws i [] = ws
 pagesLoaded ws i (p ∷ ps) = pagesLoaded (set ws i (pageWord p)) (suc i) ps
+
+-- words, at first as given and then as they are, that hold what an accepted image states
+abbrev pub HoldStated : List ℕ → List ℕ → List ℕ → List ℕ → List ℕ → Type 0
+HoldStated l vcpus pages vcpus′ pages′ =
+    (s : Settings) (u : Tables) → loadImage s l ≡ loaded u
+    → (vcpus′ ≡ msrsLoaded (vcpusLoaded vcpus 0 (u .vcpus)) (u .msrs)) × (pages′ ≡ pagesLoaded pages 0 (u .pages))
 
 -- open, with VM event switches, a number of pages and ready marks
 abbrev pub openedSession : Settings → ℕ → ℕ → ℕ → Session

@@ -14,15 +14,13 @@ ghost use mathlib.Core.Bool.{true};
 ghost use Prim.Native.Nat.{_+_, _≤_};
 ghost use lib.ListN.{length, set};
 ghost use Rattle.kvmi.specs.Bits.{bit};
-ghost use Rattle.kvmi.specs.Record.{VC, MS, PA};
-ghost use Rattle.kvmi.specs.Tables.{Tables};
-ghost use Rattle.kvmi.specs.Image.{vcpuOfRow, loadImage, loaded};
-ghost use Rattle.kvmi.specs.declared.Settings.{Settings};
+ghost use Rattle.kvmi.specs.Record.{VC, MS};
+ghost use Rattle.kvmi.specs.Image.{vcpuOfRow};
 ghost use Rattle.store.specs.Words.{setMsrBit};
-ghost use Rattle.image_reader.specs.Read.{vcpuLoaded, vcpusLoaded, msrsLoaded, pagesLoaded, readOf, openedSession};
+ghost use Rattle.image_reader.specs.Read.{vcpuLoaded, HoldStated, readOf, openedSession};
 ghost use mathlib.Core.List.{[]};
 ghost use Rattle.session.specs.Calls.{told};
-ghost use Rattle.image_reader.specs.Load.{sizeBy, pageBy, wordOf, vcpusBy, pagesBy};
+ghost use Rattle.image_reader.specs.Load.{sizeBy, pageBy, wordOf, wordAt, vcpusBy, pagesBy};
 ghost use Rattle.image_form.specs.Form.{markAt, rowAt};
 
 // The bytes of a record that loads words.
@@ -95,7 +93,7 @@ fn load_ms(vcpus: &mut [u64], l: &[u8], at: usize)
 
 fn load_pa(pages: &mut [u64], l: &[u8], at: usize, i: usize)
     requires { ⌜ at + 14 ≤ length (now l) ⌝ }
-    ensures { λ _. ⌜ now (pages .exit) ≡ set (now (pages .entry)) i (wordOf (rowAt PA (now (l .entry)) at .0) (rowAt PA (now (l .entry)) at .1 .1 .1 .0) (rowAt PA (now (l .entry)) at .1 .0)) ⌝ }
+    ensures { λ _. ⌜ now (pages .exit) ≡ set (now (pages .entry)) i (wordAt (now (l .entry)) at) ⌝ }
 {
     let word = word_of(
         wire::load16(l, at + 2),
@@ -123,7 +121,7 @@ fn load_record(mark: Mark, vcpus: &mut [u64], pages: &mut [u64], l: &[u8], at: u
 
 // What an accepted image states, onto cleared words.
 fn load(l: &[u8], vcpus: &mut [u64], pages: &mut [u64])
-    ensures { λ _. ⌜ ((s : Settings) (u : Tables) → loadImage s (now (l .entry)) ≡ loaded u → (now (vcpus .exit) ≡ msrsLoaded (vcpusLoaded (now (vcpus .entry)) 0 (u .vcpus)) (u .msrs)) × (now (pages .exit) ≡ pagesLoaded (now (pages .entry)) 0 (u .pages))) ⌝ }
+    ensures { λ _. ⌜ HoldStated (now (l .entry)) (now (vcpus .entry)) (now (pages .entry)) (now (vcpus .exit)) (now (pages .exit)) ⌝ }
 {
     let mut at: usize = 8;
     let mut i: usize = 0;

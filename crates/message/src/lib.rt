@@ -39,7 +39,8 @@ fn handle(
     out: &mut [u8],
     guest: &mut [u8],
 ) -> Done
-    ensures { λ r. ⌜ told r (now (vcpus .exit)) (now (pages .exit)) (now (out .exit)) (now (guest .exit)) ≡ handledOf (state s (now (vcpus .entry)) (now (pages .entry))) id seq (now (d .entry)) (now (out .entry)) (now (guest .entry)) ⌝ }
+    ensures { λ r. ⌜ told r (now (vcpus .exit)) (now (pages .exit)) (now (out .exit)) (now (guest .exit)) ≡
+        handledOf (state s (now (vcpus .entry)) (now (pages .entry))) id seq (now (d .entry)) (now (out .entry)) (now (guest .entry)) ⌝ }
 {
     let settings = s.settings;
     let tool = s.tool;
@@ -68,7 +69,8 @@ pub fn take(
     out: &mut [u8],
     guest: &mut [u8],
 ) -> Done
-    ensures { λ r. ⌜ told r (now (vcpus .exit)) (now (pages .exit)) (now (out .exit)) (now (guest .exit)) ≡ messageOf (state s (now (vcpus .entry)) (now (pages .entry))) (now (msg .entry)) (now (out .entry)) (now (guest .entry)) ⌝ }
+    ensures { λ r. ⌜ told r (now (vcpus .exit)) (now (pages .exit)) (now (out .exit)) (now (guest .exit)) ≡
+        messageOf (state s (now (vcpus .entry)) (now (pages .entry))) (now (msg .entry)) (now (out .entry)) (now (guest .entry)) ⌝ }
 {
     if s.tool.opened == 0 {
         return Done {

@@ -73,7 +73,8 @@ pub fn pass(
     out: &mut [u8],
     guest: &mut [u8],
 ) -> Passed
-    ensures { λ r. ⌜ left r (now (vcpus .exit)) (now (pages .exit)) (now (out .exit)) (now (guest .exit)) ≡ passedOf (state s (now (vcpus .entry)) (now (pages .entry))) (now (msg .entry)) (now (out .entry)) (now (guest .entry)) ⌝ }
+    ensures { λ r. ⌜ left r (now (vcpus .exit)) (now (pages .exit)) (now (out .exit)) (now (guest .exit)) ≡
+        passedOf (state s (now (vcpus .entry)) (now (pages .entry))) (now (msg .entry)) (now (out .entry)) (now (guest .entry)) ⌝ }
 {
     let done = message::take(s, vcpus, pages, msg, out, guest);
     let answer = done.answer;
@@ -96,7 +97,8 @@ fn tell(
     guest: &mut [u8],
     text: &mut [u8; 128],
 ) -> Turned
-    ensures { λ r. ⌜ turnLeft r (now (vcpus .exit)) (now (pages .exit)) (now (out .exit)) (now (guest .exit)) (now (text .exit)) ≡ toldOf index (state s (now (vcpus .entry)) (now (pages .entry))) (now (msg .entry)) (now (out .entry)) (now (guest .entry)) (now (text .entry)) ⌝ }
+    ensures { λ r. ⌜ turnLeft r (now (vcpus .exit)) (now (pages .exit)) (now (out .exit)) (now (guest .exit)) (now (text .exit)) ≡
+        toldOf index (state s (now (vcpus .entry)) (now (pages .entry))) (now (msg .entry)) (now (out .entry)) (now (guest .entry)) (now (text .entry)) ⌝ }
     ensures { λ r. ⌜ Counts (r .count) (now (text .exit)) ⌝ }
 {
     let passed = pass(s, vcpus, pages, msg, out, guest);
@@ -128,7 +130,8 @@ pub fn turn(
     guest: &mut [u8],
     text: &mut [u8; 128],
 ) -> Turned
-    ensures { λ r. ⌜ turnLeft r (now (vcpus .exit)) (now (pages .exit)) (now (out .exit)) (now (guest .exit)) (now (text .exit)) ≡ turnOf index (state s (now (vcpus .entry)) (now (pages .entry))) (now (msg .entry)) (now (out .entry)) (now (guest .entry)) (now (text .entry)) ⌝ }
+    ensures { λ r. ⌜ turnLeft r (now (vcpus .exit)) (now (pages .exit)) (now (out .exit)) (now (guest .exit)) (now (text .exit)) ≡
+        turnOf index (state s (now (vcpus .entry)) (now (pages .entry))) (now (msg .entry)) (now (out .entry)) (now (guest .entry)) (now (text .entry)) ⌝ }
     ensures { λ r. ⌜ Counts (r .count) (now (text .exit)) ⌝ }
 {
     let cut = stream::cut_next(msg);

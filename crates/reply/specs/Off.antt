@@ -9,7 +9,9 @@ use Rattle.kvmi.specs.declared.ReplyKind.{ReplyKind}
 use Rattle.kvmi.specs.declared.ReplyKind.the-variants.{CodeOnly, WithData, Silent}
 use Rattle.kvmi.specs.Codes.{isError}
 use Rattle.kvmi.specs.Model.{nextSeq}
-use Rattle.kvmi.specs.Reply.{commandErrorEvent, answerSeq}
+use Rattle.kvmi.specs.Reply.{commandErrorEvent, answerOf, answerSeq}
+use Rattle.reply.specs.declared.Answered.{Answered}
+use Rattle.reply.specs.Written.{AnswerWritten}
 
 -- while replies are off: whether an event tells this code
 unfoldable pub isTold : ℕ → ℤ → Bool
@@ -26,3 +28,7 @@ unfoldable pub kindSeq : ReplyKind → ReplyMode → ℕ → ℤ → ℕ
 kindSeq CodeOnly mode next code = answerSeq mode next code
 kindSeq WithData mode next code = answerSeq mode next code
 kindSeq Silent mode next code = next
+
+-- an answer of a kind is written, with the output before and after and what is returned
+abbrev pub KindWritten : ReplyKind → ReplyMode → ℕ → ℕ → ℕ → ℤ → List ℕ → List ℕ → List ℕ → Answered → Type 0
+KindWritten kind mode next id seq code d before after r = AnswerWritten before after r (answerOf kind mode next id seq code d) (kindSeq kind mode next code)

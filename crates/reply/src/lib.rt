@@ -11,10 +11,10 @@ ghost use Rattle.wire.specs.Bytes.{le, store};
 ghost use Rattle.kvmi.specs.Codes.{isError};
 ghost use Rattle.kvmi.specs.Message.{layoutOf};
 ghost use Rattle.kvmi.specs.Model.{nextSeq};
-ghost use Rattle.kvmi.specs.Reply.{replyBytes, replyData, pauseEvent, commandErrorEvent, answerOf};
+ghost use Rattle.kvmi.specs.Reply.{replyBytes, replyData, pauseEvent, commandErrorEvent};
 ghost use Rattle.kvmi.specs.Mode.{modeOfNumber};
 ghost use Rattle.reply.specs.Written.{Written, AnswerWritten};
-ghost use Rattle.reply.specs.Off.{offBytes, offSeq, kindSeq};
+ghost use Rattle.reply.specs.Off.{offBytes, offSeq, KindWritten};
 ghost use Rattle.reply.specs.Contents.{contentsBytes, contentsCount, contentsEnd, Chosen, Picked};
 ghost use Rattle.reply.specs.Event.{eventFront};
 
@@ -238,7 +238,8 @@ pub fn answer(
     code: i32,
     d: &[u8],
 ) -> Answered
-    ensures { λ r. ⌜ AnswerWritten (now (out .entry)) (now (out .exit)) r (answerOf (layoutOf id .reply) (modeOfNumber mode) next id seq code (replyData settings (now (guest .entry)) id (now (d .entry)))) (kindSeq (layoutOf id .reply) (modeOfNumber mode) next code) ⌝ }
+    ensures { λ r. ⌜ KindWritten (layoutOf id .reply) (modeOfNumber mode) next id seq code
+        (replyData settings (now (guest .entry)) id (now (d .entry))) (now (out .entry)) (now (out .exit)) r ⌝ }
 {
     let row = kvmi::table::layout(id);
     let kind = row.reply;
