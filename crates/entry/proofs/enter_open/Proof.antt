@@ -1,4 +1,5 @@
 -- A reply awaited, no pause queued, or a pause taken from the queue. Assumes nothing.
+-- Below, c2 is the place two before c, and so on.
 use borrow.Author.Tests.{lt-leb, eq-eqb, ne-eqb}
 use native.Mathlib.Omega.{arith}
 use Rattle.entry.proofs.Laws.{paused-as}
@@ -67,7 +68,12 @@ same-length-4 c = search (needs, c .before .before .before .before .before .befo
 returns-3 : tie.Need-returns-3
 unfolding enteredOf pausingOf
 returns-3 c p =
-    paused-as _ _ (c .before .before .wrote .result) _ _ _ _ _ _ _ _ _ _ _ _ _ (c .before .before .before .before .before .before .before .before .before .before .before .before .before .before .before .before .before .before .before .before .before .before .before .read-field .ensures) (c .before .before .before .before .before .before .before .before .before .before .before .before .before .before .before .before .before .before .before .before .before .before .if1 .left) (c .before .before .before .before .before .before .before .before .before .before .before .before .before .before .before .before .before .before .before .before .read-field2 .ensures) (c .before .before .before .before .before .before .before .before .before .before .before .before .before .before .before .before .before .before .before .if2 .left) (c .before .before .before .before .before .before .before .before .before .before .before .before .before .before .before .before .before .pause-event .ensures) (c .before .before .before .before .before .before .before .before .before .before .before .before .before .write-field .ensures) (c .before .before .before .before .before .before .before .before .before .write-field2 .ensures) (c .before .before .before .before .before .write-field3 .ensures) (c .before .next-seq .ensures) (c .with-seq .ensures) (c .before .before .wrote .ensures)
+    let c2 = c .before .before in let c5 = c2 .before .before .before in let c9 = c5 .before .before .before .before in
+    let c13 = c9 .before .before .before .before in let c17 = c13 .before .before .before .before in let c19 = c17 .before .before in
+    let c20 = c19 .before in let c22 = c20 .before .before in let c23 = c22 .before in
+    paused-as _ _ (c2 .wrote .result) _ _ _ _ _ _ _ _ _ _ _ _ _ (c23 .read-field .ensures) (c22 .if1 .left) (c20 .read-field2 .ensures)
+    (c19 .if2 .left) (c17 .pause-event .ensures) (c13 .write-field .ensures) (c9 .write-field2 .ensures) (c5 .write-field3 .ensures)
+    (c .before .next-seq .ensures) (c .with-seq .ensures) (c2 .wrote .ensures)
 
 pub enter-open-spec : {M : Type 1} → statement M
 enter-open-spec =

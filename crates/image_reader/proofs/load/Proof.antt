@@ -1,4 +1,5 @@
 -- The invariant: the words hold what the records before the place state. The measure is how many bytes are left. Assumes nothing.
+-- Below, c2 is the place two before c, and so on; a is what the function was given.
 use mathlib.Core.Path.{_≡_, refl, sym, ap, _∙_}
 use native.Mathlib.Omega.{arith}
 use borrow.Author.Needs.{needs}
@@ -45,16 +46,59 @@ pages-of-requires : tie.Need-pages-of-requires Inv-loop μ-loop
 pages-of-requires c κs = search needs
 
 add-i : tie.Need-add-i Inv-loop μ-loop
-add-i c = let q : c .before .before .before .before .before .before .before .before .before .record-size .result ≡ sizeBy (markAt (now (c .before .before .before .before .before .before .before .before .before .before .before .before .before .before .before .args .l)) (c .before .before .before .before .before .before .before .before .before .before .before .loop .at)) = c .before .before .before .before .before .before .before .before .before .record-size .ensures ∙ ap sizeBy (c .before .before .before .before .before .before .before .before .before .before .mark-at .ensures) in let some : 0 < sizeBy (markAt (now (c .before .before .before .before .before .before .before .before .before .before .before .before .before .before .before .args .l)) (c .before .before .before .before .before .before .before .before .before .before .before .loop .at)) = some-size _ _ q (c .before .before .before .before .before .before .before .before .if1 .left) in let r = load-room (now (c .before .before .before .before .before .before .before .before .before .before .before .before .before .before .before .args .l)) (c .before .before .before .before .before .before .before .before .before .before .before .loop .at) some in let g = page-small (markAt (now (c .before .before .before .before .before .before .before .before .before .before .before .before .before .before .before .args .l)) (c .before .before .before .before .before .before .before .before .before .before .before .loop .at)) in let w : c .pages-of .result ≡ pageBy (markAt (now (c .before .before .before .before .before .before .before .before .before .before .before .before .before .before .before .args .l)) (c .before .before .before .before .before .before .before .before .before .before .before .loop .at)) = c .pages-of .ensures ∙ ap pageBy (c .before .before .before .before .before .before .before .before .before .before .mark-at .ensures) in omega (arith, q, r, g, w, c .before .before .before .before .before .before .before .before .before .before .before .loop .inv .0, c .before .before .before .before .before .before .before .before .before .before .before .before .before .before .before .good .0 .0)
+add-i c =
+    let c8 = c .before .before .before .before .before .before .before .before in let c9 = c8 .before in let c10 = c9 .before in
+    let c11 = c10 .before in let c15 = c11 .before .before .before .before in let a = c15 .args in
+    let q : c9 .record-size .result ≡ sizeBy (markAt (now (a .l)) (c11 .loop .at)) = c9 .record-size .ensures
+    ∙ ap sizeBy (c10 .mark-at .ensures) in
+    let some : 0 < sizeBy (markAt (now (a .l)) (c11 .loop .at)) = some-size _ _ q (c8 .if1 .left) in
+    let r = load-room (now (a .l)) (c11 .loop .at) some in
+    let g = page-small (markAt (now (a .l)) (c11 .loop .at)) in
+    let w : c .pages-of .result ≡ pageBy (markAt (now (a .l)) (c11 .loop .at)) = c .pages-of .ensures ∙ ap pageBy (c10 .mark-at .ensures) in
+    omega (arith, q, r, g, w, c11 .loop .inv .0, c15 .good .0 .0)
 
 add-at : tie.Need-add-at Inv-loop μ-loop
-add-at c = let q : c .before .before .before .before .before .before .before .before .before .record-size .result ≡ sizeBy (markAt (now (c .before .before .before .before .before .before .before .before .before .before .before .before .before .before .before .args .l)) (c .before .before .before .before .before .before .before .before .before .before .before .loop .at)) = c .before .before .before .before .before .before .before .before .before .record-size .ensures ∙ ap sizeBy (c .before .before .before .before .before .before .before .before .before .before .mark-at .ensures) in let some : 0 < sizeBy (markAt (now (c .before .before .before .before .before .before .before .before .before .before .before .before .before .before .before .args .l)) (c .before .before .before .before .before .before .before .before .before .before .before .loop .at)) = some-size _ _ q (c .before .before .before .before .before .before .before .before .if1 .left) in let r = load-room (now (c .before .before .before .before .before .before .before .before .before .before .before .before .before .before .before .args .l)) (c .before .before .before .before .before .before .before .before .before .before .before .loop .at) some in omega (arith, q, r, c .before .before .before .before .before .before .before .before .before .before .before .before .before .before .before .good .0 .0)
+add-at c =
+    let c8 = c .before .before .before .before .before .before .before .before in let c9 = c8 .before in let c10 = c9 .before in
+    let c11 = c10 .before in let c15 = c11 .before .before .before .before in let a = c15 .args in
+    let q : c9 .record-size .result ≡ sizeBy (markAt (now (a .l)) (c11 .loop .at)) = c9 .record-size .ensures
+    ∙ ap sizeBy (c10 .mark-at .ensures) in
+    let some : 0 < sizeBy (markAt (now (a .l)) (c11 .loop .at)) = some-size _ _ q (c8 .if1 .left) in
+    let r = load-room (now (a .l)) (c11 .loop .at) some in
+    omega (arith, q, r, c15 .good .0 .0)
 
 loop-less : tie.Need-loop-less Inv-loop μ-loop
-loop-less c = let q : c .before .before .before .before .before .before .before .before .before .record-size .result ≡ sizeBy (markAt (now (c .before .before .before .before .before .before .before .before .before .before .before .before .before .before .before .args .l)) (c .before .before .before .before .before .before .before .before .before .before .before .loop .at)) = c .before .before .before .before .before .before .before .before .before .record-size .ensures ∙ ap sizeBy (c .before .before .before .before .before .before .before .before .before .before .mark-at .ensures) in let some : 0 < sizeBy (markAt (now (c .before .before .before .before .before .before .before .before .before .before .before .before .before .before .before .args .l)) (c .before .before .before .before .before .before .before .before .before .before .before .loop .at)) = some-size _ _ q (c .before .before .before .before .before .before .before .before .if1 .left) in let r = load-room (now (c .before .before .before .before .before .before .before .before .before .before .before .before .before .before .before .args .l)) (c .before .before .before .before .before .before .before .before .before .before .before .loop .at) some in omega (arith, q, r, some)
+loop-less c =
+    let c8 = c .before .before .before .before .before .before .before .before in let c9 = c8 .before in let c10 = c9 .before in
+    let c11 = c10 .before in let c15 = c11 .before .before .before .before in let a = c15 .args in
+    let q : c9 .record-size .result ≡ sizeBy (markAt (now (a .l)) (c11 .loop .at)) = c9 .record-size .ensures
+    ∙ ap sizeBy (c10 .mark-at .ensures) in
+    let some : 0 < sizeBy (markAt (now (a .l)) (c11 .loop .at)) = some-size _ _ q (c8 .if1 .left) in
+    let r = load-room (now (a .l)) (c11 .loop .at) some in
+    omega (arith, q, r, some)
 
 loop-again : tie.Need-loop-again Inv-loop μ-loop
-loop-again c = let q : c .before .before .before .before .before .before .before .before .before .record-size .result ≡ sizeBy (markAt (now (c .before .before .before .before .before .before .before .before .before .before .before .before .before .before .before .args .l)) (c .before .before .before .before .before .before .before .before .before .before .before .loop .at)) = c .before .before .before .before .before .before .before .before .before .record-size .ensures ∙ ap sizeBy (c .before .before .before .before .before .before .before .before .before .before .mark-at .ensures) in let some : 0 < sizeBy (markAt (now (c .before .before .before .before .before .before .before .before .before .before .before .before .before .before .before .args .l)) (c .before .before .before .before .before .before .before .before .before .before .before .loop .at)) = some-size _ _ q (c .before .before .before .before .before .before .before .before .if1 .left) in let r = load-room (now (c .before .before .before .before .before .before .before .before .before .before .before .before .before .before .before .args .l)) (c .before .before .before .before .before .before .before .before .before .before .before .loop .at) some in let g = page-small (markAt (now (c .before .before .before .before .before .before .before .before .before .before .before .before .before .before .before .args .l)) (c .before .before .before .before .before .before .before .before .before .before .before .loop .at)) in let w : c .pages-of .result ≡ pageBy (markAt (now (c .before .before .before .before .before .before .before .before .before .before .before .before .before .before .before .args .l)) (c .before .before .before .before .before .before .before .before .before .before .before .loop .at)) = c .pages-of .ensures ∙ ap pageBy (c .before .before .before .before .before .before .before .before .before .before .mark-at .ensures) in (omega (arith, q, g, w, c .before .before .before .before .before .before .before .before .before .before .before .loop .inv .0), c .before .before .before .before .before .load-record .kept .1 .0 ∙ c .before .before .before .before .before .before .before .before .before .before .before .loop .inv .1, c .before .before .before .before .before .load-record .kept .1 .1 .0 ∙ c .before .before .before .before .before .before .before .before .before .before .before .loop .inv .2, λ s u e. rw (c .before .before .before .before .before .load-record .ensures .0, c .before .before .before .before .before .load-record .ensures .1, c .before .before .before .before .before .before .before .before .before .record-size .ensures, c .pages-of .ensures, c .before .before .before .before .before .before .before .before .before .before .mark-at .ensures) (load-more s (now (c .before .before .before .before .before .before .before .before .before .before .before .before .before .before .before .args .l)) u _ _ _ _ _ _ (c .before .before .before .before .before .before .before .before .before .before .before .loop .inv .3 s u e) some))
+loop-again c =
+    let c5 = c .before .before .before .before .before in let c8 = c5 .before .before .before in let c9 = c8 .before in let c10 = c9 .before in
+    let c11 = c10 .before in let c15 = c11 .before .before .before .before in let a = c15 .args in
+    let q : c9 .record-size .result ≡ sizeBy (markAt (now (a .l)) (c11 .loop .at)) = c9 .record-size .ensures
+    ∙ ap sizeBy (c10 .mark-at .ensures) in
+    let some : 0 < sizeBy (markAt (now (a .l)) (c11 .loop .at)) = some-size _ _ q (c8 .if1 .left) in
+    let r = load-room (now (a .l)) (c11 .loop .at) some in
+    let g = page-small (markAt (now (a .l)) (c11 .loop .at)) in
+    let w : c .pages-of .result ≡ pageBy (markAt (now (a .l)) (c11 .loop .at)) = c .pages-of .ensures ∙ ap pageBy (c10 .mark-at .ensures) in (
+      omega (arith, q, g, w, c11 .loop .inv .0),
+      c5 .load-record .kept .1 .0 ∙ c11 .loop .inv .1,
+      c5 .load-record .kept .1 .1 .0
+          ∙ c11 .loop .inv .2,
+      λ s u e. rw (
+        c5 .load-record .ensures .0,
+        c5 .load-record .ensures .1,
+        c9 .record-size .ensures,
+        c .pages-of .ensures,
+        c10 .mark-at .ensures,
+      ) (load-more s (now (a .l)) u _ _ _ _ _ _ (c11 .loop .inv .3 s u e) some),
+    )
 
 pub load-spec : {M : Type 1} → statement M
 load-spec =

@@ -1,4 +1,5 @@
 -- Field by field. Assumes nothing.
+-- Below, c2 is the place two before c, and so on.
 use mathlib.Core.Path.{_∙_}
 -- Field by field. Assumes nothing.
 use Rattle.image_reader.specs.Read.{vcpuLoaded}
@@ -65,7 +66,21 @@ same-length c = search needs
 
 returns : tie.Need-returns
 unfolding vcpuLoaded
-returns c = c .before .before .write-field4 .ensures ∙ rw (c .before .before .before .before .before .before .write-field3 .ensures, c .before .before .before .before .before .before .before .before .before .before .write-field2 .ensures, c .before .before .before .before .before .before .before .before .before .before .before .before .before .before .write-field .ensures, c .before .before .before .before .before .before .before .before .before .before .before .before .before .before .before .before .before .before .before .bit-of .ensures, c .before .before .before .before .before .before .before .before .before .before .before .before .before .before .before .before .before .before .before .before .byte .ensures, c .before .before .before .before .before .before .before .before .before .before .before .before .before .before .before .before .before .before .byte2 .ensures, c .before .before .before .before .before .before .before .before .before .before .before .before .before .before .before .before .before .load162 .ensures, c .before .before .before .before .before .before .before .before .before .before .before .before .before .before .before .before .byte3 .ensures, c .before .before .before .before .before .before .before .before .before .before .before .before .before .before .before .before .before .before .before .before .before .load16 .ensures)
+returns c =
+    let c2 = c .before .before in let c6 = c2 .before .before .before .before in let c10 = c6 .before .before .before .before in
+    let c14 = c10 .before .before .before .before in let c16 = c14 .before .before in let c17 = c16 .before in let c18 = c17 .before in
+    let c19 = c18 .before in let c20 = c19 .before in let c21 = c20 .before in
+    c2 .write-field4 .ensures ∙ rw (
+      c6 .write-field3 .ensures,
+      c10 .write-field2 .ensures,
+      c14 .write-field .ensures,
+      c19 .bit-of .ensures,
+      c20 .byte .ensures,
+      c18 .byte2 .ensures,
+      c17 .load162 .ensures,
+      c16 .byte3 .ensures,
+      c21 .load16 .ensures,
+    )
 
 pub load-vc-spec : {M : Type 1} → statement M
 load-vc-spec =

@@ -1,4 +1,5 @@
 -- By what the test says of the image. Assumes nothing.
+-- Below, c2 is the place two before c, and so on; a is what the function was given.
 use mathlib.Core.Path.{sym, _∙_}
 use borrow.Author.Tests.{not-true, not-false}
 use denote.Ref.{now}
@@ -56,15 +57,40 @@ opened-requires c κs = search needs
 
 returns-2 : tie.Need-returns-2
 unfolding readOf inRange countsFit
-returns-2 c = simp (sym (c .before .before .before .before .before .before .in-range .ensures) ∙ not-false _ (c .before .before .before .before .before .if1 .left), c .shut2 .ensures) (told-bad (c .before .before .before .before .before .before .before .before .args .settings) _ _ (loadImage (c .before .before .before .before .before .before .before .before .args .settings) (now (c .before .before .before .before .before .before .before .before .args .l))) _ (sym (c .before .before .before .before .test .ensures) ∙ c .before .before .tested .given .1))
+returns-2 c =
+    let c2 = c .before .before in let c4 = c2 .before .before in let c5 = c4 .before in let c6 = c5 .before in let c8 = c6 .before .before in
+    let a = c8 .args in
+    simp (
+      sym (c6 .in-range .ensures) ∙ not-false _ (c5 .if1 .left),
+      c .shut2 .ensures,
+    ) (told-bad (a .settings) _ _ (loadImage (a .settings) (now (a .l))) _ (sym (c4 .test .ensures) ∙ c2 .tested .given .1))
 
 returns-3 : tie.Need-returns-3
 unfolding readOf inRange countsFit
-returns-3 c = simp (sym (c .before .before .before .before .before .before .in-range .ensures) ∙ not-false _ (c .before .before .before .before .before .if1 .left), c .shut3 .ensures) (told-forbidden (c .before .before .before .before .before .before .before .before .args .settings) _ _ (loadImage (c .before .before .before .before .before .before .before .before .args .settings) (now (c .before .before .before .before .before .before .before .before .args .l))) _ (sym (c .before .before .before .before .test .ensures) ∙ c .before .before .tested2 .given .1))
+returns-3 c =
+    let c2 = c .before .before in let c4 = c2 .before .before in let c5 = c4 .before in let c6 = c5 .before in let c8 = c6 .before .before in
+    let a = c8 .args in
+    simp (
+      sym (c6 .in-range .ensures) ∙ not-false _ (c5 .if1 .left),
+      c .shut3 .ensures,
+    ) (told-forbidden (a .settings) _ _ (loadImage (a .settings) (now (a .l))) _ (sym (c4 .test .ensures)
+    ∙ c2 .tested2 .given .1))
 
 returns-4 : tie.Need-returns-4
 unfolding readOf inRange countsFit
-returns-4 c = simp (sym (c .before .before .before .before .before .before .before .before .before .before .before .before .before .before .in-range .ensures) ∙ not-false _ (c .before .before .before .before .before .before .before .before .before .before .before .before .before .if1 .left), c .before .done .ensures, c .opened .ensures) (told-accepted (c .before .before .before .before .before .before .before .before .before .before .before .before .before .before .before .before .args .settings) _ _ (loadImage (c .before .before .before .before .before .before .before .before .before .before .before .before .before .before .before .before .args .settings) (now (c .before .before .before .before .before .before .before .before .before .before .before .before .before .before .before .before .args .l))) _ _ _ _ _ (sym (c .before .before .before .before .before .before .before .before .before .before .before .before .test .ensures) ∙ c .before .before .before .before .before .before .before .before .before .before .tested3 .given .1) (λ u e. let g = c .before .before .load .ensures (c .before .before .before .before .before .before .before .before .before .before .before .before .before .before .before .before .args .settings) u e in (g .0 ∙ rw (c .before .before .before .before .before .before .before .clear .ensures), g .1 ∙ rw (c .before .before .before .before .before .clear2 .ensures))))
+returns-4 c =
+    let c2 = c .before .before in let c5 = c2 .before .before .before in let c7 = c5 .before .before in let c10 = c7 .before .before .before in
+    let c12 = c10 .before .before in let c13 = c12 .before in let c14 = c13 .before in let c16 = c14 .before .before in let a = c16 .args in
+    simp (
+      sym (c14 .in-range .ensures) ∙ not-false _ (c13 .if1 .left),
+      c .before .done .ensures,
+      c .opened .ensures,
+    ) (told-accepted (a .settings) _ _ (loadImage (a .settings) (now (a .l))) _ _ _ _ _ (sym (c12 .test .ensures)
+    ∙ c10 .tested3 .given .1) (λ u e. let g = c2 .load .ensures (a .settings) u e in (
+      g .0 ∙ rw (c7 .clear .ensures),
+      g .1
+          ∙ rw (c5 .clear2 .ensures),
+    )))
 
 pub read-image-spec : {M : Type 1} → statement M
 read-image-spec =

@@ -1,4 +1,5 @@
 -- Each test by itself. Assumes nothing.
+-- Below, c2 is the place two before c, and so on.
 use borrow.Author.Tests.{eq-eqb, ne-eqb, not-true, not-false}
 use Rattle.image_step.specs.Step.{msStep}
 use borrow.Author.Needs.{needs}
@@ -38,7 +39,15 @@ reject-requires-2 c κs = search needs
 
 returns-2 : tie.Need-returns-2
 unfolding msStep
-returns-2 c = rw (← c .before .before .before .before .before .before .before .load16 .ensures, ← c .before .before .before .before .before .before .load32 .ensures, ← c .before .before .before .before .before .is-after .ensures, not-false (c .before .before .before .before .before .is-after .result) (c .before .before .before .before .if1 .left), ne-eqb _ _ (c .before .if2 .taken)) (c .reject2 .ensures)
+returns-2 c =
+    let c4 = c .before .before .before .before in let c5 = c4 .before in let c6 = c5 .before in let c7 = c6 .before in
+    rw (
+      ← c7 .load16 .ensures,
+      ← c6 .load32 .ensures,
+      ← c5 .is-after .ensures,
+      not-false (c5 .is-after .result) (c4 .if1 .left),
+      ne-eqb _ _ (c .before .if2 .taken),
+    ) (c .reject2 .ensures)
 
 ms-form-requires : tie.Need-ms-form-requires
 ms-form-requires c κs = search needs
@@ -48,7 +57,18 @@ reject-requires-3 c κs = search needs
 
 returns-3 : tie.Need-returns-3
 unfolding msStep
-returns-3 c = rw (← c .before .before .before .before .before .before .before .before .before .load16 .ensures, ← c .before .before .before .before .before .before .before .before .load32 .ensures, ← c .before .before .before .before .before .before .before .is-after .ensures, not-false (c .before .before .before .before .before .before .before .is-after .result) (c .before .before .before .before .before .before .if1 .left), eq-eqb _ _ (c .before .before .before .if2 .left), ← c .before .before .ms-form .ensures, not-true (c .before .before .ms-form .result) (c .before .if3 .taken)) (c .reject3 .ensures)
+returns-3 c =
+    let c2 = c .before .before in let c3 = c2 .before in let c6 = c3 .before .before .before in let c7 = c6 .before in let c8 = c7 .before in
+    let c9 = c8 .before in
+    rw (
+      ← c9 .load16 .ensures,
+      ← c8 .load32 .ensures,
+      ← c7 .is-after .ensures,
+      not-false (c7 .is-after .result) (c6 .if1 .left),
+      eq-eqb _ _ (c3 .if2 .left),
+      ← c2 .ms-form .ensures,
+      not-true (c2 .ms-form .result) (c .before .if3 .taken),
+    ) (c .reject3 .ensures)
 
 wrapping-add-usize-requires : tie.Need-wrapping-add-usize-requires
 wrapping-add-usize-requires c κs = search needs
@@ -58,7 +78,19 @@ cast-t11 c = search needs
 
 returns-4 : tie.Need-returns-4
 unfolding msStep
-returns-4 c = rw (← c .before .before .before .before .before .before .before .before .before .load16 .ensures, ← c .before .before .before .before .before .before .before .before .load32 .ensures, ← c .before .before .before .before .before .before .before .is-after .ensures, not-false (c .before .before .before .before .before .before .before .is-after .result) (c .before .before .before .before .before .before .if1 .left), eq-eqb _ _ (c .before .before .before .if2 .left), ← c .before .before .ms-form .ensures, not-false (c .before .before .ms-form .result) (c .before .if3 .left), ← c .wrapping-add-usize .ensures)
+returns-4 c =
+    let c2 = c .before .before in let c3 = c2 .before in let c6 = c3 .before .before .before in let c7 = c6 .before in let c8 = c7 .before in
+    let c9 = c8 .before in
+    rw (
+      ← c9 .load16 .ensures,
+      ← c8 .load32 .ensures,
+      ← c7 .is-after .ensures,
+      not-false (c7 .is-after .result) (c6 .if1 .left),
+      eq-eqb _ _ (c3 .if2 .left),
+      ← c2 .ms-form .ensures,
+      not-false (c2 .ms-form .result) (c .before .if3 .left),
+      ← c .wrapping-add-usize .ensures,
+    )
 
 pub step-ms-spec : {M : Type 1} → statement M
 step-ms-spec =

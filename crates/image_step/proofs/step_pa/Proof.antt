@@ -1,4 +1,5 @@
 -- Each test by itself. Assumes nothing.
+-- Below, c2 is the place two before c, and so on.
 use mathlib.Core.Path.{sym, _∙_}
 use native.Mathlib.Omega.{arith}
 use borrow.Author.Tests.{lt-ltb, le-ltb, eq-eqb, ne-eqb, not-true, not-false}
@@ -44,14 +45,34 @@ reject-requires c κs = search needs
 
 returns : tie.Need-returns
 unfolding paStep paMay
-returns c = rw (← c .before .before .before .before .before .load16 .ensures, ← c .before .before .before .before .byte .ensures, ← c .before .before .before .byte2 .ensures, ← c .before .before .before .before .before .before .load64 .ensures, ← c .before .before .is-after .ensures, not-true (c .before .before .is-after .result) (c .before .if1 .taken)) (c .reject .ensures)
+returns c =
+    let c2 = c .before .before in let c3 = c2 .before in let c4 = c3 .before in let c5 = c4 .before in let c6 = c5 .before in
+    rw (
+      ← c5 .load16 .ensures,
+      ← c4 .byte .ensures,
+      ← c3 .byte2 .ensures,
+      ← c6 .load64 .ensures,
+      ← c2 .is-after .ensures,
+      not-true (c2 .is-after .result) (c .before .if1 .taken),
+    ) (c .reject .ensures)
 
 reject-requires-2 : tie.Need-reject-requires-2
 reject-requires-2 c κs = search needs
 
 returns-2 : tie.Need-returns-2
 unfolding paStep paMay
-returns-2 c = rw (← c .before .before .before .before .before .before .before .before .load16 .ensures, ← c .before .before .before .before .before .before .before .byte .ensures, ← c .before .before .before .before .before .before .byte2 .ensures, ← c .before .before .before .before .before .before .before .before .before .load64 .ensures, ← c .before .before .before .before .before .is-after .ensures, not-false (c .before .before .before .before .before .is-after .result) (c .before .before .before .before .if1 .left), ne-eqb _ _ (c .before .if2 .taken)) (c .reject2 .ensures)
+returns-2 c =
+    let c4 = c .before .before .before .before in let c5 = c4 .before in let c6 = c5 .before in let c7 = c6 .before in let c8 = c7 .before in
+    let c9 = c8 .before in
+    rw (
+      ← c8 .load16 .ensures,
+      ← c7 .byte .ensures,
+      ← c6 .byte2 .ensures,
+      ← c9 .load64 .ensures,
+      ← c5 .is-after .ensures,
+      not-false (c5 .is-after .result) (c4 .if1 .left),
+      ne-eqb _ _ (c .before .if2 .taken),
+    ) (c .reject2 .ensures)
 
 pa-form-requires : tie.Need-pa-form-requires
 pa-form-requires c κs = search needs
@@ -61,7 +82,20 @@ reject-requires-3 c κs = search needs
 
 returns-3 : tie.Need-returns-3
 unfolding paStep paMay
-returns-3 c = rw (← c .before .before .before .before .before .before .before .before .before .before .load16 .ensures, ← c .before .before .before .before .before .before .before .before .before .byte .ensures, ← c .before .before .before .before .before .before .before .before .byte2 .ensures, ← c .before .before .before .before .before .before .before .before .before .before .before .load64 .ensures, ← c .before .before .before .before .before .before .before .is-after .ensures, not-false (c .before .before .before .before .before .before .before .is-after .result) (c .before .before .before .before .before .before .if1 .left), eq-eqb _ _ (c .before .before .before .if2 .left), ← c .before .before .pa-form .ensures, not-true (c .before .before .pa-form .result) (c .before .if3 .taken)) (c .reject3 .ensures)
+returns-3 c =
+    let c2 = c .before .before in let c3 = c2 .before in let c6 = c3 .before .before .before in let c7 = c6 .before in let c8 = c7 .before in
+    let c9 = c8 .before in let c10 = c9 .before in let c11 = c10 .before in
+    rw (
+      ← c10 .load16 .ensures,
+      ← c9 .byte .ensures,
+      ← c8 .byte2 .ensures,
+      ← c11 .load64 .ensures,
+      ← c7 .is-after .ensures,
+      not-false (c7 .is-after .result) (c6 .if1 .left),
+      eq-eqb _ _ (c3 .if2 .left),
+      ← c2 .pa-form .ensures,
+      not-true (c2 .pa-form .result) (c .before .if3 .taken),
+    ) (c .reject3 .ensures)
 
 cast-if4 : tie.Need-cast-if4
 cast-if4 c = search needs
@@ -71,7 +105,21 @@ forbid-requires c κs = search needs
 
 returns-4 : tie.Need-returns-4
 unfolding paStep paMay
-returns-4 c = rw (← c .before .before .before .before .before .before .before .before .before .before .before .before .load16 .ensures, ← c .before .before .before .before .before .before .before .before .before .before .before .byte .ensures, ← c .before .before .before .before .before .before .before .before .before .before .byte2 .ensures, ← c .before .before .before .before .before .before .before .before .before .before .before .before .before .load64 .ensures, ← c .before .before .before .before .before .before .before .before .before .is-after .ensures, not-false (c .before .before .before .before .before .before .before .before .before .is-after .result) (c .before .before .before .before .before .before .before .before .if1 .left), eq-eqb _ _ (c .before .before .before .before .before .if2 .left), ← c .before .before .before .before .pa-form .ensures, not-false (c .before .before .before .before .pa-form .result) (c .before .before .before .if3 .left), le-ltb _ _ (c .before .if4 .taken)) (c .forbid .ensures)
+returns-4 c =
+    let c3 = c .before .before .before in let c4 = c3 .before in let c5 = c4 .before in let c8 = c5 .before .before .before in
+    let c9 = c8 .before in let c10 = c9 .before in let c11 = c10 .before in let c12 = c11 .before in let c13 = c12 .before in
+    rw (
+      ← c12 .load16 .ensures,
+      ← c11 .byte .ensures,
+      ← c10 .byte2 .ensures,
+      ← c13 .load64 .ensures,
+      ← c9 .is-after .ensures,
+      not-false (c9 .is-after .result) (c8 .if1 .left),
+      eq-eqb _ _ (c5 .if2 .left),
+      ← c4 .pa-form .ensures,
+      not-false (c4 .pa-form .result) (c3 .if3 .left),
+      le-ltb _ _ (c .before .if4 .taken),
+    ) (c .forbid .ensures)
 
 wrapping-add-usize-requires : tie.Need-wrapping-add-usize-requires
 wrapping-add-usize-requires c κs = search needs
@@ -81,7 +129,23 @@ add-t15 c = let h = page-room _ _ (sym (c .before .before .before .before .befor
 
 returns-5 : tie.Need-returns-5
 unfolding paStep paMay
-returns-5 c = rw (← c .before .before .before .before .before .before .before .before .before .before .before .before .before .load16 .ensures, ← c .before .before .before .before .before .before .before .before .before .before .before .before .byte .ensures, ← c .before .before .before .before .before .before .before .before .before .before .before .byte2 .ensures, ← c .before .before .before .before .before .before .before .before .before .before .before .before .before .before .load64 .ensures, ← c .before .before .before .before .before .before .before .before .before .before .is-after .ensures, not-false (c .before .before .before .before .before .before .before .before .before .before .is-after .result) (c .before .before .before .before .before .before .before .before .before .if1 .left), eq-eqb _ _ (c .before .before .before .before .before .before .if2 .left), ← c .before .before .before .before .before .pa-form .ensures, not-false (c .before .before .before .before .before .pa-form .result) (c .before .before .before .before .if3 .left), lt-ltb _ _ (c .before .before .if4 .left), ← c .before .wrapping-add-usize .ensures)
+returns-5 c =
+    let c2 = c .before .before in let c4 = c2 .before .before in let c5 = c4 .before in let c6 = c5 .before in
+    let c9 = c6 .before .before .before in let c10 = c9 .before in let c11 = c10 .before in let c12 = c11 .before in let c13 = c12 .before in
+    let c14 = c13 .before in
+    rw (
+      ← c13 .load16 .ensures,
+      ← c12 .byte .ensures,
+      ← c11 .byte2 .ensures,
+      ← c14 .load64 .ensures,
+      ← c10 .is-after .ensures,
+      not-false (c10 .is-after .result) (c9 .if1 .left),
+      eq-eqb _ _ (c6 .if2 .left),
+      ← c5 .pa-form .ensures,
+      not-false (c5 .pa-form .result) (c4 .if3 .left),
+      lt-ltb _ _ (c2 .if4 .left),
+      ← c .before .wrapping-add-usize .ensures,
+    )
 
 pub step-pa-spec : {M : Type 1} → statement M
 step-pa-spec =

@@ -1,4 +1,5 @@
 -- Each test by itself. Assumes nothing.
+-- Below, c2 is the place two before c, and so on.
 use native.Mathlib.Omega.{arith}
 use borrow.Author.Tests.{eq-eqb, ne-eqb, not-true, not-false}
 use Rattle.store.specs.Words.{putBit64}
@@ -64,7 +65,14 @@ reject-requires-2 c κs = search needs
 
 returns-2 : tie.Need-returns-2
 unfolding vcStep
-returns-2 c = rw (← c .before .before .before .before .before .before .before .before .before .before .load16 .ensures, ← c .before .before .before .before .is-after .ensures, not-false (c .before .before .before .before .is-after .result) (c .before .before .before .if1 .left), ne-eqb _ _ (c .before .if2 .taken)) (c .reject2 .ensures)
+returns-2 c =
+    let c3 = c .before .before .before in let c4 = c3 .before in let c10 = c4 .before .before .before .before .before .before in
+    rw (
+      ← c10 .load16 .ensures,
+      ← c4 .is-after .ensures,
+      not-false (c4 .is-after .result) (c3 .if1 .left),
+      ne-eqb _ _ (c .before .if2 .taken),
+    ) (c .reject2 .ensures)
 
 vc-form-requires : tie.Need-vc-form-requires
 vc-form-requires c κs = search needs
@@ -74,7 +82,22 @@ reject-requires-3 c κs = search needs
 
 returns-3 : tie.Need-returns-3
 unfolding vcStep
-returns-3 c = rw (← c .before .before .before .before .before .before .before .before .before .before .before .before .load16 .ensures, ← c .before .before .before .before .before .before .before .before .before .before .before .byte .ensures, ← c .before .before .before .before .before .before .before .before .before .before .byte2 .ensures, ← c .before .before .before .before .before .before .before .before .before .load162 .ensures, ← c .before .before .before .before .before .before .before .before .byte3 .ensures, ← c .before .before .before .before .before .before .before .byte4 .ensures, ← c .before .before .vc-form .ensures, ← c .before .before .before .before .before .before .is-after .ensures, not-false (c .before .before .before .before .before .before .is-after .result) (c .before .before .before .before .before .if1 .left), eq-eqb _ _ (c .before .before .before .if2 .left), not-true (c .before .before .vc-form .result) (c .before .if3 .taken)) (c .reject3 .ensures)
+returns-3 c =
+    let c2 = c .before .before in let c3 = c2 .before in let c5 = c3 .before .before in let c6 = c5 .before in let c7 = c6 .before in
+    let c8 = c7 .before in let c9 = c8 .before in let c10 = c9 .before in let c11 = c10 .before in let c12 = c11 .before in
+    rw (
+      ← c12 .load16 .ensures,
+      ← c11 .byte .ensures,
+      ← c10 .byte2 .ensures,
+      ← c9 .load162 .ensures,
+      ← c8 .byte3 .ensures,
+      ← c7 .byte4 .ensures,
+      ← c2 .vc-form .ensures,
+      ← c6 .is-after .ensures,
+      not-false (c6 .is-after .result) (c5 .if1 .left),
+      eq-eqb _ _ (c3 .if2 .left),
+      not-true (c2 .vc-form .result) (c .before .if3 .taken),
+    ) (c .reject3 .ensures)
 
 vc-may-requires : tie.Need-vc-may-requires
 vc-may-requires c κs = search needs
@@ -84,7 +107,25 @@ forbid-requires c κs = search needs
 
 returns-4 : tie.Need-returns-4
 unfolding vcStep
-returns-4 c = rw (← c .before .before .before .before .before .before .before .before .before .before .before .before .before .before .load16 .ensures, ← c .before .before .before .before .before .before .before .before .before .before .before .before .before .byte .ensures, ← c .before .before .before .before .before .before .before .before .before .before .before .before .byte2 .ensures, ← c .before .before .before .before .before .before .before .before .before .before .before .load162 .ensures, ← c .before .before .before .before .before .before .before .before .before .before .byte3 .ensures, ← c .before .before .before .before .before .before .before .before .before .byte4 .ensures, ← c .before .before .before .before .vc-form .ensures, ← c .before .before .vc-may .ensures (c .before .before .before .before .before .before .before .before .before .before .before .before .before .before .load16 .result) (c .before .before .before .before .before .before .before .before .before .before .before .before .byte2 .result) (c .before .before .before .before .before .before .before .before .before .byte4 .result), ← c .before .before .before .before .before .before .before .before .is-after .ensures, not-false (c .before .before .before .before .before .before .before .before .is-after .result) (c .before .before .before .before .before .before .before .if1 .left), eq-eqb _ _ (c .before .before .before .before .before .if2 .left), not-false (c .before .before .before .before .vc-form .result) (c .before .before .before .if3 .left), not-true (c .before .before .vc-may .result) (c .before .if4 .taken)) (c .forbid .ensures)
+returns-4 c =
+    let c2 = c .before .before in let c3 = c2 .before in let c4 = c3 .before in let c5 = c4 .before in let c7 = c5 .before .before in
+    let c8 = c7 .before in let c9 = c8 .before in let c10 = c9 .before in let c11 = c10 .before in let c12 = c11 .before in
+    let c13 = c12 .before in let c14 = c13 .before in
+    rw (
+      ← c14 .load16 .ensures,
+      ← c13 .byte .ensures,
+      ← c12 .byte2 .ensures,
+      ← c11 .load162 .ensures,
+      ← c10 .byte3 .ensures,
+      ← c9 .byte4 .ensures,
+      ← c4 .vc-form .ensures,
+      ← c2 .vc-may .ensures (c14 .load16 .result) (c12 .byte2 .result) (c9 .byte4 .result),
+      ← c8 .is-after .ensures,
+      not-false (c8 .is-after .result) (c7 .if1 .left),
+      eq-eqb _ _ (c5 .if2 .left),
+      not-false (c4 .vc-form .result) (c3 .if3 .left),
+      not-true (c2 .vc-may .result) (c .before .if4 .taken),
+    ) (c .forbid .ensures)
 
 wrapping-add-usize-requires : tie.Need-wrapping-add-usize-requires
 wrapping-add-usize-requires c κs = search needs
@@ -97,7 +138,27 @@ put-bit-requires c κs = search needs
 
 returns-5 : tie.Need-returns-5
 unfolding vcStep putBit64
-returns-5 c = rw (← c .before .before .before .before .before .before .before .before .before .before .before .before .before .before .before .before .load16 .ensures, ← c .before .before .before .before .before .before .before .before .before .before .before .before .before .before .before .byte .ensures, ← c .before .before .before .before .before .before .before .before .before .before .before .before .before .before .byte2 .ensures, ← c .before .before .before .before .before .before .before .before .before .before .before .before .before .load162 .ensures, ← c .before .before .before .before .before .before .before .before .before .before .before .before .byte3 .ensures, ← c .before .before .before .before .before .before .before .before .before .before .before .byte4 .ensures, ← c .before .before .before .before .before .before .vc-form .ensures, ← c .before .before .before .before .vc-may .ensures (c .before .before .before .before .before .before .before .before .before .before .before .before .before .before .before .before .load16 .result) (c .before .before .before .before .before .before .before .before .before .before .before .before .before .before .byte2 .result) (c .before .before .before .before .before .before .before .before .before .before .before .byte4 .result), ← c .before .before .before .before .before .before .before .before .before .before .is-after .ensures, not-false (c .before .before .before .before .before .before .before .before .before .before .is-after .result) (c .before .before .before .before .before .before .before .before .before .if1 .left), eq-eqb _ _ (c .before .before .before .before .before .before .before .if2 .left), not-false (c .before .before .before .before .before .before .vc-form .result) (c .before .before .before .before .before .if3 .left), not-false (c .before .before .before .before .vc-may .result) (c .before .before .before .if4 .left), ← c .before .before .wrapping-add-usize .ensures, ← c .put-bit .ensures)
+returns-5 c =
+    let c2 = c .before .before in let c3 = c2 .before in let c4 = c3 .before in let c5 = c4 .before in let c6 = c5 .before in
+    let c7 = c6 .before in let c9 = c7 .before .before in let c10 = c9 .before in let c11 = c10 .before in let c12 = c11 .before in
+    let c13 = c12 .before in let c14 = c13 .before in let c15 = c14 .before in let c16 = c15 .before in
+    rw (
+      ← c16 .load16 .ensures,
+      ← c15 .byte .ensures,
+      ← c14 .byte2 .ensures,
+      ← c13 .load162 .ensures,
+      ← c12 .byte3 .ensures,
+      ← c11 .byte4 .ensures,
+      ← c6 .vc-form .ensures,
+      ← c4 .vc-may .ensures (c16 .load16 .result) (c14 .byte2 .result) (c11 .byte4 .result),
+      ← c10 .is-after .ensures,
+      not-false (c10 .is-after .result) (c9 .if1 .left),
+      eq-eqb _ _ (c7 .if2 .left),
+      not-false (c6 .vc-form .result) (c5 .if3 .left),
+      not-false (c4 .vc-may .result) (c3 .if4 .left),
+      ← c2 .wrapping-add-usize .ensures,
+      ← c .put-bit .ensures,
+    )
 
 pub step-vc-spec : {M : Type 1} → statement M
 step-vc-spec =

@@ -1,4 +1,5 @@
 -- Each test by itself. Assumes nothing.
+-- Below, c2 is the place two before c, and so on.
 use borrow.Author.Tests.{eq-eqb, ne-eqb, not-true, not-false}
 use Rattle.image_step.specs.Step.{vmStep}
 use borrow.Author.Needs.{needs}
@@ -29,7 +30,16 @@ reject-requires-2 c κs = search needs
 
 returns-2 : tie.Need-returns-2
 unfolding vmStep
-returns-2 c = rw (← c .before .before .before .before .load163 .ensures, ← c .before .before .before .before .before .before .load16 .ensures, ← c .before .before .before .before .before .load162 .ensures, eq-eqb _ _ (c .before .before .before .if1 .left), ← c .before .before .vm-form .ensures, not-true (c .before .before .vm-form .result) (c .before .if2 .taken)) (c .reject2 .ensures)
+returns-2 c =
+    let c2 = c .before .before in let c3 = c2 .before in let c4 = c3 .before in let c5 = c4 .before in let c6 = c5 .before in
+    rw (
+      ← c4 .load163 .ensures,
+      ← c6 .load16 .ensures,
+      ← c5 .load162 .ensures,
+      eq-eqb _ _ (c3 .if1 .left),
+      ← c2 .vm-form .ensures,
+      not-true (c2 .vm-form .result) (c .before .if2 .taken),
+    ) (c .reject2 .ensures)
 
 vm-may-requires : tie.Need-vm-may-requires
 vm-may-requires c κs = search needs
@@ -39,14 +49,38 @@ forbid-requires c κs = search needs
 
 returns-3 : tie.Need-returns-3
 unfolding vmStep
-returns-3 c = rw (← c .before .before .before .before .before .before .load163 .ensures, ← c .before .before .before .before .before .before .before .before .load16 .ensures, ← c .before .before .before .before .before .before .before .load162 .ensures, eq-eqb _ _ (c .before .before .before .before .before .if1 .left), ← c .before .before .before .before .vm-form .ensures, not-false (c .before .before .before .before .vm-form .result) (c .before .before .before .if2 .left), ← c .before .before .vm-may .ensures, not-true (c .before .before .vm-may .result) (c .before .if3 .taken)) (c .forbid .ensures)
+returns-3 c =
+    let c2 = c .before .before in let c3 = c2 .before in let c4 = c3 .before in let c5 = c4 .before in let c6 = c5 .before in
+    let c7 = c6 .before in let c8 = c7 .before in
+    rw (
+      ← c6 .load163 .ensures,
+      ← c8 .load16 .ensures,
+      ← c7 .load162 .ensures,
+      eq-eqb _ _ (c5 .if1 .left),
+      ← c4 .vm-form .ensures,
+      not-false (c4 .vm-form .result) (c3 .if2 .left),
+      ← c2 .vm-may .ensures,
+      not-true (c2 .vm-may .result) (c .before .if3 .taken),
+    ) (c .forbid .ensures)
 
 cast-t9 : tie.Need-cast-t9
 cast-t9 c = search needs
 
 returns-4 : tie.Need-returns-4
 unfolding vmStep
-returns-4 c = rw (← c .before .before .before .before .before .load163 .ensures, ← c .before .before .before .before .before .before .before .load16 .ensures, ← c .before .before .before .before .before .before .load162 .ensures, eq-eqb _ _ (c .before .before .before .before .if1 .left), ← c .before .before .before .vm-form .ensures, not-false (c .before .before .before .vm-form .result) (c .before .before .if2 .left), ← c .before .vm-may .ensures, not-false (c .before .vm-may .result) (c .if3 .left))
+returns-4 c =
+    let c2 = c .before .before in let c3 = c2 .before in let c4 = c3 .before in let c5 = c4 .before in let c6 = c5 .before in
+    let c7 = c6 .before in
+    rw (
+      ← c5 .load163 .ensures,
+      ← c7 .load16 .ensures,
+      ← c6 .load162 .ensures,
+      eq-eqb _ _ (c4 .if1 .left),
+      ← c3 .vm-form .ensures,
+      not-false (c3 .vm-form .result) (c2 .if2 .left),
+      ← c .before .vm-may .ensures,
+      not-false (c .before .vm-may .result) (c .if3 .left),
+    )
 
 pub step-vm-spec : {M : Type 1} → statement M
 step-vm-spec =

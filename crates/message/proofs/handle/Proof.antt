@@ -1,4 +1,5 @@
 -- Each verdict by itself: one that does not close is answered by what it did. Assumes nothing.
+-- Below, c2 is the place two before c, and so on; a is what the function was given.
 use mathlib.Core.Path.{_∙_}
 use mathlib.Core.Logic.{⊎-elim}
 use mir.Syntax.{w32}
@@ -30,7 +31,10 @@ same-length-2 : tie.Need-same-length-2
 same-length-2 c = search needs
 
 returns : tie.Need-returns
-returns c = c .before .before .before .before .close .ensures _ _ ∙ closes-as _ _ _ _ _ _ _ _ (c .before .before .before .before .before .before .before .before .before .before .before .mode-of .ensures) (c .before .before .before .before .before .before .before .before .before .judge .ensures) (c .before .before .before .before .before .before .before .enum-told .given .1)
+returns c =
+    let c4 = c .before .before .before .before in let c7 = c4 .before .before .before in let c9 = c7 .before .before in
+    let c11 = c9 .before .before in
+    c4 .close .ensures _ _ ∙ closes-as _ _ _ _ _ _ _ _ (c11 .mode-of .ensures) (c9 .judge .ensures) (c7 .enum-told .given .1)
 
 enum-known-v : tie.Need-enum-known-v
 enum-known-v c = search needs
@@ -65,16 +69,31 @@ same-length-6 c = ⊎-elim (λ w. rw (w .6) (search needs)) (λ w. rw (w .15) (s
 returns-2 : tie.Need-returns-2
 returns-2 c =
     let f : SFits w32 (c .before .before .before .before .before .before .before .match .e .code) = search needs in
-    let w = rw (toZ-ofZ f) at (c .before .before .before .answer .ensures) in
-    let x = effect (c .before .before .before .before .before .before .before .before .before .before .before .before .before .before .before .before .before .before .args .s) (c .before .before .before .before .before .before .before .match .e) (c .before .before .before .before .before .before .before .match .vcpus) (c .before .before .before .before .before .before .before .match .pages) (c .before .before .before .before .before .before .before .match .guest) in
-    let z : Follows (state (c .before .before .before .before .before .before .before .before .before .before .before .before .before .before .before .before .before .before .args .s) (c .before .before .before .before .before .before .before .before .before .before .before .before .before .before .before .before .before .before .args .vcpus .now) (c .before .before .before .before .before .before .before .before .before .before .before .before .before .before .before .before .before .before .args .pages .now)) (c .before .before .before .before .before .before .before .before .before .before .before .before .before .before .before .before .before .before .args .id) (c .before .before .before .before .before .before .before .before .before .before .before .before .before .before .before .before .before .before .args .seq) (c .before .before .before .before .before .before .before .before .before .before .before .before .before .before .before .before .before .before .args .d .now) (c .before .before .before .before .before .before .before .before .before .before .before .before .before .before .before .before .before .before .args .out .now) (c .before .before .before .before .before .before .before .before .before .before .before .before .before .before .before .before .before .before .args .guest .now) _ _ (c .before .before .before .before .before .before .before .before .before .before .mode-of .ensures) (c .before .before .before .before .before .before .before .before .judge .ensures) x
+    let c3 = c .before .before .before in let c7 = c3 .before .before .before .before in let c8 = c7 .before in let c10 = c8 .before .before in
+    let c18 = c10 .before .before .before .before .before .before .before .before in let a = c18 .args in
+    let w = rw (toZ-ofZ f) at (c3 .answer .ensures) in
+    let x = effect (a .s) (c7 .match .e) (c7 .match .vcpus) (c7 .match .pages) (c7 .match .guest) in
+    let z : Follows (state (a .s) (a .vcpus .now) (a .pages .now)) (a .id) (a .seq) (a .d .now) (a .out .now) (a .guest .now) _ _ (c10 .mode-of .ensures) (c8 .judge .ensures) x
     = ⊎-elim
     (λ w.
     let g : SFits w32 (w .1 .given .0 .0) = search needs in
-    fails-as _ _ _ _ _ _ _ _ (c .before .before .before .before .before .before .before .before .before .before .mode-of .ensures) (c .before .before .before .before .before .before .before .before .judge .ensures) _ x (w .1 .given .1) (simp (w .4, w .5, w .6, w .7, w .3 .ensures, toZ-ofZ g)))
-    (λ w. does-as _ _ _ _ _ _ _ _ (c .before .before .before .before .before .before .before .before .before .before .mode-of .ensures) (c .before .before .before .before .before .before .before .before .judge .ensures) _ x (w .1 .given .1) (rw (w .13, w .14, w .15, w .16) (w .6 .ensures)))
-    (c .before .before .before .before .before .before .before .match .came) in
-    answered-as (c .before .before .before .before .before .before .before .before .before .before .before .before .before .before .before .before .before .before .args .s) (c .before .before .before .before .before .before .before .match .e) _ _ _ _ _ _ _ _ _ (c .answered .result) w (z .0) (c .answered .ensures .0) (c .answered .ensures .1) ∙ z .1
+    fails-as _ _ _ _ _ _ _ _ (c10 .mode-of .ensures) (c8 .judge .ensures) _ x (w .1 .given .1) (simp (
+      w .4,
+      w .5,
+      w .6,
+      w .7,
+      w .3 .ensures,
+      toZ-ofZ g,
+    )))
+    (λ w. does-as _ _ _ _ _ _ _ _ (c10 .mode-of .ensures) (c8 .judge .ensures) _ x (w .1 .given .1) (rw (
+      w .13,
+      w .14,
+      w .15,
+      w .16,
+    ) (w .6 .ensures)))
+    (c7 .match .came) in
+    answered-as (a .s) (c7 .match .e) _ _ _ _ _ _ _ _ _ (c .answered .result) w (z .0) (c .answered .ensures .0) (c .answered .ensures .1)
+    ∙ z .1
 
 pub handle-spec : {M : Type 1} → statement M
 handle-spec =
