@@ -14,7 +14,9 @@ use Rattle.message.specs.Message.{messageOf}
 use Rattle.entry.specs.Entry.{enterOf}
 use Rattle.image_writer.specs.Write.{statedTables, imageOf}
 use Rattle.image_reader.specs.Read.{readOf}
+use Rattle.vcpu_list.specs.List.{One}
 use Rattle.calls.specs.declared.Returned.{Returned}
+use Rattle.calls.specs.declared.ListReturned.{ListReturned}
 
 -- "signal: none, kick(vCPU, wait), crash(vCPU)"
 abbrev pub signalNumber : Signal → ℕ
@@ -34,11 +36,12 @@ signalWaits (Crash vcpu) = 0
 
 -- how many words are lent for an answer's values
 abbrev pub resultWordCount : ℕ
-resultWordCount = 5
+resultWordCount = 12
 
--- an answer's values, as struct semblurick_result has them
+-- an answer's values, as struct semblurick_result has them; seven words are not used and 0
 abbrev pub resultWords : Paper → List ℕ
-resultWords p = p .count ∷ p .offset ∷ signalNumber (p .signal) ∷ signalVcpu (p .signal) ∷ signalWaits (p .signal) ∷ []
+resultWords p =
+    p .count ∷ p .offset ∷ signalNumber (p .signal) ∷ signalVcpu (p .signal) ∷ signalWaits (p .signal) ∷ 0 ∷ 0 ∷ 0 ∷ 0 ∷ 0 ∷ 0 ∷ 0 ∷ []
 
 pub record Given : Type 0 where
   pub done : Returned
@@ -82,3 +85,7 @@ writeGiven s vcpus pages out = given (imageOf (state s vcpus pages) out)
 
 unfoldable pub readGiven : Session → List ℕ → List ℕ → List ℕ → Given
 readGiven s vcpus pages image = given (readOf (s .settings) image vcpus pages)
+
+-- ---- the calls on a list of vCPU records, on one record: document 01's number of the answer, and the record after it
+abbrev pub oneGiven : One → ListReturned
+oneGiven o = record { vcpu = o .vcpu; code = o .answer .number }

@@ -5,15 +5,18 @@ use kvmi::Signal;
 use page_words::PageWords;
 use session::Session;
 use store::words::VcpuWords;
+use vcpu_list::Vcpu;
 ghost use mathlib.Core.Path.{_≡_};
 ghost use Prim.Native.Nat.{min};
 ghost use mathlib.Core.List.{[]};
-ghost use Rattle.kvmi.specs.Answer.{paper, plain};
+ghost use Rattle.kvmi.specs.Answer.{paper};
+ghost use Rattle.kvmi.specs.Settings.{isSet};
 ghost use Rattle.session.specs.Calls.{told};
-ghost use Rattle.calls.specs.Given.{resultWords, given, freshGiven, readyGiven, messageGiven, enterGiven, sizeGiven, writeGiven, readGiven};
+ghost use Rattle.vcpu_list.specs.List.{one, oneReady, oneCr};
+ghost use Rattle.calls.specs.Given.{resultWords, given, freshGiven, readyGiven, messageGiven, enterGiven, sizeGiven, writeGiven, readGiven, oneGiven};
 
-// How many words are lent for an answer's values.
-pub const RESULT_WORDS: usize = 5;
+// How many words are lent for an answer's values: its five, and seven that are 0.
+pub const RESULT_WORDS: usize = 12;
 
 pub type ResultWords = [u64; RESULT_WORDS];
 
@@ -25,52 +28,46 @@ pub struct Returned {
 
 // ---- an answer as numbers
 
-// An answer without values: zeros. Its number is given back.
-fn put_plain(result: &mut ResultWords, number: u32) -> u32
-    ensures { λ r. ⌜ (r ≡ number) × (now (result .exit) ≡ resultWords (plain number)) ⌝ }
-{
-    *result = [0; RESULT_WORDS];
-    number
-}
-
 // An answer's values, into the words lent for them; its number is given back.
 fn put_result(result: &mut ResultWords, a: Answer) -> u32
     ensures { λ r. ⌜ (r ≡ paper a .number) × (now (result .exit) ≡ resultWords (paper a)) ⌝ }
 {
+    *result = [0; RESULT_WORDS];
     match a {
         Answer::Handled(values) => {
-            let count = values.count;
             let signal = values.signal;
+            result[0] = values.count as u64;
             match signal {
-                Signal::Quiet => {
-                    *result = [count as u64, 0, 0, 0, 0];
-                }
+                Signal::Quiet => {}
                 Signal::Kick { vcpu, wait } => {
-                    *result = [count as u64, 0, 1, vcpu as u64, wait as u64];
+                    result[2] = 1;
+                    result[3] = vcpu as u64;
+                    result[4] = wait as u64;
                 }
                 Signal::Crash { vcpu } => {
-                    *result = [count as u64, 0, 2, vcpu as u64, 0];
+                    result[2] = 2;
+                    result[3] = vcpu as u64;
                 }
             }
             0
         }
-        Answer::Closing => put_plain(result, 1),
-        Answer::Closed => put_plain(result, 2),
-        Answer::ShortOut => put_plain(result, 3),
-        Answer::BadVcpu => put_plain(result, 4),
-        Answer::BadState => put_plain(result, 5),
-        Answer::Waiting => put_plain(result, 6),
-        Answer::BadSettings => put_plain(result, 7),
+        Answer::Closing => 1,
+        Answer::Closed => 2,
+        Answer::ShortOut => 3,
+        Answer::BadVcpu => 4,
+        Answer::BadState => 5,
+        Answer::Waiting => 6,
+        Answer::BadSettings => 7,
         Answer::BadForm { offset } => {
-            *result = [0, offset as u64, 0, 0, 0];
+            result[1] = offset as u64;
             8
         }
         Answer::Forbidden { offset } => {
-            *result = [0, offset as u64, 0, 0, 0];
+            result[1] = offset as u64;
             9
         }
-        Answer::Busy => put_plain(result, 10),
-        Answer::NotApplicable => put_plain(result, 14),
+        Answer::Busy => 10,
+        Answer::NotApplicable => 14,
     }
 }
 
@@ -85,7 +82,7 @@ fn finish(done: session::Done, result: &mut ResultWords) -> Returned
 }
 
 // A vCPU number of a host, which may be any: past u16, the last u16, which no session has.
-fn vcpu_number(vcpu: u32) -> u16
+pub fn vcpu_number(vcpu: u32) -> u16
     ensures { λ r. ⌜ r ≡ min vcpu 65535 ⌝ }
 {
     if vcpu < 65535 { vcpu as u16 } else { 65535 }
@@ -198,4 +195,36 @@ pub fn image_size(s: Session, vcpus: &VcpuWords, pages: &PageWords) -> usize
     ensures { λ r. ⌜ r ≡ sizeGiven s (now (vcpus .entry)) (now (pages .entry)) ⌝ }
 {
     image_writer::image_size(s, vcpus, pages)
+}
+
+// ---- the calls on a list of vCPU records that the host keeps, on one record
+
+// What such a call gives: the record after it, and the answer's number.
+pub struct ListReturned {
+    pub vcpu: Vcpu,
+    pub code: u32,
+}
+
+fn list_returned(changed: vcpu_list::Changed) -> ListReturned
+    ensures { λ r. ⌜ r ≡ oneGiven (one changed) ⌝ }
+{
+    let vcpu = changed.vcpu;
+    let answer = changed.answer;
+    let mut values = [0; RESULT_WORDS];
+    let code = put_result(&mut values, answer);
+    ListReturned { vcpu, code }
+}
+
+// A record that can be introspected from now on.
+pub fn list_ready(v: Vcpu) -> ListReturned
+    ensures { λ r. ⌜ r ≡ oneGiven (oneReady v) ⌝ }
+{
+    list_returned(vcpu_list::readied(v))
+}
+
+// A record with the switch of one control register: on where `on` is not 0.
+pub fn list_cr(v: Vcpu, cr: u32, on: u32) -> ListReturned
+    ensures { λ r. ⌜ r ≡ oneGiven (oneCr v cr (isSet on)) ⌝ }
+{
+    list_returned(vcpu_list::with_cr(v, cr, on != 0))
 }

@@ -7,4 +7,6 @@ pub mod Demand2
 pub mod Demand3
 pub mod Unsteered
 pub mod Carried
+pub mod Closed
+pub mod Lookups
 pub mod Pauses

@@ -18,7 +18,7 @@ pub fn put_bit(w: u64, k: u32, on: bool) -> u64
 }
 
 // The bit of a control register's switch.
-fn cr_bit(cr: u32) -> u32
+pub fn cr_bit(cr: u32) -> u32
     ensures { λ r. ⌜ r ≡ crBit cr ⌝ }
 {
     if cr == 0 {

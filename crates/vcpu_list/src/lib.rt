@@ -36,7 +36,8 @@ fn handled(vcpu: Vcpu) -> Changed
     }
 }
 
-fn readied(mut v: Vcpu) -> Changed
+// Ready from now on.
+pub fn readied(mut v: Vcpu) -> Changed
     ensures { λ r. ⌜ one r ≡ oneReady v ⌝ }
 {
     v.ready = 1;
@@ -44,7 +45,7 @@ fn readied(mut v: Vcpu) -> Changed
 }
 
 // The switch of one control register, where there is one for it and the record is ready.
-fn with_cr(mut v: Vcpu, cr: u32, on: bool) -> Changed
+pub fn with_cr(mut v: Vcpu, cr: u32, on: bool) -> Changed
     ensures { λ r. ⌜ one r ≡ oneCr v cr on ⌝ }
 {
     if tests::is_cr(cr) & (v.ready != 0) {

@@ -1,0 +1,87 @@
+-- "Closing makes all this fresh, drops awaited events and stays closed": over every list of calls, a model that is closed is the closed one. Assumes nothing.
+use mathlib.Core.Path.{_≡_, refl, sym, _∙_}
+use Prim.Native.Nat.{ℕ}
+use mathlib.Core.List.{List, [], _∷_}
+use mathlib.Core.Bool.{Bool, true, false, cond, not}
+use lib.ListN.{length, drop}
+use lib.Dec.{leb, ltb, eqb}
+use Rattle.wire.specs.declared.Header.{Header}
+use Rattle.wire.specs.declared.Header.the-variants.{Whole, Broken}
+use Rattle.wire.specs.Header.{headerOf}
+use Rattle.kvmi.specs.declared.Settings.{Settings}
+use Rattle.kvmi.specs.declared.Change.{Change}
+use Rattle.kvmi.specs.declared.Change.the-variants.{Nothing, SetVmEvent, WritePhysical, QueuePause, SetVcpuEvent, SetCr, SetMsr, SetPages, SetSinglestep, SetReplies, EndWait}
+use Rattle.kvmi.specs.declared.Verdict.{Verdict}
+use Rattle.kvmi.specs.declared.Verdict.the-variants.{Closes, Fails, Does}
+use Rattle.kvmi.specs.Model.{Model, closedModel, awaitedBy, isSome}
+use Rattle.kvmi.specs.Tables.{vcpuAt}
+use Rattle.kvmi.specs.Image.{image}
+use Rattle.kvmi.specs.Message.{vcpuOf}
+use Rattle.kvmi.specs.Verdict.{factsOf, verdict}
+use Rattle.kvmi.specs.Change.{apply}
+use Rattle.kvmi.specs.Call.{Step, Call, message, ready, enter, writeImage, unchanged, answering, judged, headed, messageStep, readyStep, pausing, enterStep, awaitsAny, imageStep, step, move, after}
+use Rattle.laws.proofs.Bool.{clash}
+use Rattle.laws.proofs.Verdicts.{pick}
+
+-- a model that is closed is the closed one
+abbrev pub Rests : Settings → Model → Type 0
+Rests s m = m .closed ≡ true → m ≡ closedModel s
+
+-- no change closes
+apply-lives : (m : Model) (guest d : List ℕ) (c : Change) → apply m guest d c .model .closed ≡ m .closed
+unfolding apply
+apply-lives m guest d Nothing = refl
+apply-lives m guest d (SetVmEvent on event) = refl
+apply-lives m guest d (WritePhysical gpa) = refl
+apply-lives m guest d (QueuePause wait vcpu) = refl
+apply-lives m guest d (SetVcpuEvent on vcpu event) = refl
+apply-lives m guest d (SetCr on vcpu cr) = refl
+apply-lives m guest d (SetMsr on vcpu msr) = refl
+apply-lives m guest d (SetPages view count) = refl
+apply-lives m guest d (SetSinglestep on vcpu) = refl
+apply-lives m guest d (SetReplies now mode) = refl
+apply-lives m guest d (EndWait crash vcpu) = refl
+
+module _ (s : Settings) (m : Model) (rests : Rests s m) where
+  abbrev R : Step → Type 0
+  R r = Rests s (r .model)
+
+  -- an open model that is open still
+  still-lives : {C : Type 0} → m .closed ≡ false → (b : Bool) → b ≡ m .closed → b ≡ true → C
+  still-lives lives b same h = clash h (same ∙ lives)
+
+  judged-rests : (id seq : ℕ) (d out guest : List ℕ) → m .closed ≡ false → (v : Verdict) → R (judged s m id seq d out guest v)
+  unfolding judged answering
+  judged-rests id seq d out guest lives Closes = λ _. refl
+  judged-rests id seq d out guest lives (Fails code) = still-lives lives _ refl
+  judged-rests id seq d out guest lives (Does c) = still-lives lives _ (apply-lives m guest d c)
+
+  headed-rests : (d out guest : List ℕ) → m .closed ≡ false → (h : Header) → R (headed s m d out guest h)
+  unfolding headed
+  headed-rests d out guest lives Broken = λ _. refl
+  headed-rests d out guest lives (Whole id size seq) = judged-rests id seq d out guest lives (verdict s (factsOf m (length guest) (vcpuOf d)) id seq d)
+
+  step-rests : (c : Call) → R (step s m c)
+  unfolding step messageStep readyStep enterStep pausing imageStep
+  step-rests (message msg out guest) =
+      pick R (m .closed) _ _ (λ _. rests)
+      (λ lives. pick R (ltb (length out) 4112) _ _ (λ _. rests) (λ _. headed-rests (drop 8 msg) out guest lives (headerOf msg)))
+  step-rests (ready vcpu) =
+      pick R (m .closed) _ _ (λ _. rests)
+      (λ lives. pick R (leb (s .vcpus) vcpu) _ _ (λ _. rests) (λ _. still-lives lives _ refl))
+  step-rests (enter vcpu block out) =
+      pick R (m .closed) _ _ (λ _. rests)
+      (λ lives. pick R (leb (s .vcpus) vcpu) _ _ (λ _. rests)
+      (λ _. pick R (not (eqb (length block) 536)) _ _ (λ _. rests)
+      (λ _. pick R (ltb (length out) 552) _ _ (λ _. rests)
+      (λ _. pick R (isSome (awaitedBy m vcpu)) _ _ (λ _. rests)
+      (λ _. pick R (leb 1 (vcpuAt (m .tables) vcpu .pauses)) _ _ (λ _. still-lives lives _ refl) (λ _. rests))))))
+  step-rests (writeImage out) =
+      pick R (m .closed) _ _ (λ _. rests)
+      (λ _. pick R (awaitsAny (m .awaited)) _ _ (λ _. rests)
+      (λ _. pick R (ltb (length out) (length (image (m .tables)))) _ _ (λ _. rests) (λ _. rests)))
+
+pub after-rests : (s : Settings) (m : Model) (cs : List Call) → Rests s m → Rests s (after s m cs)
+unfolding after move
+after-rests s m [] r = r
+after-rests s m (c ∷ cs) r = after-rests s (step s m c .model) cs (step-rests s m r c)
