@@ -6,6 +6,7 @@ use denote.Signature.{Slot, plain}
 use Rattle.store.specs.Words.{vcpuWordCount}
 use Rattle.page_words.specs.PageWords.{pageWordCount}
 use Rattle.calls.specs.Given.{resultWordCount}
+use Rattle.lookup.specs.Lookup.{pageNumberCount}
 
 abbrev Words : ℕ → RattleType
 Words count = Array u64 tt count
@@ -30,3 +31,9 @@ ResultWords = Words resultWordCount
 
 abbrev pub ResultSlot : {n : ℕ} → Slot n
 ResultSlot = WordsSlot resultWordCount
+
+abbrev pub PageNumbers : RattleType
+PageNumbers = Words pageNumberCount
+
+abbrev pub PageNumbersSlot : {n : ℕ} → Slot n
+PageNumbersSlot = WordsSlot pageNumberCount

@@ -1,4 +1,4 @@
--- `host::semblurick_image_size` meets its contract: a walk of its MIR, by hand.
+-- `host::semblurick_raw_image_size` meets its contract: a walk of its MIR, by hand.
 -- The Session is lent as `&`: the borrow is looked into, the Session is copied into a local, the borrow is shut, and `image_size` is called on the copy.
 -- A shared reference that is passed on is Copy: one copy goes to the callee, the other is kept for the exit.
 -- Assumes nothing.
@@ -46,10 +46,10 @@ use Rattle.calls.proofs.image_size as callee
 use Rattle.calls.proofs.image_size.Symbol as callee-def
 use Rattle.calls.proofs.image_size.Symbol.{name as #callee}
 use Rattle.calls.proofs.image_size.Met as callee-thm
-use Rattle.host.proofs.semblurick_image_size.Key.{name as #self}
-use Rattle.host.proofs.semblurick_image_size as f
-use Rattle.host.proofs.semblurick_image_size.Statement as stated
-use Rattle.host.proofs.semblurick_image_size.Code as code
+use Rattle.host.proofs.semblurick_raw_image_size.Key.{name as #self}
+use Rattle.host.proofs.semblurick_raw_image_size as f
+use Rattle.host.proofs.semblurick_raw_image_size.Statement as stated
+use Rattle.host.proofs.semblurick_raw_image_size.Code as code
 
 abbrev stayed : Stays (f.ended .signature .params) (f.ended .kept)
 stayed = (stay-none-ref (0 ∷ []) tt (plain (λ _. S.the-row)) yes, (stay-none-ref (1 ∷ []) tt VcpuSlot yes, (stay-none-ref (2 ∷ []) tt PageSlot yes, tt)))
@@ -133,24 +133,24 @@ module _ {M : Type 1} (𝓤 : URA M) (H : Heap 𝓤) (A : Atoms 𝓤) (W : Given
         keep ! (4 ∷ 3 ∷ 2 ∷ 1 ∷ 0 ∷ 5 ∷ 6 ∷ []) $ by ! (exits r v e)))))))))))))
 
 module _ {M : Type 1} (𝓤 : URA M) (H : Heap 𝓤) (A : Atoms 𝓤) (W : Given 𝓤 H A) (at-mem : Memory → SProp 𝓤) (run : Routine → Fun 𝓤) where
-  semblurick-image-size-walks : (C : Calls 𝓤 H) (Λ : Loops 𝓤 H) → FmC 𝓤 H (W .laws) C → Triple 𝓤 (C #callee) (Callee 𝓤 H A at-mem run) → Walks 𝓤 H A f.ended stayed (WpFn 𝓤 H C Λ code.function) (f.clauses 𝓤 H A at-mem run)
-  semblurick-image-size-walks C Λ fm known = walked 𝓤 H A f.ended stayed (f.clauses 𝓤 H A at-mem run) (WpFn 𝓤 H C Λ code.function)
+  semblurick-raw-image-size-walks : (C : Calls 𝓤 H) (Λ : Loops 𝓤 H) → FmC 𝓤 H (W .laws) C → Triple 𝓤 (C #callee) (Callee 𝓤 H A at-mem run) → Walks 𝓤 H A f.ended stayed (WpFn 𝓤 H C Λ code.function) (f.clauses 𝓤 H A at-mem run)
+  semblurick-raw-image-size-walks C Λ fm known = walked 𝓤 H A f.ended stayed (f.clauses 𝓤 H A at-mem run) (WpFn 𝓤 H C Λ code.function)
       (λ κs. (ptr-vals, (ptr-vals, (ptr-vals, tt)))) (λ κs. (shr-tells (named 0) (κs .0) S.the-row, (shr-tells (named 1) (κs .1 .0) VcpuWords, (shr-tells (named 2) (κs .1 .1 .0) PageWords, tt))))
       (λ κs qs bounds a _ are. via 𝓤 _ (fst∗ 𝓤 _ (emp 𝓤)) (walk 𝓤 H A W at-mem run (κs .0) (κs .1 .0) (κs .1 .1 .0) (qs .0) (qs .1 .0) (qs .1 .1 .0) (a .0 .ptr .0) (a .0 .ptr .1) (a .0 .name) (a .0 .now) (a .1 .0) (a .1 .1 .0) C Λ fm known))
 
   goes : AllGo 𝓤 H A W 3 (f.signature .params) (f.ended .kept) stayed
   goes = (goes-none-ref 𝓤 H A W 3 (0 ∷ []) tt (plain (λ _. S.the-row)) yes, (goes-none-ref 𝓤 H A W 3 (1 ∷ []) tt VcpuSlot yes, (goes-none-ref 𝓤 H A W 3 (2 ∷ []) tt PageSlot yes, tt)))
 
-semblurick-image-size-meets : {M : Type 1} (𝓤 : URA M) (H : Heap 𝓤) (A : Atoms 𝓤) → Given 𝓤 H A → (at-mem : Memory → SProp 𝓤) (run : Routine → Fun 𝓤) (𝓣 : Tables 𝓤 H) → Triple 𝓤 (𝓣 .C #callee) (Callee 𝓤 H A at-mem run)
+semblurick-raw-image-size-meets : {M : Type 1} (𝓤 : URA M) (H : Heap 𝓤) (A : Atoms 𝓤) → Given 𝓤 H A → (at-mem : Memory → SProp 𝓤) (run : Routine → Fun 𝓤) (𝓣 : Tables 𝓤 H) → Triple 𝓤 (𝓣 .C #callee) (Callee 𝓤 H A at-mem run)
     → Meets 𝓤 H A f.signature (WpFn 𝓤 H (𝓣 .C) (𝓣 .Λ) code.function) (f.spec 𝓤 H A at-mem run)
-semblurick-image-size-meets 𝓤 H A W at-mem run 𝓣 known =
+semblurick-raw-image-size-meets 𝓤 H A W at-mem run 𝓣 known =
     walk-meets 𝓤 H A f.ended stayed W (goes 𝓤 H A W at-mem run) (f.clauses 𝓤 H A at-mem run) (WpFn 𝓤 H (𝓣 .C) (𝓣 .Λ) code.function) (WpFn-mono 𝓤 H (W .laws) 𝓣 code.function)
-    (semblurick-image-size-walks 𝓤 H A W at-mem run (𝓣 .C) (𝓣 .Λ) (fmOf 𝓤 H (W .laws) 𝓣) known)
+    (semblurick-raw-image-size-walks 𝓤 H A W at-mem run (𝓣 .C) (𝓣 .Λ) (fmOf 𝓤 H (W .laws) 𝓣) known)
 
-pub semblurick-image-size-spec : {M : Type 1} → stated.statement M
+pub semblurick-raw-image-size-spec : {M : Type 1} → stated.statement M
 unfolding code.routine tablesOf
-semblurick-image-size-spec 𝓤 H 𝓜 𝓖 𝓡 =
+semblurick-raw-image-size-spec 𝓤 H 𝓜 𝓖 𝓡 =
     entered 𝓤 H (tripleOf 𝓤 H (𝓖 .A) f.signature (f.spec 𝓤 H (𝓖 .A) (𝓜 .mem) (𝓡 .run)))
     (tables 𝓤 H 𝓜 𝓡 code.env .C) (tables 𝓤 H 𝓜 𝓡 code.env .Λ) #self code.function (code.unfolded 𝓤 H 𝓜 𝓡)
-    (semblurick-image-size-meets 𝓤 H (𝓖 .A) (givenOf 𝓤 H 𝓜 𝓖) (𝓜 .mem) (𝓡 .run) (tablesOf 𝓤 H 𝓜 (tables 𝓤 H 𝓜 𝓡 code.env))
+    (semblurick-raw-image-size-meets 𝓤 H (𝓖 .A) (givenOf 𝓤 H 𝓜 𝓖) (𝓜 .mem) (𝓡 .run) (tablesOf 𝓤 H 𝓜 (tables 𝓤 H 𝓜 𝓡 code.env))
     (cited 𝓤 H (Callee 𝓤 H (𝓖 .A) (𝓜 .mem) (𝓡 .run)) 𝓜 𝓡 code.env #callee callee-def.routine code.calls-calls·image-size (callee-thm.met 𝓤 H 𝓜 𝓖 𝓡)))
