@@ -1,60 +1,253 @@
-/* A host in C: takes the messages that stand end to end in a file, answers them, lets a kicked vCPU enter the guest, and hands the
- * session over by an image. Usage: host FILE */
+/* A host in C: takes the messages that stand end to end in a file, answers them, programs what they switch, lets a kicked vCPU enter
+ * the guest, and hands the session over by an image. Usage: host FILE */
 #include <stdio.h>
 #include <stdlib.h>
 #include <string.h>
 
 #include "semblurick.h"
 
-static struct semblurick here, there;  /* this host's session, and the new host's */
-static uint8_t stream[1 << 16], out[SEMBLURICK_MESSAGE_OUT], guest[4 * 4096], image[2][SEMBLURICK_IMAGE_MAX];
+enum { VCPUS = 2, VIEWS = 1, EVENTS = 16, CRS = 5, MSRS = 0x2000 };
 
-/* The vCPU leaves the guest, and is about to enter it again: a queued pause is told now. */
-static void enter(uint32_t vcpu) {
-    static const uint8_t state[SEMBLURICK_STATE_BYTES] = {0};
-    struct semblurick_result r;
-    uint32_t answer = semblurick_enter(&here.session, &here.vcpus, vcpu, state, sizeof state, out, sizeof out, &r);
-    printf("vCPU %u enters: answer %u, %llu bytes\n", vcpu, answer, (unsigned long long)r.count);
+/* What this host has programmed, brought up to date by lookups; a real one writes page tables and a VMCS here. */
+struct hardware {
+    size_t pages;                                          /* below rwx: by view, then page */
+    struct semblurick_page page[SEMBLURICK_PAGE_LIMIT];
+    bool vm_event[EVENTS];
+    struct {
+        bool event[EVENTS], cr[CRS], singlestep;
+        bool msr[2][MSRS];                                 /* from 0 and from 0xC0000000 on */
+    } vcpu[VCPUS];
+};
+
+static struct semblurick here, there;             /* this host's session, and the new host's */
+static struct hardware programmed, stated;        /* what stands in hardware, and what an image states */
+static uint8_t msg[SEMBLURICK_MESSAGE_MAX], out[SEMBLURICK_MESSAGE_OUT], memory[4 * SEMBLURICK_PAGE_BYTES], image[2][SEMBLURICK_IMAGE_MAX];
+
+static void fail(const char *what, uint32_t answer) {
+    fprintf(stderr, "host: %s: answer %u, %s\n", what, answer, semblurick_answer_text(answer));
+    exit(1);
 }
 
-static uint32_t write_image(const struct semblurick *s, uint8_t *to, struct semblurick_result *r) {
-    return semblurick_image_write(&s->session, &s->vcpus, &s->pages, to, SEMBLURICK_IMAGE_MAX, r);
+/* ---- the hardware */
+
+static void set_page(struct hardware *h, uint32_t view, uint64_t page, uint32_t access) {
+    size_t i = 0;
+    while (i < h->pages && (h->page[i].view < view || (h->page[i].view == view && h->page[i].page < page))) i++;
+    struct semblurick_page *at = &h->page[i];
+    bool is_there = i < h->pages && at->view == view && at->page == page;
+    if (is_there && access == 7) memmove(at, at + 1, (--h->pages - i) * sizeof *at);
+    if (!is_there && access != 7) memmove(at + 1, at, (h->pages++ - i) * sizeof *at);
+    if (access != 7) at->view = view, at->page = page, at->access = access;
+}
+
+static void set_msr(struct hardware *h, uint32_t vcpu, uint32_t msr, bool on) {
+    if (msr % 0xC0000000 < MSRS) h->vcpu[vcpu].msr[msr / 0xC0000000][msr % 0xC0000000] = on;
+}
+
+/* The first `count` bytes of a message's data, if it has as many. */
+static bool get(void *to, size_t count, const uint8_t *data, size_t size) {
+    if (size >= count) memcpy(to, data, count);
+    return size >= count;
+}
+
+/* After a message: what it names, as it stands now. A message that was refused has changed nothing, and so does this. */
+static void program(struct hardware *h, const struct semblurick *s, size_t size) {
+    struct kvmi_msg_hdr header;
+    memcpy(&header, msg, sizeof header);
+    const uint8_t *data = msg + sizeof header;
+    size -= sizeof header;
+
+    switch (header.id) {
+    case KVMI_VM_CONTROL_EVENTS: {
+        struct kvmi_vm_control_events e;
+        if (get(&e, sizeof e, data, size) && e.event_id < EVENTS) h->vm_event[e.event_id] = semblurick_vm_event(s, e.event_id);
+        break;
+    }
+    case KVMI_VCPU_CONTROL_EVENTS: {
+        struct { struct kvmi_vcpu_hdr of; struct kvmi_vcpu_control_events its; } e;
+        if (get(&e, sizeof e, data, size) && e.of.vcpu < VCPUS && e.its.event_id < EVENTS)
+            h->vcpu[e.of.vcpu].event[e.its.event_id] = semblurick_vcpu_event(s, e.of.vcpu, e.its.event_id);
+        break;
+    }
+    case KVMI_VCPU_CONTROL_CR: {
+        struct { struct kvmi_vcpu_hdr of; struct kvmi_vcpu_control_cr its; } c;
+        if (get(&c, sizeof c, data, size) && c.of.vcpu < VCPUS && c.its.cr < CRS)
+            h->vcpu[c.of.vcpu].cr[c.its.cr] = semblurick_cr(s, c.of.vcpu, c.its.cr);
+        break;
+    }
+    case KVMI_VCPU_CONTROL_MSR: {
+        struct { struct kvmi_vcpu_hdr of; struct kvmi_vcpu_control_msr its; } m;
+        if (get(&m, sizeof m, data, size) && m.of.vcpu < VCPUS)
+            set_msr(h, m.of.vcpu, m.its.msr, semblurick_msr(s, m.of.vcpu, m.its.msr));
+        break;
+    }
+    case KVMI_VCPU_CONTROL_SINGLESTEP: {
+        struct kvmi_vcpu_hdr of;
+        if (get(&of, sizeof of, data, size) && of.vcpu < VCPUS) h->vcpu[of.vcpu].singlestep = semblurick_singlestep(s, of.vcpu);
+        break;
+    }
+    case KVMI_VM_SET_PAGE_ACCESS: {
+        struct kvmi_vm_set_page_access p;
+        struct kvmi_page_access_entry e;
+        if (!get(&p, sizeof p, data, size)) break;
+        /* first the pages that are at rwx again, so that there is room for the others */
+        for (int round = 0; round < 2; round++)
+            for (size_t at = sizeof p; get(&e, sizeof e, data + at, size - at); at += sizeof e) {
+                uint64_t page = e.gpa / SEMBLURICK_PAGE_BYTES;
+                uint32_t access = semblurick_access(s, p.view, page);
+                if ((access == 7) == (round == 0)) set_page(h, p.view, page, access);
+            }
+        break;
+    }
+    }
+}
+
+/* After a session began: everything. */
+static void program_all(struct hardware *h, const struct semblurick *s) {
+    memset(h, 0, sizeof *h);
+    for (uint32_t e = 0; e < EVENTS; e++) h->vm_event[e] = semblurick_vm_event(s, e);
+    for (uint32_t v = 0; v < VCPUS; v++) {
+        for (uint32_t e = 0; e < EVENTS; e++) h->vcpu[v].event[e] = semblurick_vcpu_event(s, v, e);
+        for (uint32_t c = 0; c < CRS; c++) h->vcpu[v].cr[c] = semblurick_cr(s, v, c);
+        for (uint32_t m = 0; m < MSRS; m++) {
+            h->vcpu[v].msr[0][m] = semblurick_msr(s, v, m);
+            h->vcpu[v].msr[1][m] = semblurick_msr(s, v, 0xC0000000 + m);
+        }
+        h->vcpu[v].singlestep = semblurick_singlestep(s, v);
+    }
+    for (size_t i = 0; i < semblurick_page_count(s); i++) {
+        struct semblurick_page p = semblurick_page_at(s, i);
+        set_page(h, p.view, p.page, p.access);
+    }
+}
+
+/* ---- the same, read off an image, to see that both agree */
+
+static uint64_t number(const uint8_t *bytes, int count) {
+    uint64_t n = 0;
+    while (count--) n = n << 8 | bytes[count];
+    return n;
+}
+
+static void read_records(struct hardware *h, const uint8_t *at) {
+    memset(h, 0, sizeof *h);
+    while (memcmp(at, "EN", 2)) {
+        uint32_t v = (uint32_t)number(at + 2, 2); /* a vCPU or a view; in VM the version */
+        if (!memcmp(at, "VM", 2)) {
+            for (int e = 0; e < EVENTS; e++) h->vm_event[e] = number(at + 6, 2) >> e & 1;
+            at += 8;
+        } else if (!memcmp(at, "VC", 2)) {
+            h->vcpu[v].singlestep = at[4] >> 1 & 1;
+            h->vcpu[v].cr[0] = at[5] & 1, h->vcpu[v].cr[3] = at[5] >> 1 & 1, h->vcpu[v].cr[4] = at[5] >> 2 & 1;
+            for (int e = 0; e < EVENTS; e++) h->vcpu[v].event[e] = number(at + 6, 2) >> e & 1;
+            at += 10;
+        } else if (!memcmp(at, "MS", 2)) {
+            set_msr(h, v, (uint32_t)number(at + 4, 4), true);
+            at += 8;
+        } else {
+            set_page(h, v, number(at + 6, 8), at[4]);
+            at += 14;
+        }
+    }
+}
+
+static bool is_same(const struct hardware *a, const struct hardware *b) {
+    for (size_t i = 0; i < a->pages && i < b->pages; i++)
+        if (a->page[i].view != b->page[i].view || a->page[i].page != b->page[i].page || a->page[i].access != b->page[i].access) return false;
+    return a->pages == b->pages && !memcmp(a->vm_event, b->vm_event, sizeof a->vm_event) && !memcmp(a->vcpu, b->vcpu, sizeof a->vcpu);
+}
+
+static void check(const uint8_t *bytes) {
+    read_records(&stated, bytes);
+    if (is_same(&programmed, &stated)) return;
+    printf("hardware: not as the image states\n");
+    exit(1);
+}
+
+static void count(const struct hardware *h) {
+    unsigned intercepts = 0, stepped = 0;
+    for (int e = 0; e < EVENTS; e++) intercepts += h->vm_event[e];
+    for (int v = 0; v < VCPUS; v++) {
+        for (int e = 0; e < EVENTS; e++) intercepts += h->vcpu[v].event[e];
+        for (int c = 0; c < CRS; c++) intercepts += h->vcpu[v].cr[c];
+        for (int m = 0; m < MSRS; m++) intercepts += h->vcpu[v].msr[0][m] + h->vcpu[v].msr[1][m];
+        stepped += h->vcpu[v].singlestep;
+    }
+    printf("hardware: %zu pages below rwx, %u intercepts, %u vCPUs single-stepped\n", h->pages, intercepts, stepped);
+}
+
+/* ---- the channel */
+
+static void send_to_tool(uint64_t bytes) { (void)bytes; /* the first `bytes` bytes of out */ }
+
+/* The vCPU leaves the guest. With wait set this returns when it is out. */
+static void kick(uint64_t vcpu, bool wait) { (void)vcpu, (void)wait; }
+
+/* The vCPU is about to enter the guest again: a queued pause is told now, and the vCPU waits for the tool's reply. */
+static void enter(uint32_t vcpu) {
+    static const uint8_t state[SEMBLURICK_STATE_BYTES] = {0}; /* its registers */
+    struct semblurick_result r;
+    uint32_t answer = semblurick_enter(&here, vcpu, state, sizeof state, semblurick_output_of(out, sizeof out), &r);
+    printf("vCPU %u enters: answer %u, %llu bytes\n", vcpu, answer, (unsigned long long)r.count);
+    send_to_tool(r.count);
+}
+
+static void take(size_t size) {
+    struct semblurick_result r;
+    uint32_t answer = semblurick_message(&here, msg, size, semblurick_output_of(out, sizeof out),
+                                         semblurick_memory_of(memory, sizeof memory), &r);
+    printf("message %u: answer %u, %llu bytes\n", msg[0], answer, (unsigned long long)r.count);
+    if (answer == SEMBLURICK_CLOSING) program_all(&programmed, &here); /* everything is off */
+    if (answer != SEMBLURICK_HANDLED) return;
+    program(&programmed, &here, size);
+    /* the reply says that it is done, and so it is: it goes out last, after the vCPU if the tool waits for that */
+    if (r.signal == SEMBLURICK_KICK) kick(r.vcpu, r.wait != 0);
+    send_to_tool(r.count);
+    if (r.signal == SEMBLURICK_KICK) enter((uint32_t)r.vcpu);
+    if (r.signal == SEMBLURICK_CRASH) printf("vCPU %llu is to be crashed\n", (unsigned long long)r.vcpu);
 }
 
 int main(int argc, char **argv) {
     FILE *file = argc == 2 ? fopen(argv[1], "rb") : NULL;
     if (!file) return fprintf(stderr, "usage: host FILE\n"), 2;
-    size_t size = fread(stream, 1, sizeof stream, file);
+
+    struct semblurick_settings settings = SEMBLURICK_SETTINGS;
+    settings.vcpus = VCPUS;
+    settings.views = VIEWS;
+    settings.commands = settings.events = SEMBLURICK_ALL;
+    settings.singlestep = settings.descriptors = 1;
+    uint32_t answer = semblurick_fresh(&here, &settings);
+    if (answer) fail("fresh", answer);
+    for (uint32_t i = 0; i < VCPUS; i++)
+        if ((answer = semblurick_ready(&here, i))) fail("ready", answer);
+
+    for (size_t n; (n = fread(msg, 1, sizeof(struct kvmi_msg_hdr), file)) > 0;) {
+        struct kvmi_msg_hdr header;
+        memcpy(&header, msg, sizeof header);
+        if (n == sizeof header) n += fread(msg + n, 1, header.size, file);
+        take(n); /* a cut one closes the session */
+    }
     fclose(file);
 
     struct semblurick_result r;
-    const struct semblurick_settings settings = {
-        .vcpus = 2, .views = 1, .commands = ~0u, .events = ~0u, .singlestep = 1, .descriptors = 1};
-    here.session.settings = settings;
-    if (semblurick_fresh(&here.session, &here.vcpus, &here.pages, &r) != SEMBLURICK_HANDLED) return 1;
-    for (uint32_t i = 0; i < settings.vcpus; i++) semblurick_ready(&here.session, i, &r);
-
-    for (size_t at = 0; at < size;) {
-        size_t n = size - at < 8 ? size - at : 8 + (stream[at + 2] | (size_t)stream[at + 3] << 8);
-        if (n > size - at) n = size - at;
-        uint32_t answer = semblurick_message(&here.session, &here.vcpus, &here.pages, stream + at, n, out, sizeof out, guest,
-                                             sizeof guest, &r);
-        printf("message %u: answer %u, %llu bytes\n", stream[at], answer, (unsigned long long)r.count);
-        /* here the first r.count bytes of out go to the tool */
-        if (r.signal == SEMBLURICK_KICK) enter((uint32_t)r.vcpu);
-        if (r.signal == SEMBLURICK_CRASH) printf("vCPU %llu is to be crashed\n", (unsigned long long)r.vcpu);
-        at += n;
-    }
-
-    uint32_t answer = write_image(&here, image[0], &r);
+    answer = semblurick_image_write(&here, semblurick_output_of(image[0], sizeof image[0]), &r);
     printf("image: answer %u, %llu bytes\n", answer, (unsigned long long)r.count);
-    if (answer != SEMBLURICK_HANDLED) return 1;
-    size_t count = r.count;
-    there.session.settings = settings;
-    answer = semblurick_image_read(&there.session, &there.vcpus, &there.pages, image[0], count, &r);
+    if (answer) fail("image", answer);
+    check(image[0]);
+
+    /* on the new host */
+    size_t bytes = r.count;
+    answer = semblurick_image_read(&there, &settings, image[0], bytes, &r);
     printf("new host: answer %u\n", answer);
-    if (answer != SEMBLURICK_HANDLED || write_image(&there, image[1], &r) != SEMBLURICK_HANDLED) return 1;
-    int same = r.count == count && !memcmp(image[0], image[1], count);
+    if (answer) fail("new host", answer);
+    program_all(&programmed, &there);
+    answer = semblurick_image_write(&there, semblurick_output_of(image[1], sizeof image[1]), &r);
+    if (answer) fail("its image", answer);
+    bool same = r.count == bytes && !memcmp(image[0], image[1], bytes);
     printf("its image: %s\n", same ? "the same" : "another");
-    return same ? 0 : 1;
+    if (!same) return 1;
+    check(image[1]);
+    count(&programmed);
+    printf("hardware: as the image states\n");
+    return 0;
 }

@@ -1,36 +1,81 @@
-/* Semblurick: the host's end of a virtual machine introspection channel.
+/* Semblurick: the host's end of a virtual machine introspection (KVMI) channel.
  *
- * A guest's host keeps a struct semblurick, hands the messages of the introspection tool to it, and sends the tool what it
- * writes. Each call answers with a number of enum semblurick_answer; what else the answer has is in struct semblurick_result.
+ * A security tool sends messages about a guest: what is in its memory, which pages it may write, which registers to watch. The
+ * guest's host keeps a struct semblurick, hands it each message, sends the tool the bytes that it writes, and programs the hardware
+ * as its tables say, which it reads by lookups.
  *
- * What the host owes, and all that it owes: every pointer is to valid memory of the stated size and alignment, not null even
- * where the size is 0, no two arguments of one call overlap, and nobody else uses the memory of a call while it runs (for guest
- * memory that includes the guest's running vCPUs and its devices). Whatever bits stand there, every call ends, reads and writes
- * nothing else, and gives an answer that is fixed by what it was given.
+ *     static struct semblurick guest;                              43,080 bytes; where it stands is the host's affair
+ *     struct semblurick_settings s = SEMBLURICK_SETTINGS;          one vCPU, one view, nothing allowed
+ *     struct semblurick_result r;
+ *     s.commands = s.events = SEMBLURICK_ALL;
+ *     if (semblurick_fresh(&guest, &s) != SEMBLURICK_HANDLED) ..   then semblurick_ready for each vCPU
  *
- * Link with libhost.a (x86-64). C11 and C++11. Define SEMBLURICK_NO_KVMI_NAMES before the include where another header has
- * KVMI's names already.
+ *     for each message that the tool sends:
+ *         answer = semblurick_message(&guest, msg, msg_size, semblurick_output_of(out, sizeof out),
+ *                                     semblurick_memory_of(memory, memory_size), &r);
+ *         answer 0: the switches and pages that it names, by lookups, to hardware; where r.signal is a kick, get vCPU r.vcpu out
+ *             of the guest, with r.wait set before anything is sent; send the first r.count bytes of out to the tool
+ *         answer 1: the session is closed; take every guard off the guest, and end the connection
+ *     before a vCPU enters the guest: semblurick_enter
+ *     to hand the guest to a new host: semblurick_image_write here, semblurick_image_read there
+ *
+ * What the host owes, and all that it owes: every pointer is to valid memory of the stated size and alignment, not null even where
+ * the size is 0; no two arguments of one call overlap; and nobody else uses a session or a buffer of a call while it runs (of guest
+ * memory, see struct semblurick_memory). Calls on different guests may run at the same time. Whatever bits stand in the memory
+ * that is lent, every call ends, reads and writes nothing else, and gives an answer that is fixed by what it was given.
+ *
+ * Link with libsemblurick.a (x86-64; ./install puts it in place). C11 and C++11. Define SEMBLURICK_NO_KVMI_NAMES before the include
+ * where another header has KVMI's names already.
  */
 #ifndef SEMBLURICK_H
 #define SEMBLURICK_H
 
+/* Grows by one where names are added. Each section, or a name itself, says since which version it is there. A name that is there
+ * stays, means what it meant, and what compiled with it compiles again, but that the semblurick_raw_ functions may get more
+ * arguments. Structs may get more members, but for struct semblurick_result: compile with the header that came with the library.
+ * Enums may get more values: a switch over one has a default. */
+#define SEMBLURICK_VERSION 1
+
+#include <stdbool.h>
 #include <stddef.h>
 #include <stdint.h>
 
 #ifdef __cplusplus
 #define SEMBLURICK_ASSERT(fact) static_assert(fact, #fact)
-extern "C" {
+#define SEMBLURICK_CAST(type, value) static_cast<type>(value)
+#define SEMBLURICK_U32_ENUM(name) enum name : uint32_t
 #else
 #define SEMBLURICK_ASSERT(fact) _Static_assert(fact, #fact)
+#define SEMBLURICK_CAST(type, value) ((type)(value))
+#define SEMBLURICK_U32_ENUM(name) enum name
 #endif
 
-/* ---- sizes */
+/* The compiler warns where an answer is dropped. */
+#if defined(__cplusplus) && __cplusplus >= 201703L
+#define SEMBLURICK_CHECKED [[nodiscard]]
+#elif defined(__GNUC__)
+#define SEMBLURICK_CHECKED __attribute__((warn_unused_result))
+#else
+#define SEMBLURICK_CHECKED
+#endif
+
+#ifdef __cplusplus
+extern "C" {
+#endif
+
+SEMBLURICK_ASSERT(sizeof(size_t) == 8 && sizeof(void *) == 8);
+
+/* ---- sizes (since 1) */
 
 enum {
     SEMBLURICK_MAX_VCPUS = 16,
     SEMBLURICK_MAX_VIEWS = 8,
+    SEMBLURICK_PAGE_BYTES = 4096,
     SEMBLURICK_PAGE_LIMIT = 1024,     /* pages that can stand below rwx, in all views together */
     SEMBLURICK_PAUSE_LIMIT = 8,       /* pauses that can be queued for a vCPU */
+    SEMBLURICK_HEADER_BYTES = 8,      /* a message's header */
+    SEMBLURICK_MESSAGE_MAX = 65543,   /* the longest message that a header can state: 8 + 65,535 bytes */
+    SEMBLURICK_EVENT_MAX = 568,       /* the longest event, header included: a CMD_ERROR */
     SEMBLURICK_MESSAGE_OUT = 4112,    /* the least output for a message */
     SEMBLURICK_ENTRY_OUT = 552,       /* the least output for an entry: a pause event */
     SEMBLURICK_STATE_BYTES = 536,     /* a vCPU's register block */
@@ -39,61 +84,80 @@ enum {
     SEMBLURICK_PAGE_WORDS = 1024
 };
 
-/* ---- answers */
+/* ---- answers (since 1) */
 
-enum semblurick_answer {
-    SEMBLURICK_HANDLED = 0,       /* result: count, and signal with vcpu and wait */
-    SEMBLURICK_CLOSING = 1,       /* the message broke a rule that closes the session; nothing was written, no event is awaited */
-    SEMBLURICK_CLOSED = 2,        /* the session was closed */
-    SEMBLURICK_SHORT_OUT = 3,     /* the output is too small */
-    SEMBLURICK_BAD_VCPU = 4,      /* the vCPU is not below the count */
-    SEMBLURICK_BAD_STATE = 5,     /* the register block is not 536 bytes */
-    SEMBLURICK_WAITING = 6,       /* that vCPU's event reply is awaited */
-    SEMBLURICK_BAD_SETTINGS = 7,  /* a count is out of its range */
-    SEMBLURICK_BAD_FORM = 8,      /* the image breaks a rule; result: offset */
-    SEMBLURICK_FORBIDDEN = 9,     /* the image wants what the settings lack; result: offset */
-    SEMBLURICK_BUSY = 10          /* an event reply is awaited, so that there is no image */
+/* Every call is answered with one of these. From 2 on they are refusals: nothing changes in session, output or guest memory, but
+ * that semblurick_fresh and semblurick_image_read then leave a closed session. */
+SEMBLURICK_U32_ENUM(semblurick_answer) {
+    SEMBLURICK_HANDLED = 0,        /* result: count, and signal with vcpu and wait */
+    SEMBLURICK_CLOSING = 1,        /* the message broke a rule that closes the session; nothing was written, no event is awaited */
+    SEMBLURICK_CLOSED = 2,         /* the session was closed */
+    SEMBLURICK_SHORT_OUT = 3,      /* the output is too small */
+    SEMBLURICK_BAD_VCPU = 4,       /* the vCPU is not below the count */
+    SEMBLURICK_BAD_STATE = 5,      /* the register block is not 536 bytes */
+    SEMBLURICK_WAITING = 6,        /* that vCPU's event reply is awaited */
+    SEMBLURICK_BAD_SETTINGS = 7,   /* a count is out of its range */
+    SEMBLURICK_BAD_FORM = 8,       /* the image breaks a rule; result: offset */
+    SEMBLURICK_FORBIDDEN = 9,      /* the image wants what the settings lack; result: offset */
+    SEMBLURICK_BUSY = 10,          /* an event reply is awaited, so that there is no image */
+    SEMBLURICK_NOT_APPLICABLE = 14 /* semblurick_list_cr: a CR other than 0, 3 and 4, or a record that is not ready */
 };
+SEMBLURICK_ASSERT(sizeof(enum semblurick_answer) == 4);
 
+/* What the host has to do to a vCPU. */
 enum semblurick_signal {
     SEMBLURICK_NONE = 0,
-    SEMBLURICK_KICK = 1,  /* get vcpu out of the guest; with wait set the tool wants it out before it is answered */
-    SEMBLURICK_CRASH = 2  /* the tool asks that vcpu, and so the guest, be crashed */
+    SEMBLURICK_KICK = 1,  /* get vcpu out of the guest: a pause is queued for it. With wait set, it is out before anything more is sent */
+    SEMBLURICK_CRASH = 2  /* the tool asks that vcpu, and so the guest, be crashed; the session stays open */
 };
 
-/* The values of an answer; what an answer has none of is 0. */
+/* The values of an answer; what an answer has none of is 0. Every call that takes a result writes all of it. Its size is final:
+ * later versions give names to words of `reserved`, which are 0 until then. */
 struct semblurick_result {
     uint64_t count;   /* bytes written to the output; the rest of it is untouched */
-    uint64_t offset;  /* of the record for which an image was refused; its length, if the end is missing; the byte after the end */
+    uint64_t offset;  /* of the record for which an image was refused; the image's length, if EN is missing; the first byte behind EN, if any */
     uint64_t signal;  /* enum semblurick_signal */
     uint64_t vcpu;    /* of the signal */
     uint64_t wait;    /* of a kick: 1 or 0 */
+    uint64_t reserved[7];
 };
-SEMBLURICK_ASSERT(sizeof(struct semblurick_result) == 40);
+SEMBLURICK_ASSERT(sizeof(struct semblurick_result) == 96);
 
-/* ---- memory that the host owns */
+/* ---- settings (since 1) */
 
 /* What the host allows and has; fixed for a session. A flag is set where it is not 0. */
 struct semblurick_settings {
-    uint32_t vcpus;         /* 1 to 16 */
-    uint32_t views;         /* 1 to 8 */
-    uint32_t commands;      /* bit k: the tool may use command k; 1, 2, 3 and 16 it may always use */
-    uint32_t events;        /* bit k: the tool may use event k */
-    uint64_t tsc_speed;     /* told by KVMI_VCPU_GET_INFO */
-    uint8_t singlestep;     /* the five feature bytes of KVMI_GET_VERSION */
+    uint32_t vcpus;             /* 1 to 16 */
+    uint32_t views;             /* 1 to 8: sets of page rights, of which view 0 is the usual one */
+    uint32_t commands;          /* bit k: the tool may use command k; 1, 2, 3 and 16 it may always use */
+    uint32_t events;            /* bit k: the tool may use event k. Message 9 closes the session without event 2, and so does message 15
+                                   that asks for errors by events without event 13 */
+    uint64_t tsc_speed;         /* told by KVMI_VCPU_GET_INFO, in Hz; 0: not known */
+    uint8_t singlestep;         /* the five feature bytes of KVMI_GET_VERSION; without this one message 14 gets EOPNOTSUPP */
     uint8_t vmfunc;
     uint8_t eptp;
     uint8_t ve;
     uint8_t spp;
-    uint8_t descriptors;    /* descriptor events can be caught */
-    uint8_t breakpoints_taken;  /* by the host, for itself */
+    uint8_t descriptors;        /* descriptor events can be caught */
+    uint8_t breakpoints_taken;  /* by the host, for itself: the tool gets EBUSY */
 };
 SEMBLURICK_ASSERT(sizeof(struct semblurick_settings) == 32);
 SEMBLURICK_ASSERT(offsetof(struct semblurick_settings, tsc_speed) == 16);
 SEMBLURICK_ASSERT(offsetof(struct semblurick_settings, breakpoints_taken) == 30);
 
-/* A session, but for its tables. A host sets `settings` and leaves the rest to the calls. Memory of zeros is a closed session: a host
- * that forgets to begin is answered 2. */
+/* What every host's settings begin with, so that a setting which is added later breaks none of them: one vCPU, one view, nothing
+ * allowed, every feature 0.   struct semblurick_settings s = SEMBLURICK_SETTINGS;   then set by name what is to differ. */
+#define SEMBLURICK_SETTINGS {1, 1, 0, 0, 0, 0, 0, 0, 0, 0, 0, 0}
+
+/* A set of commands or events: s.events = SEMBLURICK_BIT(KVMI_EVENT_CR) | SEMBLURICK_BIT(KVMI_EVENT_MSR); */
+#define SEMBLURICK_BIT(number) (UINT32_C(1) << (number))
+/* All of them; those that later versions add, too. */
+#define SEMBLURICK_ALL UINT32_MAX
+
+/* ---- memory that the host owns (since 1) */
+
+/* A session, but for its tables. Its members are the calls' own: hosts read them by lookups. Memory of zeros is a closed session: a
+ * host that forgets to begin is answered 2. */
 struct semblurick_session {
     struct semblurick_settings settings;
     uint64_t vm_events;  /* bit e: event e is on for the VM */
@@ -119,6 +183,7 @@ struct semblurick_pages {
     uint64_t words[SEMBLURICK_PAGE_WORDS];
 };
 
+/* A guest's session and tables: what a host keeps for each guest. It has no pointers: it may be copied and moved between calls. */
 struct semblurick {
     struct semblurick_session session;
     struct semblurick_vcpus vcpus;
@@ -126,47 +191,351 @@ struct semblurick {
 };
 SEMBLURICK_ASSERT(sizeof(struct semblurick) == 43080);
 
-/* ---- calls: each but semblurick_image_size gives a number of enum semblurick_answer and writes all of *result. An answer from
- * 2 on changes nothing else, but that semblurick_fresh and semblurick_image_read then leave a session that is closed. */
+/* Where a call writes what goes to the tool or to a new host. */
+struct semblurick_output {
+    uint8_t *bytes;
+    size_t size;
+};
 
-/* Begins a session with every switch off, under session->settings. Answers 7, or 0. */
-uint32_t semblurick_fresh(struct semblurick_session *session, struct semblurick_vcpus *vcpus, struct semblurick_pages *pages,
-                          struct semblurick_result *result);
+/* The guest's physical memory, one run of bytes from address 0; a page of 4,096 bytes exists if it lies wholly inside. Only
+ * KVMI_VM_READ_PHYSICAL and KVMI_VM_WRITE_PHYSICAL touch it, the bytes that they name and no others; any other message may be lent
+ * semblurick_no_memory(). No answer and no table depends on what stands in it: where vCPUs or devices write to it while a call runs,
+ * the bytes that the tool reads or writes there may be torn, and nothing else. */
+struct semblurick_memory {
+    uint8_t *bytes;
+    size_t size;
+};
 
-/* Marks a vCPU ready: the tool can use it from now on. Answers 2, 4, tested in this order, or 0. */
-uint32_t semblurick_ready(struct semblurick_session *session, uint32_t vcpu, struct semblurick_result *result);
+static inline struct semblurick_output semblurick_output_of(void *bytes, size_t size) {
+    struct semblurick_output out = {SEMBLURICK_CAST(uint8_t *, bytes), size};
+    return out;
+}
 
-/* Takes one message of the tool, header included. `guest` is the guest's physical memory from address 0; a page exists if it lies
- * wholly inside. The first result->count bytes of out go to the tool. Answers 2, 3, tested in this order, or 0 or 1. */
-uint32_t semblurick_message(struct semblurick_session *session, struct semblurick_vcpus *vcpus, struct semblurick_pages *pages,
-                            const uint8_t *msg, size_t msg_size, uint8_t *out, size_t out_size, uint8_t *guest, size_t guest_size,
-                            struct semblurick_result *result);
+static inline struct semblurick_memory semblurick_memory_of(void *bytes, size_t size) {
+    struct semblurick_memory memory = {SEMBLURICK_CAST(uint8_t *, bytes), size};
+    return memory;
+}
 
-/* To be called before a vCPU enters the guest, with its register block. Answer 0 with no bytes: it may run. With bytes: they are its
- * pause event, to be sent to the tool, and the vCPU waits. It may call again after each message: answer 6 says that the tool's
- * reply is still awaited, answer 2 that the session closed and nothing is awaited any more. Answers 2, 4, 5, 3, 6, tested in this
- * order, or 0. */
-uint32_t semblurick_enter(struct semblurick_session *session, struct semblurick_vcpus *vcpus, uint32_t vcpu, const uint8_t *state,
-                          size_t state_size, uint8_t *out, size_t out_size, struct semblurick_result *result);
+static inline struct semblurick_memory semblurick_no_memory(void) {
+    static uint8_t none; /* a pointer is never null */
+    return semblurick_memory_of(&none, 0);
+}
 
-/* How many bytes the image of a session has, closed or busy as it may be. */
-size_t semblurick_image_size(const struct semblurick_session *session, const struct semblurick_vcpus *vcpus,
-                             const struct semblurick_pages *pages);
+/* A page that stands below rwx. */
+struct semblurick_page {
+    uint64_t page;    /* its number: guest physical address / 4096 */
+    uint32_t view;
+    uint32_t access;  /* R 1, W 2, X 4 */
+};
 
-/* Writes the image of a session, for a new host. Answers 2, 10, 3, tested in this order, or 0. */
-uint32_t semblurick_image_write(const struct semblurick_session *session, const struct semblurick_vcpus *vcpus,
-                                const struct semblurick_pages *pages, uint8_t *out, size_t out_size,
-                                struct semblurick_result *result);
+/* ---- the library's functions, over a session and its tables apart (since 1). The calls and lookups below are made of them, and say
+ * what each does; these are for hosts that keep the parts apart, and take the settings from the session. */
 
-/* Begins a session as an image states, under session->settings. Answers 7, or 8 or 9 for the first record that calls for one, or 0;
- * refused, no word of the tables changes. */
-uint32_t semblurick_image_read(struct semblurick_session *session, struct semblurick_vcpus *vcpus, struct semblurick_pages *pages,
-                               const uint8_t *image, size_t image_size, struct semblurick_result *result);
+SEMBLURICK_CHECKED enum semblurick_answer semblurick_raw_fresh(struct semblurick_session *session, struct semblurick_vcpus *vcpus,
+                                                               struct semblurick_pages *pages, struct semblurick_result *result);
+SEMBLURICK_CHECKED enum semblurick_answer semblurick_raw_ready(struct semblurick_session *session, uint32_t vcpu,
+                                                               struct semblurick_result *result);
+SEMBLURICK_CHECKED enum semblurick_answer semblurick_raw_message(struct semblurick_session *session, struct semblurick_vcpus *vcpus,
+                                                                 struct semblurick_pages *pages, const uint8_t *msg, size_t msg_size,
+                                                                 uint8_t *out, size_t out_size, uint8_t *memory, size_t memory_size,
+                                                                 struct semblurick_result *result);
+SEMBLURICK_CHECKED enum semblurick_answer semblurick_raw_enter(struct semblurick_session *session, struct semblurick_vcpus *vcpus,
+                                                               uint32_t vcpu, const uint8_t *state, size_t state_size, uint8_t *out,
+                                                               size_t out_size, struct semblurick_result *result);
+SEMBLURICK_CHECKED enum semblurick_answer semblurick_raw_image_read(struct semblurick_session *session,
+                                                                    struct semblurick_vcpus *vcpus, struct semblurick_pages *pages,
+                                                                    const uint8_t *image, size_t image_size,
+                                                                    struct semblurick_result *result);
+SEMBLURICK_CHECKED enum semblurick_answer semblurick_raw_image_write(const struct semblurick_session *session,
+                                                                     const struct semblurick_vcpus *vcpus,
+                                                                     const struct semblurick_pages *pages, uint8_t *out,
+                                                                     size_t out_size, struct semblurick_result *result);
+size_t semblurick_raw_image_size(const struct semblurick_session *session, const struct semblurick_vcpus *vcpus,
+                                 const struct semblurick_pages *pages);
 
-/* ---- KVMI's names, with document 01's numbers */
+uint32_t semblurick_raw_is_open(const struct semblurick_session *session);
+uint32_t semblurick_raw_is_ready(const struct semblurick_session *session, uint32_t vcpu);
+uint32_t semblurick_raw_vm_event(const struct semblurick_session *session, uint32_t event);
+uint32_t semblurick_raw_vcpu_event(const struct semblurick_session *session, const struct semblurick_vcpus *vcpus, uint32_t vcpu,
+                                   uint32_t event);
+uint32_t semblurick_raw_cr(const struct semblurick_session *session, const struct semblurick_vcpus *vcpus, uint32_t vcpu,
+                           uint32_t cr);
+uint32_t semblurick_raw_msr(const struct semblurick_session *session, const struct semblurick_vcpus *vcpus, uint32_t vcpu,
+                            uint32_t msr);
+uint32_t semblurick_raw_singlestep(const struct semblurick_session *session, const struct semblurick_vcpus *vcpus, uint32_t vcpu);
+uint64_t semblurick_raw_pauses(const struct semblurick_session *session, const struct semblurick_vcpus *vcpus, uint32_t vcpu);
+uint64_t semblurick_raw_awaited(const struct semblurick_session *session, const struct semblurick_vcpus *vcpus, uint32_t vcpu);
+size_t semblurick_raw_page_count(const struct semblurick_session *session);
+uint32_t semblurick_raw_access(const struct semblurick_session *session, const struct semblurick_pages *pages, uint32_t view,
+                               uint64_t page);
+/* writes view, page and access, and gives the access */
+uint32_t semblurick_raw_page_at(const struct semblurick_session *session, const struct semblurick_pages *pages, size_t i,
+                                uint64_t page[3]);
+
+/* ---- calls (since 1) */
+
+/* Begins a session: every switch off, no vCPU ready, no pause queued, every page at rwx, replies on, the next event's seq 0. What
+ * stood in *guest does not matter. Answers 7 (a count of the settings is out of its range; the session is then a closed one), or 0. */
+SEMBLURICK_CHECKED static inline enum semblurick_answer semblurick_fresh(struct semblurick *guest,
+                                                                         const struct semblurick_settings *settings) {
+    struct semblurick_result nothing;
+    guest->session.settings = *settings;
+    return semblurick_raw_fresh(&guest->session, &guest->vcpus, &guest->pages, &nothing);
+}
+
+/* Marks a vCPU ready: until then the tool's commands that name it get EAGAIN. Answers 2, 4, tested in this order, or 0. */
+SEMBLURICK_CHECKED static inline enum semblurick_answer semblurick_ready(struct semblurick *guest, uint32_t vcpu) {
+    struct semblurick_result nothing;
+    return semblurick_raw_ready(&guest->session, vcpu, &nothing);
+}
+
+/* Takes one message of the tool: an 8-byte header (struct kvmi_msg_hdr) and as many bytes as it states. The output takes at least
+ * SEMBLURICK_MESSAGE_OUT bytes. Answers 2, 3, tested in this order, or
+ *   0: the first result->count bytes of the output, if any, go to the tool: a reply, or an event where the tool turned replies off
+ *      but for errors. A command that fails is answered 0, too: its reply has the error, or, with replies off, an event where the tool
+ *      asked for one; it changed nothing (but that of message 13 with ENOMEM the entries that had room are applied). See
+ *      result->signal.
+ *   1: the message is cut, has a size that its id has not, or breaks another rule that closes. The session is closed, its tables
+ *      are empty, nothing was written. */
+SEMBLURICK_CHECKED static inline enum semblurick_answer semblurick_message(struct semblurick *guest, const void *msg, size_t msg_size,
+                                                                           struct semblurick_output out,
+                                                                           struct semblurick_memory memory,
+                                                                           struct semblurick_result *result) {
+    return semblurick_raw_message(&guest->session, &guest->vcpus, &guest->pages, SEMBLURICK_CAST(const uint8_t *, msg), msg_size,
+                                  out.bytes, out.size, memory.bytes, memory.size, result);
+}
+
+/* To be called before a vCPU enters the guest, with its register block (enum semblurick_state). The output takes at least
+ * SEMBLURICK_ENTRY_OUT bytes. Answer 0 with result->count 0: it may run. With bytes: they are its pause event, to be sent to the
+ * tool, and the vCPU waits. It may call again after each message: answer 6 says that the tool's reply is still awaited, answer 2
+ * that the session closed and nothing is awaited any more. Answers 2, 4, 5, 3, 6, tested in this order, or 0. */
+SEMBLURICK_CHECKED static inline enum semblurick_answer semblurick_enter(struct semblurick *guest, uint32_t vcpu, const void *state,
+                                                                         size_t state_size, struct semblurick_output out,
+                                                                         struct semblurick_result *result) {
+    return semblurick_raw_enter(&guest->session, &guest->vcpus, vcpu, SEMBLURICK_CAST(const uint8_t *, state), state_size, out.bytes,
+                                out.size, result);
+}
+
+/* How many bytes the image of a session has, closed or busy as it may be; at most SEMBLURICK_IMAGE_MAX. */
+static inline size_t semblurick_image_size(const struct semblurick *guest) {
+    return semblurick_raw_image_size(&guest->session, &guest->vcpus, &guest->pages);
+}
+
+/* Writes the image of a session, for a new host: ready marks, switches, queued pauses and pages below rwx. Equal tables have equal
+ * images. Settings, reply mode and the events' seq are not in it. Answers 2, 10, 3, tested in this order, or 0 with result->count.
+ *
+ * An image is records without gaps, numbers little-endian, each behind two ASCII letters: VM (u16 version 1, u16 vCPU count, u16 VM
+ * event bits); VC for each vCPU (u16 vCPU, u8 1 ready + 2 singlestep, u8 1 CR0 + 2 CR3 + 4 CR4, u16 event bits, u8 pauses, u8 0); MS
+ * for each MSR switch on (u16 vCPU, u32 MSR); PA for each page below rwx (u16 view, u8 access, u8 0, u64 page); EN (u32 count of the
+ * records before it). They ascend: VC by vCPU, MS by vCPU, then MSR, PA by view, then page. */
+SEMBLURICK_CHECKED static inline enum semblurick_answer semblurick_image_write(const struct semblurick *guest,
+                                                                               struct semblurick_output out,
+                                                                               struct semblurick_result *result) {
+    return semblurick_raw_image_write(&guest->session, &guest->vcpus, &guest->pages, out.bytes, out.size, result);
+}
+
+/* Begins a session as an image states, replies on, the next event's seq 0. Answers 7, or 8 or 9 for the first record that calls for
+ * one, at result->offset, or 0. Refused, no word of the tables changes, and the session is a closed one. */
+SEMBLURICK_CHECKED static inline enum semblurick_answer semblurick_image_read(struct semblurick *guest,
+                                                                              const struct semblurick_settings *settings,
+                                                                              const void *image, size_t image_size,
+                                                                              struct semblurick_result *result) {
+    guest->session.settings = *settings;
+    return semblurick_raw_image_read(&guest->session, &guest->vcpus, &guest->pages, SEMBLURICK_CAST(const uint8_t *, image),
+                                     image_size, result);
+}
+
+/* ---- lookups (since 1): what stands, for the host to program. They change nothing and refuse nothing: any number is taken. A vCPU
+ * that the session has not has every switch off; in a closed session all are off, and every page is at rwx, so also after a refused
+ * beginning. Each takes a constant time, but for semblurick_access, which bisects. After a message a host asks for what the message
+ * named, after an image for all. */
+
+static inline bool semblurick_is_open(const struct semblurick *guest) {
+    return semblurick_raw_is_open(&guest->session) != 0;
+}
+
+static inline bool semblurick_is_ready(const struct semblurick *guest, uint32_t vcpu) {
+    return semblurick_raw_is_ready(&guest->session, vcpu) != 0;
+}
+
+/* Is an event on for the VM (KVMI_VM_CONTROL_EVENTS)? */
+static inline bool semblurick_vm_event(const struct semblurick *guest, uint32_t event) {
+    return semblurick_raw_vm_event(&guest->session, event) != 0;
+}
+
+/* Is an event on for a vCPU (KVMI_VCPU_CONTROL_EVENTS)? */
+static inline bool semblurick_vcpu_event(const struct semblurick *guest, uint32_t vcpu, uint32_t event) {
+    return semblurick_raw_vcpu_event(&guest->session, &guest->vcpus, vcpu, event) != 0;
+}
+
+/* Is a control register watched: 0, 3 or 4? No other has a switch. */
+static inline bool semblurick_cr(const struct semblurick *guest, uint32_t vcpu, uint32_t cr) {
+    return semblurick_raw_cr(&guest->session, &guest->vcpus, vcpu, cr) != 0;
+}
+
+/* Is an MSR watched: 0 to 0x1FFF or 0xC0000000 to 0xC0001FFF? No other has a switch. */
+static inline bool semblurick_msr(const struct semblurick *guest, uint32_t vcpu, uint32_t msr) {
+    return semblurick_raw_msr(&guest->session, &guest->vcpus, vcpu, msr) != 0;
+}
+
+static inline bool semblurick_singlestep(const struct semblurick *guest, uint32_t vcpu) {
+    return semblurick_raw_singlestep(&guest->session, &guest->vcpus, vcpu) != 0;
+}
+
+/* How many pauses are queued for a vCPU: 0 to 8. */
+static inline uint64_t semblurick_pauses(const struct semblurick *guest, uint32_t vcpu) {
+    return semblurick_raw_pauses(&guest->session, &guest->vcpus, vcpu);
+}
+
+/* The event whose reply a vCPU awaits, or 0. */
+static inline uint64_t semblurick_awaited(const struct semblurick *guest, uint32_t vcpu) {
+    return semblurick_raw_awaited(&guest->session, &guest->vcpus, vcpu);
+}
+
+/* What a view allows of a page, by its number (address / 4096): R 1, W 2, X 4. It is 7 where nothing is said of the page. */
+static inline uint32_t semblurick_access(const struct semblurick *guest, uint32_t view, uint64_t page) {
+    return semblurick_raw_access(&guest->session, &guest->pages, view, page);
+}
+
+/* How many pages stand below rwx, and the i-th of them, by view and then by number; from the count on: page 0 of view 0, access 7. */
+static inline size_t semblurick_page_count(const struct semblurick *guest) {
+    return semblurick_raw_page_count(&guest->session);
+}
+
+static inline struct semblurick_page semblurick_page_at(const struct semblurick *guest, size_t i) {
+    uint64_t words[3];
+    struct semblurick_page page;
+    page.access = semblurick_raw_page_at(&guest->session, &guest->pages, i, words);
+    page.view = SEMBLURICK_CAST(uint32_t, words[0]);
+    page.page = words[1];
+    return page;
+}
+
+/* ---- vCPU records that a host keeps in a list of its own (since 1), apart from any session: two rules of a session, on them. A
+ * record of zeros is a vCPU that is not ready; a flag is set where it is not 0. */
+
+struct semblurick_vcpu {
+    uint64_t ready;
+    uint64_t singlestep;
+    uint64_t crs;     /* bits 0, 1 and 2: CR0, CR3 and CR4 are watched */
+    uint64_t events;  /* bit e: event e is on */
+    uint64_t pauses;  /* queued */
+    uint64_t awaited; /* the event whose reply is awaited, or 0, and its seq */
+    uint64_t awaited_seq;
+};
+SEMBLURICK_ASSERT(sizeof(struct semblurick_vcpu) == 56);
+
+/* Marks record `index` ready, by a 1. Answers 4 (index at or past count), or 0. */
+SEMBLURICK_CHECKED enum semblurick_answer semblurick_list_ready(struct semblurick_vcpu *vcpus, size_t count, size_t index);
+
+/* Sets a CR switch of record `index`, on where `on` is not 0. Answers 4, 14 (cr not 0, 3 or 4, or the record is not ready), tested
+ * in this order, or 0. No other record and no other switch changes. */
+SEMBLURICK_CHECKED enum semblurick_answer semblurick_list_cr(struct semblurick_vcpu *vcpus, size_t count, size_t index, uint32_t cr,
+                                                             uint32_t on);
+
+/* ---- texts (since 1), for logs */
+
+/* Of an answer. */
+static inline const char *semblurick_answer_text(uint32_t answer) {
+    switch (answer) {
+    case SEMBLURICK_HANDLED: return "handled";
+    case SEMBLURICK_CLOSING: return "closing";
+    case SEMBLURICK_CLOSED: return "closed";
+    case SEMBLURICK_SHORT_OUT: return "short output";
+    case SEMBLURICK_BAD_VCPU: return "bad vCPU";
+    case SEMBLURICK_BAD_STATE: return "bad state block";
+    case SEMBLURICK_WAITING: return "waiting";
+    case SEMBLURICK_BAD_SETTINGS: return "bad settings";
+    case SEMBLURICK_BAD_FORM: return "bad form";
+    case SEMBLURICK_FORBIDDEN: return "forbidden";
+    case SEMBLURICK_BUSY: return "busy";
+    case SEMBLURICK_NOT_APPLICABLE: return "not applicable";
+    default: return "unknown answer";
+    }
+}
+
+/* Of a result's signal. */
+static inline const char *semblurick_signal_text(uint64_t signal) {
+    switch (signal) {
+    case SEMBLURICK_NONE: return "none";
+    case SEMBLURICK_KICK: return "kick";
+    case SEMBLURICK_CRASH: return "crash";
+    default: return "unknown signal";
+    }
+}
+
+/* Of an error as it stands in a reply or in a CMD_ERROR event, 0 or below. */
+static inline const char *semblurick_error_text(int32_t err) {
+    switch (err) {
+    case 0: return "no error";
+    case -1: return "EPERM: not allowed";
+    case -2: return "ENOENT: no such page";
+    case -11: return "EAGAIN: the vCPU is not ready";
+    case -12: return "ENOMEM: no room for a page";
+    case -16: return "EBUSY: taken by the host, or too many pauses";
+    case -22: return "EINVAL: a field is out of its range";
+    case -95: return "EOPNOTSUPP: not supported here";
+    case -1000: return "ENOSYS: unknown message";
+    default: return "unknown error";
+    }
+}
+
+/* ---- a vCPU's register block (since 1): 536 bytes, numbers little-endian, which an event carries as they are lent to
+ * semblurick_enter: mode, then Linux's struct kvm_regs and struct kvm_sregs, then nine MSRs. Each name is an offset. */
+
+enum semblurick_state {
+    SEMBLURICK_STATE_MODE = 0,   /* u8, the vCPU's mode in bytes: 2, 4 or 8; then 7 zeros */
+    SEMBLURICK_STATE_REGS = 8,   /* struct kvm_regs, 144 bytes: 18 u64 */
+    SEMBLURICK_STATE_RAX = 8,
+    SEMBLURICK_STATE_RBX = 16,
+    SEMBLURICK_STATE_RCX = 24,
+    SEMBLURICK_STATE_RDX = 32,
+    SEMBLURICK_STATE_RSI = 40,
+    SEMBLURICK_STATE_RDI = 48,
+    SEMBLURICK_STATE_RSP = 56,
+    SEMBLURICK_STATE_RBP = 64,
+    SEMBLURICK_STATE_R8 = 72,    /* r8 to r15, 8 bytes each */
+    SEMBLURICK_STATE_R15 = 128,
+    SEMBLURICK_STATE_RIP = 136,
+    SEMBLURICK_STATE_RFLAGS = 144,
+    SEMBLURICK_STATE_SREGS = 152, /* struct kvm_sregs, 312 bytes */
+    SEMBLURICK_STATE_CS = 152,   /* eight segments of 24 bytes: u64 base, u32 limit, u16 selector, u8 type, present, dpl, db, s, l, */
+    SEMBLURICK_STATE_DS = 176,   /*     g, avl, unusable, 0 */
+    SEMBLURICK_STATE_ES = 200,
+    SEMBLURICK_STATE_FS = 224,
+    SEMBLURICK_STATE_GS = 248,
+    SEMBLURICK_STATE_SS = 272,
+    SEMBLURICK_STATE_TR = 296,
+    SEMBLURICK_STATE_LDT = 320,
+    SEMBLURICK_STATE_GDT = 344,  /* two tables of 16 bytes: u64 base, u16 limit, 6 zeros */
+    SEMBLURICK_STATE_IDT = 360,
+    SEMBLURICK_STATE_CR0 = 376,  /* seven u64 */
+    SEMBLURICK_STATE_CR2 = 384,
+    SEMBLURICK_STATE_CR3 = 392,
+    SEMBLURICK_STATE_CR4 = 400,
+    SEMBLURICK_STATE_CR8 = 408,
+    SEMBLURICK_STATE_EFER = 416,
+    SEMBLURICK_STATE_APIC_BASE = 424,
+    SEMBLURICK_STATE_INTERRUPT_BITMAP = 432, /* four u64 */
+    SEMBLURICK_STATE_MSRS = 464, /* nine u64 */
+    SEMBLURICK_STATE_MSR_SYSENTER_CS = 464,
+    SEMBLURICK_STATE_MSR_SYSENTER_ESP = 472,
+    SEMBLURICK_STATE_MSR_SYSENTER_EIP = 480,
+    SEMBLURICK_STATE_MSR_EFER = 488,
+    SEMBLURICK_STATE_MSR_STAR = 496,
+    SEMBLURICK_STATE_MSR_LSTAR = 504,
+    SEMBLURICK_STATE_MSR_CSTAR = 512,
+    SEMBLURICK_STATE_MSR_PAT = 520,
+    SEMBLURICK_STATE_MSR_SHADOW_GS = 528,
+    SEMBLURICK_STATE_END = 536
+};
+SEMBLURICK_ASSERT(SEMBLURICK_STATE_END == 0 + SEMBLURICK_STATE_BYTES);
+
+/* ---- KVMI's names, numbers and wire structs (since 1) */
 
 #ifndef SEMBLURICK_NO_KVMI_NAMES
 
+/* The messages of the tool, and of the events that go to it the one id that they share. */
 enum kvmi_message {
     KVMI_GET_VERSION = 1,
     KVMI_VM_CHECK_COMMAND = 2,
@@ -187,7 +556,7 @@ enum kvmi_message {
     KVMI_EVENT = 17
 };
 
-enum kvmi_event {
+enum kvmi_event_id {
     KVMI_EVENT_UNHOOK = 1,
     KVMI_EVENT_PAUSE_VCPU = 2,
     KVMI_EVENT_HYPERCALL = 3,
@@ -204,6 +573,7 @@ enum kvmi_event {
     KVMI_EVENT_CPUID = 14
 };
 
+/* Of an event reply. A pause event takes the first and the last; another action closes the session. */
 enum kvmi_action { KVMI_EVENT_ACTION_CONTINUE = 0, KVMI_EVENT_ACTION_RETRY = 1, KVMI_EVENT_ACTION_CRASH = 2 };
 
 enum kvmi_page_access { KVMI_PAGE_ACCESS_R = 1, KVMI_PAGE_ACCESS_W = 2, KVMI_PAGE_ACCESS_X = 4 };
@@ -219,9 +589,231 @@ enum kvmi_error {
     KVMI_EOPNOTSUPP = 95,
     KVMI_ENOSYS = 1000
 };
+
+/* What goes over the wire, little-endian; every padding is 0. A buffer of bytes is read and filled by memcpy, which asks for no
+ * alignment. What a struct is followed by is said at its end. */
+
+/* Every message: then `size` bytes. A reply has its command's id and seq. */
+struct kvmi_msg_hdr {
+    uint16_t id;  /* enum kvmi_message */
+    uint16_t size;
+    uint32_t seq;
+};
+SEMBLURICK_ASSERT(sizeof(struct kvmi_msg_hdr) == 8 && offsetof(struct kvmi_msg_hdr, seq) == 4);
+
+/* Behind the header of each message that names a vCPU: 8 to 12, 14 and 16. */
+struct kvmi_vcpu_hdr {
+    uint16_t vcpu;
+    uint16_t padding1;
+    uint32_t padding2;
+};
+SEMBLURICK_ASSERT(sizeof(struct kvmi_vcpu_hdr) == 8 && offsetof(struct kvmi_vcpu_hdr, padding2) == 4);
+
+/* Behind the header of each reply; then the command's reply data, if err is 0. */
+struct kvmi_error_code {
+    int32_t err;  /* 0, or an enum kvmi_error negated */
+    uint32_t padding;
+};
+SEMBLURICK_ASSERT(sizeof(struct kvmi_error_code) == 8);
+
+/* 1 KVMI_GET_VERSION: no data. */
+struct kvmi_features {
+    uint8_t singlestep;
+    uint8_t vmfunc;
+    uint8_t eptp;
+    uint8_t ve;
+    uint8_t spp;
+    uint8_t padding[3];
+};
+struct kvmi_get_version_reply {
+    uint32_t version;  /* 1 */
+    uint32_t padding;
+    struct kvmi_features features;
+};
+SEMBLURICK_ASSERT(sizeof(struct kvmi_features) == 8);
+SEMBLURICK_ASSERT(sizeof(struct kvmi_get_version_reply) == 16 && offsetof(struct kvmi_get_version_reply, features) == 8);
+
+/* 2 KVMI_VM_CHECK_COMMAND: is a command allowed? */
+struct kvmi_vm_check_command {
+    uint16_t id;
+    uint16_t padding1;
+    uint32_t padding2;
+};
+SEMBLURICK_ASSERT(sizeof(struct kvmi_vm_check_command) == 8 && offsetof(struct kvmi_vm_check_command, padding2) == 4);
+
+/* 3 KVMI_VM_CHECK_EVENT: is an event allowed? */
+struct kvmi_vm_check_event {
+    uint16_t id;
+    uint16_t padding1;
+    uint32_t padding2;
+};
+SEMBLURICK_ASSERT(sizeof(struct kvmi_vm_check_event) == 8 && offsetof(struct kvmi_vm_check_event, padding2) == 4);
+
+/* 4 KVMI_VM_GET_INFO: no data. */
+struct kvmi_vm_get_info_reply {
+    uint32_t vcpu_count;
+    uint32_t padding[3];
+};
+SEMBLURICK_ASSERT(sizeof(struct kvmi_vm_get_info_reply) == 16);
+
+/* 5 KVMI_VM_CONTROL_EVENTS: events 1 and 12. */
+struct kvmi_vm_control_events {
+    uint16_t event_id;
+    uint8_t enable;
+    uint8_t padding1;
+    uint32_t padding2;
+};
+SEMBLURICK_ASSERT(sizeof(struct kvmi_vm_control_events) == 8 && offsetof(struct kvmi_vm_control_events, enable) == 2);
+
+/* 6 KVMI_VM_READ_PHYSICAL: 1 to 4,096 bytes inside a page. The reply's data are these bytes. */
+struct kvmi_vm_read_physical {
+    uint64_t gpa;
+    uint64_t size;
+};
+SEMBLURICK_ASSERT(sizeof(struct kvmi_vm_read_physical) == 16 && offsetof(struct kvmi_vm_read_physical, size) == 8);
+
+/* 7 KVMI_VM_WRITE_PHYSICAL: likewise; then the bytes to write. */
+struct kvmi_vm_write_physical {
+    uint64_t gpa;
+    uint64_t size;
+};
+SEMBLURICK_ASSERT(sizeof(struct kvmi_vm_write_physical) == 16 && offsetof(struct kvmi_vm_write_physical, size) == 8);
+
+/* 8 KVMI_VCPU_GET_INFO: struct kvmi_vcpu_hdr alone. */
+struct kvmi_vcpu_get_info_reply {
+    uint64_t tsc_speed;
+};
+SEMBLURICK_ASSERT(sizeof(struct kvmi_vcpu_get_info_reply) == 8);
+
+/* 9 KVMI_VCPU_PAUSE, behind struct kvmi_vcpu_hdr. */
+struct kvmi_vcpu_pause {
+    uint8_t wait;  /* 1: the vCPU is out of the guest before the reply, or, with replies off, anything more is sent */
+    uint8_t padding1;
+    uint16_t padding2;
+    uint32_t padding3;
+};
+SEMBLURICK_ASSERT(sizeof(struct kvmi_vcpu_pause) == 8 && offsetof(struct kvmi_vcpu_pause, padding3) == 4);
+
+/* 10 KVMI_VCPU_CONTROL_EVENTS, behind struct kvmi_vcpu_hdr: events 3, 4, 5, 7 to 11 and 14. */
+struct kvmi_vcpu_control_events {
+    uint16_t event_id;
+    uint8_t enable;
+    uint8_t padding1;
+    uint32_t padding2;
+};
+SEMBLURICK_ASSERT(sizeof(struct kvmi_vcpu_control_events) == 8 && offsetof(struct kvmi_vcpu_control_events, enable) == 2);
+
+/* 11 KVMI_VCPU_CONTROL_CR, behind struct kvmi_vcpu_hdr. */
+struct kvmi_vcpu_control_cr {
+    uint8_t enable;
+    uint8_t padding1;
+    uint16_t padding2;
+    uint32_t cr;  /* 0, 3 or 4 */
+};
+SEMBLURICK_ASSERT(sizeof(struct kvmi_vcpu_control_cr) == 8 && offsetof(struct kvmi_vcpu_control_cr, cr) == 4);
+
+/* 12 KVMI_VCPU_CONTROL_MSR, behind struct kvmi_vcpu_hdr. */
+struct kvmi_vcpu_control_msr {
+    uint8_t enable;
+    uint8_t padding1;
+    uint16_t padding2;
+    uint32_t msr;  /* 0 to 0x1FFF, or 0xC0000000 to 0xC0001FFF */
+};
+SEMBLURICK_ASSERT(sizeof(struct kvmi_vcpu_control_msr) == 8 && offsetof(struct kvmi_vcpu_control_msr, msr) == 4);
+
+/* 13 KVMI_VM_SET_PAGE_ACCESS; then `count` entries, which act in order. Access 7 forgets a page. */
+struct kvmi_vm_set_page_access {
+    uint16_t count;
+    uint16_t view;
+    uint32_t padding;
+};
+struct kvmi_page_access_entry {
+    uint64_t gpa;
+    uint8_t access;  /* 0, or of enum kvmi_page_access R, R + W, X, R + X or all */
+    uint8_t padding1;
+    uint16_t padding2;
+    uint32_t padding3;
+};
+SEMBLURICK_ASSERT(sizeof(struct kvmi_vm_set_page_access) == 8 && offsetof(struct kvmi_vm_set_page_access, view) == 2);
+SEMBLURICK_ASSERT(sizeof(struct kvmi_page_access_entry) == 16 && offsetof(struct kvmi_page_access_entry, access) == 8);
+
+/* 14 KVMI_VCPU_CONTROL_SINGLESTEP, behind struct kvmi_vcpu_hdr. */
+struct kvmi_vcpu_control_singlestep {
+    uint8_t enable;
+    uint8_t padding[7];
+};
+SEMBLURICK_ASSERT(sizeof(struct kvmi_vcpu_control_singlestep) == 8);
+
+/* 15 KVMI_VM_CONTROL_CMD_RESPONSE: replies on or off. */
+struct kvmi_vm_control_cmd_response {
+    uint8_t enable;
+    uint8_t now;    /* 1: from this message's own reply on; 0: from the next message on */
+    uint8_t flags;  /* with enable 0, bit 0: errors are told by CMD_ERROR events */
+    uint8_t padding1;
+    uint32_t padding2;
+};
+SEMBLURICK_ASSERT(sizeof(struct kvmi_vm_control_cmd_response) == 8 && offsetof(struct kvmi_vm_control_cmd_response, flags) == 2);
+
+/* 16 KVMI_EVENT_REPLY, behind struct kvmi_vcpu_hdr; the header has the event's seq. It gets no reply. */
+struct kvmi_event_reply {
+    uint8_t action;  /* enum kvmi_action */
+    uint8_t event;   /* enum kvmi_event_id */
+    uint16_t padding1;
+    uint32_t padding2;
+};
+SEMBLURICK_ASSERT(sizeof(struct kvmi_event_reply) == 8 && offsetof(struct kvmi_event_reply, padding2) == 4);
+
+/* 17 KVMI_EVENT, to the tool: the register block by its parts; of regs and sregs, see enum semblurick_state. */
+struct kvmi_event_arch {
+    uint8_t mode;
+    uint8_t padding[7];
+    uint64_t regs[18];   /* Linux's struct kvm_regs */
+    uint64_t sregs[39];  /* Linux's struct kvm_sregs */
+    struct {
+        uint64_t sysenter_cs;
+        uint64_t sysenter_esp;
+        uint64_t sysenter_eip;
+        uint64_t efer;
+        uint64_t star;
+        uint64_t lstar;
+        uint64_t cstar;
+        uint64_t pat;
+        uint64_t shadow_gs;
+    } msrs;
+};
+struct kvmi_event {
+    uint16_t size;  /* of this struct: 544 */
+    uint16_t vcpu;
+    uint8_t event;  /* enum kvmi_event_id */
+    uint8_t padding[3];
+    struct kvmi_event_arch arch;
+    /* then, for some events, bytes of their own */
+};
+SEMBLURICK_ASSERT(sizeof(struct kvmi_event_arch) == SEMBLURICK_STATE_BYTES);
+SEMBLURICK_ASSERT(offsetof(struct kvmi_event_arch, regs) == SEMBLURICK_STATE_REGS);
+SEMBLURICK_ASSERT(offsetof(struct kvmi_event_arch, sregs) == SEMBLURICK_STATE_SREGS);
+SEMBLURICK_ASSERT(offsetof(struct kvmi_event_arch, msrs) == SEMBLURICK_STATE_MSRS);
+SEMBLURICK_ASSERT(sizeof(struct kvmi_event) == 544 && offsetof(struct kvmi_event, event) == 4);
+SEMBLURICK_ASSERT(offsetof(struct kvmi_event, arch) == 8);
+
+/* KVMI_EVENT_CMD_ERROR's own bytes, behind struct kvmi_event, whose vCPU and register block are 0. It awaits no reply. */
+struct kvmi_event_cmd_error {
+    int32_t err;
+    uint32_t msg_seq;  /* the header of the command that failed */
+    uint16_t msg_id;
+    uint16_t padding[3];
+};
+SEMBLURICK_ASSERT(sizeof(struct kvmi_event_cmd_error) == 16 && offsetof(struct kvmi_event_cmd_error, msg_id) == 8);
+SEMBLURICK_ASSERT(sizeof(struct kvmi_msg_hdr) + sizeof(struct kvmi_event) + sizeof(struct kvmi_event_cmd_error) == SEMBLURICK_EVENT_MAX);
+SEMBLURICK_ASSERT(sizeof(struct kvmi_msg_hdr) + sizeof(struct kvmi_event) == SEMBLURICK_ENTRY_OUT);
 #endif
 
 #ifdef __cplusplus
 }
 #endif
+
+#undef SEMBLURICK_ASSERT
+#undef SEMBLURICK_CAST
+#undef SEMBLURICK_U32_ENUM
+#undef SEMBLURICK_CHECKED
 #endif
