@@ -1,0 +1,509 @@
+/* Tests of the C header: every call, lookup and text once, and each answer that a host can get. Prints what fails; its last line is
+ * 'header: N checks' where nothing does. As C11 and as C++11. The second translation unit is second.c. */
+#include <stdio.h>
+#include <stdlib.h>
+#include <string.h>
+
+#include "semblurick.h"
+
+size_t second_unit(void); /* second.c's own copy of the inline calls */
+
+static unsigned checks, failed;
+#define CHECK(fact) (checks++, (fact) ? (void)0 : (void)(failed++, printf("%s:%d: not so: %s\n", __FILE__, __LINE__, #fact)))
+
+static struct semblurick guest, other;
+static uint8_t out[SEMBLURICK_MESSAGE_OUT], memory[2 * SEMBLURICK_PAGE_BYTES], image[SEMBLURICK_IMAGE_MAX], nowhere[1];
+static struct semblurick_result r;
+
+/* ---- messages */
+
+static uint8_t msg[SEMBLURICK_MESSAGE_MAX];
+static size_t msg_size;
+
+static void begin(uint16_t id, uint32_t seq) {
+    struct kvmi_msg_hdr header;
+    header.id = id, header.size = 0, header.seq = seq;
+    memcpy(msg, &header, sizeof header);
+    msg_size = sizeof header;
+}
+
+static void add(const void *data, size_t size) {
+    struct kvmi_msg_hdr header;
+    memcpy(msg + msg_size, data, size);
+    msg_size += size;
+    memcpy(&header, msg, sizeof header);
+    header.size = (uint16_t)(msg_size - sizeof header);
+    memcpy(msg, &header, sizeof header);
+}
+
+static void add_vcpu(uint16_t vcpu) {
+    struct kvmi_vcpu_hdr v;
+    memset(&v, 0, sizeof v);
+    v.vcpu = vcpu;
+    add(&v, sizeof v);
+}
+
+/* Every message but a read and a write does the same where no guest memory is lent. */
+static enum semblurick_answer send(void) {
+    static uint8_t twin_out[SEMBLURICK_MESSAGE_OUT];
+    struct semblurick_result twin_r;
+    memcpy(&other, &guest, sizeof other);
+    memcpy(twin_out, out, sizeof out);
+    memset(&r, 0xAA, sizeof r);
+    enum semblurick_answer answer = semblurick_message(&guest, msg, msg_size, semblurick_output_of(out, sizeof out), semblurick_memory_of(memory, sizeof memory), &r);
+    if (msg[0] != KVMI_VM_READ_PHYSICAL && msg[0] != KVMI_VM_WRITE_PHYSICAL) {
+        CHECK(semblurick_message(&other, msg, msg_size, semblurick_output_of(twin_out, sizeof twin_out), semblurick_no_memory(), &twin_r) == answer);
+        CHECK(!memcmp(&twin_r, &r, sizeof r) && !memcmp(twin_out, out, sizeof out) && !memcmp(&other, &guest, sizeof guest));
+    }
+    return answer;
+}
+
+/* the error of the reply to what stands in msg */
+static int32_t reply(void) {
+    struct kvmi_msg_hdr asked, answered;
+    struct kvmi_error_code code;
+    CHECK(send() == SEMBLURICK_HANDLED);
+    memcpy(&asked, msg, sizeof asked);
+    memcpy(&answered, out, sizeof answered);
+    memcpy(&code, out + sizeof answered, sizeof code);
+    CHECK(answered.id == asked.id && answered.seq == asked.seq && sizeof answered + answered.size == r.count && code.padding == 0);
+    return code.err;
+}
+#define REPLY_DATA (out + sizeof(struct kvmi_msg_hdr) + sizeof(struct kvmi_error_code))
+
+static int32_t vcpu_event(uint16_t vcpu, uint16_t event, uint8_t enable) {
+    struct kvmi_vcpu_control_events e;
+    memset(&e, 0, sizeof e);
+    e.event_id = event, e.enable = enable;
+    begin(KVMI_VCPU_CONTROL_EVENTS, 10), add_vcpu(vcpu), add(&e, sizeof e);
+    return reply();
+}
+
+static int32_t vm_event(uint16_t event, uint8_t enable) {
+    struct kvmi_vm_control_events e;
+    memset(&e, 0, sizeof e);
+    e.event_id = event, e.enable = enable;
+    begin(KVMI_VM_CONTROL_EVENTS, 5), add(&e, sizeof e);
+    return reply();
+}
+
+static int32_t cr(uint16_t vcpu, uint32_t number, uint8_t enable) {
+    struct kvmi_vcpu_control_cr c;
+    memset(&c, 0, sizeof c);
+    c.cr = number, c.enable = enable;
+    begin(KVMI_VCPU_CONTROL_CR, 11), add_vcpu(vcpu), add(&c, sizeof c);
+    return reply();
+}
+
+static int32_t msr(uint16_t vcpu, uint32_t number, uint8_t enable) {
+    struct kvmi_vcpu_control_msr m;
+    memset(&m, 0, sizeof m);
+    m.msr = number, m.enable = enable;
+    begin(KVMI_VCPU_CONTROL_MSR, 12), add_vcpu(vcpu), add(&m, sizeof m);
+    return reply();
+}
+
+static int32_t singlestep(uint16_t vcpu, uint8_t enable) {
+    struct kvmi_vcpu_control_singlestep s;
+    memset(&s, 0, sizeof s);
+    s.enable = enable;
+    begin(KVMI_VCPU_CONTROL_SINGLESTEP, 14), add_vcpu(vcpu), add(&s, sizeof s);
+    return reply();
+}
+
+static int32_t page(uint16_t view, uint64_t number, uint8_t access) {
+    struct kvmi_vm_set_page_access p;
+    struct kvmi_page_access_entry e;
+    memset(&p, 0, sizeof p), memset(&e, 0, sizeof e);
+    p.count = 1, p.view = view, e.gpa = number * SEMBLURICK_PAGE_BYTES + 5, e.access = access;
+    begin(KVMI_VM_SET_PAGE_ACCESS, 13), add(&p, sizeof p), add(&e, sizeof e);
+    return reply();
+}
+
+static void begin_pause(uint16_t vcpu, uint8_t wait) {
+    struct kvmi_vcpu_pause p;
+    memset(&p, 0, sizeof p);
+    p.wait = wait;
+    begin(KVMI_VCPU_PAUSE, 9), add_vcpu(vcpu), add(&p, sizeof p);
+}
+
+static enum semblurick_answer answer_event(uint16_t vcpu, uint32_t seq, uint8_t action) {
+    struct kvmi_event_reply e;
+    memset(&e, 0, sizeof e);
+    e.action = action, e.event = KVMI_EVENT_PAUSE_VCPU;
+    begin(KVMI_EVENT_REPLY, seq), add_vcpu(vcpu), add(&e, sizeof e);
+    return send();
+}
+
+static bool rest_is_zero(void) {
+    for (size_t i = 0; i < sizeof r.reserved / sizeof r.reserved[0]; i++)
+        if (r.reserved[i]) return false;
+    return true;
+}
+
+static bool is_zero(const struct semblurick_result *x) {
+    static const struct semblurick_result zero = {0, 0, 0, 0, 0, {0}};
+    return !memcmp(x, &zero, sizeof zero);
+}
+
+/* ---- */
+
+static struct semblurick_settings settings_of(uint32_t vcpus, uint32_t views) {
+    struct semblurick_settings s = SEMBLURICK_SETTINGS;
+    s.vcpus = vcpus, s.views = views;
+    s.commands = s.events = SEMBLURICK_ALL;
+    s.tsc_speed = 3;
+    s.singlestep = s.descriptors = 1;
+    return s;
+}
+
+static void settings(void) {
+    struct semblurick_settings s = SEMBLURICK_SETTINGS;
+    CHECK(s.vcpus == 1 && s.views == 1 && s.commands == 0 && s.events == 0 && s.tsc_speed == 0 && s.singlestep == 0 && s.vmfunc == 0);
+    CHECK(s.eptp == 0 && s.ve == 0 && s.spp == 0 && s.descriptors == 0 && s.breakpoints_taken == 0);
+    CHECK(SEMBLURICK_BIT(KVMI_VM_GET_INFO) == 16 && SEMBLURICK_BIT(31) == 0x80000000 && SEMBLURICK_ALL == 0xFFFFFFFF);
+    CHECK(SEMBLURICK_VERSION == 1);
+
+    /* memory of zeros is a closed session */
+    CHECK(!semblurick_is_open(&guest) && semblurick_ready(&guest, 0) == SEMBLURICK_CLOSED);
+    CHECK(semblurick_fresh(&guest, &s) == SEMBLURICK_HANDLED && semblurick_is_open(&guest));
+    begin(KVMI_VM_GET_INFO, 1);
+    CHECK(reply() == -KVMI_EPERM);
+    s.commands = SEMBLURICK_BIT(KVMI_VM_GET_INFO);
+    CHECK(semblurick_fresh(&guest, &s) == SEMBLURICK_HANDLED && reply() == 0);
+    s.vcpus = 17;
+    CHECK(semblurick_fresh(&guest, &s) == SEMBLURICK_BAD_SETTINGS && !semblurick_is_open(&guest));
+    s.vcpus = 1, s.views = 0;
+    CHECK(semblurick_fresh(&guest, &s) == SEMBLURICK_BAD_SETTINGS);
+    CHECK(semblurick_image_read(&guest, &s, nowhere, 0, &r) == SEMBLURICK_BAD_SETTINGS);
+}
+
+static void replies(void) {
+    struct kvmi_get_version_reply version;
+    struct kvmi_vm_get_info_reply info;
+    struct kvmi_vcpu_get_info_reply speed;
+    struct kvmi_vm_check_command command;
+    struct kvmi_vm_check_event event;
+    struct kvmi_vm_write_physical write;
+    struct kvmi_vm_read_physical read;
+
+    begin(KVMI_GET_VERSION, 7);
+    CHECK(reply() == 0 && r.count == 32 && r.signal == SEMBLURICK_NONE && rest_is_zero());
+    memcpy(&version, REPLY_DATA, sizeof version);
+    CHECK(version.version == 1 && version.features.singlestep == 1 && version.features.spp == 0);
+    begin(KVMI_VM_GET_INFO, 7);
+    CHECK(reply() == 0);
+    memcpy(&info, REPLY_DATA, sizeof info);
+    CHECK(info.vcpu_count == 3);
+    begin(KVMI_VCPU_GET_INFO, 7), add_vcpu(1);
+    CHECK(reply() == 0);
+    memcpy(&speed, REPLY_DATA, sizeof speed);
+    CHECK(speed.tsc_speed == 3);
+
+    memset(&command, 0, sizeof command), memset(&event, 0, sizeof event);
+    command.id = KVMI_VCPU_PAUSE;
+    begin(KVMI_VM_CHECK_COMMAND, 7), add(&command, sizeof command);
+    CHECK(reply() == 0);
+    command.id = KVMI_EVENT;
+    begin(KVMI_VM_CHECK_COMMAND, 7), add(&command, sizeof command);
+    CHECK(reply() == -KVMI_EINVAL);
+    event.id = KVMI_EVENT_CPUID;
+    begin(KVMI_VM_CHECK_EVENT, 7), add(&event, sizeof event);
+    CHECK(reply() == 0);
+    begin(99, 7);
+    CHECK(reply() == -KVMI_ENOSYS);
+
+    write.gpa = 4096 + 4090, write.size = 6;
+    begin(KVMI_VM_WRITE_PHYSICAL, 7), add(&write, sizeof write), add("guards", 6);
+    CHECK(reply() == 0 && !memcmp(memory + 8186, "guards", 6));
+    read.gpa = 8187, read.size = 5;
+    begin(KVMI_VM_READ_PHYSICAL, 7), add(&read, sizeof read);
+    CHECK(reply() == 0 && r.count == 21 && !memcmp(REPLY_DATA, "uards", 5));
+    read.gpa = 8192;
+    begin(KVMI_VM_READ_PHYSICAL, 7), add(&read, sizeof read);
+    CHECK(reply() == -KVMI_ENOENT);
+
+    begin(KVMI_VM_GET_INFO, 7);
+    CHECK(semblurick_message(&guest, msg, msg_size, semblurick_output_of(out, sizeof out - 1), semblurick_memory_of(memory, sizeof memory), &r) == SEMBLURICK_SHORT_OUT);
+    CHECK(is_zero(&r));
+}
+
+static void switches(void) {
+    const uint16_t of_vcpu[] = {3, 4, 5, 7, 8, 9, 10, 11, 14};
+    for (size_t i = 0; i < sizeof of_vcpu / sizeof of_vcpu[0]; i++) {
+        uint16_t e = of_vcpu[i];
+        CHECK(!semblurick_vcpu_event(&guest, 1, e) && vcpu_event(1, e, 1) == 0 && semblurick_vcpu_event(&guest, 1, e));
+        CHECK(!semblurick_vcpu_event(&guest, 0, e) && !semblurick_vm_event(&guest, e));
+        CHECK(vcpu_event(1, e, 0) == 0 && !semblurick_vcpu_event(&guest, 1, e));
+    }
+    CHECK(vcpu_event(1, KVMI_EVENT_PAUSE_VCPU, 1) == -KVMI_EINVAL && !semblurick_vcpu_event(&guest, 1, KVMI_EVENT_PAUSE_VCPU));
+    CHECK(vcpu_event(2, KVMI_EVENT_CR, 1) == -KVMI_EAGAIN);
+    CHECK(vm_event(KVMI_EVENT_UNHOOK, 1) == 0 && semblurick_vm_event(&guest, KVMI_EVENT_UNHOOK) && !semblurick_vm_event(&guest, KVMI_EVENT_CREATE_VCPU));
+    CHECK(vm_event(KVMI_EVENT_CREATE_VCPU, 1) == 0 && vm_event(KVMI_EVENT_UNHOOK, 0) == 0);
+    CHECK(!semblurick_vm_event(&guest, KVMI_EVENT_UNHOOK) && semblurick_vm_event(&guest, KVMI_EVENT_CREATE_VCPU));
+    CHECK(!semblurick_vm_event(&guest, 64 + KVMI_EVENT_CREATE_VCPU) && !semblurick_vcpu_event(&guest, 0xFFFFFFFF, 5));
+
+    const uint32_t crs[] = {0, 3, 4};
+    for (int i = 0; i < 3; i++) {
+        CHECK(!semblurick_cr(&guest, 1, crs[i]) && cr(1, crs[i], 1) == 0 && semblurick_cr(&guest, 1, crs[i]) && !semblurick_cr(&guest, 0, crs[i]));
+        CHECK(i == 1 || cr(1, crs[i], 0) == 0);
+    }
+    CHECK(!semblurick_cr(&guest, 1, 0) && semblurick_cr(&guest, 1, 3) && !semblurick_cr(&guest, 1, 4));
+    CHECK(cr(1, 1, 1) == -KVMI_EINVAL && !semblurick_cr(&guest, 1, 1) && !semblurick_cr(&guest, 1, 0xFFFFFFFF));
+
+    const uint32_t msrs[] = {0, 0x1FFF, 0xC0000000, 0xC0001FFF};
+    for (int i = 0; i < 4; i++) {
+        CHECK(!semblurick_msr(&guest, 0, msrs[i]) && msr(0, msrs[i], 1) == 0 && semblurick_msr(&guest, 0, msrs[i]) && !semblurick_msr(&guest, 1, msrs[i]));
+        CHECK(i == 3 || (msr(0, msrs[i], 0) == 0 && !semblurick_msr(&guest, 0, msrs[i])));
+    }
+    CHECK(msr(0, 0x2000, 1) == -KVMI_EINVAL && !semblurick_msr(&guest, 0, 0x2000) && !semblurick_msr(&guest, 0, 0xBFFFFFFF));
+
+    CHECK(!semblurick_singlestep(&guest, 1) && singlestep(1, 1) == 0 && semblurick_singlestep(&guest, 1) && !semblurick_singlestep(&guest, 0));
+}
+
+static void pages(void) {
+    CHECK(semblurick_page_count(&guest) == 0 && semblurick_access(&guest, 0, 1) == 7);
+    CHECK(page(1, 9, 4) == 0 && page(0, 7, 5) == 0 && page(0, 3, 1) == 0 && page(0, 0xFFFFFFFFFFFFF, 0) == 0);
+    CHECK(page(2, 1, 1) == -KVMI_EINVAL && page(0, 1, 2) == -KVMI_EINVAL && page(0, 1, 7) == 0);
+    CHECK(semblurick_page_count(&guest) == 4);
+    const uint64_t should[4][3] = {{0, 3, 1}, {0, 7, 5}, {0, 0xFFFFFFFFFFFFF, 0}, {1, 9, 4}};
+    for (size_t i = 0; i < 4; i++) {
+        struct semblurick_page p = semblurick_page_at(&guest, i);
+        CHECK(p.view == should[i][0] && p.page == should[i][1] && p.access == should[i][2]);
+        CHECK(semblurick_access(&guest, p.view, p.page) == p.access);
+    }
+    CHECK(semblurick_page_at(&guest, 4).access == 7 && semblurick_page_at(&guest, SIZE_MAX).view == 0 && semblurick_page_at(&guest, 1024).page == 0);
+    CHECK(semblurick_access(&guest, 1, 7) == 7 && semblurick_access(&guest, 8, 3) == 7 && semblurick_access(&guest, 0xFFFFFFFF, 3) == 7);
+    CHECK(semblurick_access(&guest, 0, (uint64_t)1 << 52) == 7 && semblurick_access(&guest, 0, UINT64_MAX) == 7);
+    CHECK(page(0, 3, 7) == 0 && semblurick_access(&guest, 0, 3) == 7 && semblurick_page_count(&guest) == 3);
+}
+
+static void pauses(void) {
+    static uint8_t state[SEMBLURICK_STATE_BYTES];
+    struct kvmi_msg_hdr header;
+    struct kvmi_event event;
+    const struct semblurick_output o = semblurick_output_of(out, sizeof out);
+    for (size_t i = 0; i < sizeof state; i++) state[i] = (uint8_t)(i * 7 + 1);
+
+    CHECK(semblurick_pauses(&guest, 1) == 0 && semblurick_awaited(&guest, 1) == 0);
+    CHECK(semblurick_enter(&guest, 1, state, sizeof state, o, &r) == SEMBLURICK_HANDLED && is_zero(&r));
+    begin_pause(1, 1);
+    CHECK(reply() == 0 && r.signal == SEMBLURICK_KICK && r.vcpu == 1 && r.wait == 1 && rest_is_zero());
+    begin_pause(1, 0);
+    CHECK(reply() == 0 && r.signal == SEMBLURICK_KICK && r.wait == 0 && semblurick_pauses(&guest, 1) == 2);
+    for (int i = 3; i <= SEMBLURICK_PAUSE_LIMIT; i++) CHECK(reply() == 0);
+    CHECK(reply() == -KVMI_EBUSY && r.signal == SEMBLURICK_NONE && semblurick_pauses(&guest, 1) == SEMBLURICK_PAUSE_LIMIT);
+
+    CHECK(semblurick_enter(&guest, 3, state, sizeof state, o, &r) == SEMBLURICK_BAD_VCPU && is_zero(&r));
+    CHECK(semblurick_enter(&guest, 1, state, sizeof state - 1, o, &r) == SEMBLURICK_BAD_STATE);
+    CHECK(semblurick_enter(&guest, 1, state, sizeof state, semblurick_output_of(out, SEMBLURICK_ENTRY_OUT - 1), &r) == SEMBLURICK_SHORT_OUT);
+    CHECK(semblurick_enter(&guest, 1, state, sizeof state, semblurick_output_of(out, SEMBLURICK_ENTRY_OUT), &r) == SEMBLURICK_HANDLED && r.count == 552);
+    memcpy(&header, out, sizeof header);
+    memcpy(&event, out + sizeof header, sizeof event);
+    CHECK(header.id == KVMI_EVENT && header.size == 544 && header.seq == 0);
+    CHECK(event.size == 544 && event.vcpu == 1 && event.event == KVMI_EVENT_PAUSE_VCPU && !memcmp(&event.arch, state, sizeof state));
+    CHECK(semblurick_pauses(&guest, 1) == 7 && semblurick_awaited(&guest, 1) == KVMI_EVENT_PAUSE_VCPU && semblurick_awaited(&guest, 0) == 0);
+    CHECK(semblurick_enter(&guest, 1, state, sizeof state, o, &r) == SEMBLURICK_WAITING && is_zero(&r));
+    CHECK(semblurick_image_write(&guest, semblurick_output_of(image, sizeof image), &r) == SEMBLURICK_BUSY);
+    CHECK(answer_event(1, 0, KVMI_EVENT_ACTION_CONTINUE) == SEMBLURICK_HANDLED && is_zero(&r) && semblurick_awaited(&guest, 1) == 0);
+    CHECK(semblurick_enter(&guest, 1, state, sizeof state, o, &r) == SEMBLURICK_HANDLED && r.count == 552);
+    CHECK(answer_event(1, 1, KVMI_EVENT_ACTION_CRASH) == SEMBLURICK_HANDLED && r.signal == SEMBLURICK_CRASH && r.vcpu == 1 && semblurick_is_open(&guest));
+}
+
+static void errors_as_events(void) {
+    struct kvmi_vm_control_cmd_response c;
+    struct kvmi_msg_hdr header;
+    struct kvmi_event event;
+    struct kvmi_event_cmd_error error;
+    memset(&c, 0, sizeof c);
+    c.now = 1, c.flags = 1;
+    begin(KVMI_VM_CONTROL_CMD_RESPONSE, 50), add(&c, sizeof c);
+    CHECK(send() == SEMBLURICK_HANDLED && r.count == 0);
+    begin_pause(2, 0);
+    CHECK(send() == SEMBLURICK_HANDLED && r.count == SEMBLURICK_EVENT_MAX);
+    memcpy(&header, out, sizeof header);
+    memcpy(&event, out + sizeof header, sizeof event);
+    memcpy(&error, out + sizeof header + sizeof event, sizeof error);
+    CHECK(header.id == KVMI_EVENT && header.size == 560 && event.size == 544 && event.event == KVMI_EVENT_CMD_ERROR);
+    CHECK(error.err == -KVMI_EAGAIN && error.msg_seq == 9 && error.msg_id == KVMI_VCPU_PAUSE);
+    c.enable = 1, c.flags = 0;
+    begin(KVMI_VM_CONTROL_CMD_RESPONSE, 51), add(&c, sizeof c);
+    CHECK(reply() == 0);
+}
+
+static bool is_alike(void) {
+    for (uint32_t v = 0; v < 17; v++) {
+        if (semblurick_is_ready(&guest, v) != semblurick_is_ready(&other, v) || semblurick_singlestep(&guest, v) != semblurick_singlestep(&other, v)) return false;
+        if (semblurick_pauses(&guest, v) != semblurick_pauses(&other, v) || semblurick_cr(&guest, v, 3) != semblurick_cr(&other, v, 3)) return false;
+        for (uint32_t m = 0; m < 0x2000; m++)
+            if (semblurick_msr(&guest, v, m) != semblurick_msr(&other, v, m) || semblurick_msr(&guest, v, 0xC0000000 + m) != semblurick_msr(&other, v, 0xC0000000 + m)) return false;
+    }
+    for (size_t i = 0; i < SEMBLURICK_PAGE_LIMIT; i++) {
+        struct semblurick_page a = semblurick_page_at(&guest, i), b = semblurick_page_at(&other, i);
+        if (a.view != b.view || a.page != b.page || a.access != b.access) return false;
+    }
+    return semblurick_page_count(&guest) == semblurick_page_count(&other);
+}
+
+static void images(const struct semblurick_settings *s) {
+    size_t size = semblurick_image_size(&guest);
+    CHECK(size == 8 + 3 * 10 + 1 * 8 + 3 * 14 + 6);
+    CHECK(semblurick_image_write(&guest, semblurick_output_of(image, size - 1), &r) == SEMBLURICK_SHORT_OUT);
+    CHECK(semblurick_image_write(&guest, semblurick_output_of(image, size), &r) == SEMBLURICK_HANDLED && r.count == size && rest_is_zero());
+    CHECK(!memcmp(image, "VM", 2) && !memcmp(image + size - 6, "EN", 2));
+    memset(&other, 0x5A, sizeof other); /* whatever stood there */
+    CHECK(semblurick_image_read(&other, s, image, size, &r) == SEMBLURICK_HANDLED && is_zero(&r) && is_alike());
+
+    CHECK(semblurick_image_read(&other, s, image, size - 6, &r) == SEMBLURICK_BAD_FORM && r.offset == size - 6 && !semblurick_is_open(&other));
+    struct semblurick_settings less = *s;
+    less.views = 1;
+    CHECK(semblurick_image_read(&other, &less, image, size, &r) == SEMBLURICK_FORBIDDEN && r.offset == size - 20 && r.count == 0);
+    /* the session's own settings may be lent */
+    other.session.settings = *s;
+    CHECK(semblurick_image_read(&other, &other.session.settings, image, size, &r) == SEMBLURICK_HANDLED && is_alike());
+}
+
+static void closing(void) {
+    begin(KVMI_GET_VERSION, 1);
+    msg_size--;
+    CHECK(send() == SEMBLURICK_CLOSING && is_zero(&r) && !semblurick_is_open(&guest) && !semblurick_is_ready(&guest, 0));
+    CHECK(semblurick_page_count(&guest) == 0 && semblurick_access(&guest, 0, 7) == 7 && !semblurick_msr(&guest, 0, 0xC0001FFF));
+    CHECK(!semblurick_singlestep(&guest, 1) && semblurick_pauses(&guest, 1) == 0 && !semblurick_vm_event(&guest, 12) && !semblurick_cr(&guest, 1, 3));
+    CHECK(send() == SEMBLURICK_CLOSED && semblurick_ready(&guest, 0) == SEMBLURICK_CLOSED);
+    CHECK(semblurick_image_write(&guest, semblurick_output_of(image, sizeof image), &r) == SEMBLURICK_CLOSED);
+    CHECK(semblurick_enter(&guest, 0, nowhere, 0, semblurick_output_of(out, sizeof out), &r) == SEMBLURICK_CLOSED);
+}
+
+static void lists(void) {
+    struct semblurick_vcpu list[3];
+    memset(list, 0, sizeof list);
+    CHECK(semblurick_list_cr(list, 3, 1, 3, 1) == SEMBLURICK_NOT_APPLICABLE && list[1].crs == 0);
+    CHECK(semblurick_list_ready(list, 3, 1) == SEMBLURICK_HANDLED && list[1].ready == 1 && list[0].ready == 0 && list[2].ready == 0);
+    CHECK(semblurick_list_cr(list, 3, 1, 0, 1) == SEMBLURICK_HANDLED && list[1].crs == 1);
+    CHECK(semblurick_list_cr(list, 3, 1, 3, 1) == SEMBLURICK_HANDLED && list[1].crs == 3);
+    CHECK(semblurick_list_cr(list, 3, 1, 4, 9) == SEMBLURICK_HANDLED && list[1].crs == 7);
+    CHECK(semblurick_list_cr(list, 3, 1, 3, 0) == SEMBLURICK_HANDLED && list[1].crs == 5 && list[0].crs == 0 && list[2].crs == 0);
+    CHECK(semblurick_list_cr(list, 3, 1, 2, 1) == SEMBLURICK_NOT_APPLICABLE && list[1].crs == 5);
+    CHECK(semblurick_list_ready(list, 3, 3) == SEMBLURICK_BAD_VCPU && semblurick_list_cr(list, 3, SIZE_MAX, 2, 1) == SEMBLURICK_BAD_VCPU);
+    CHECK(semblurick_list_ready(list, 0, 0) == SEMBLURICK_BAD_VCPU);
+}
+
+/* the functions below the calls, over parts that stand apart */
+static void parts(void) {
+    static struct semblurick_session session;
+    static struct semblurick_vcpus vcpus;
+    static struct semblurick_pages page_words;
+    static const uint8_t state[SEMBLURICK_STATE_BYTES] = {0};
+    uint64_t numbers[3];
+    session.settings = settings_of(1, 1);
+    CHECK(semblurick_raw_fresh(&session, &vcpus, &page_words, &r) == SEMBLURICK_HANDLED && semblurick_raw_is_open(&session) == 1);
+    CHECK(semblurick_raw_ready(&session, 0, &r) == SEMBLURICK_HANDLED && semblurick_raw_is_ready(&session, 0) == 1);
+    begin_pause(0, 1);
+    CHECK(semblurick_raw_message(&session, &vcpus, &page_words, msg, msg_size, out, sizeof out, memory, sizeof memory, &r) == SEMBLURICK_HANDLED);
+    CHECK(r.signal == SEMBLURICK_KICK && semblurick_raw_pauses(&session, &vcpus, 0) == 1);
+    CHECK(semblurick_raw_image_size(&session, &vcpus, &page_words) == 24);
+    CHECK(semblurick_raw_image_write(&session, &vcpus, &page_words, image, 24, &r) == SEMBLURICK_HANDLED);
+    CHECK(semblurick_raw_image_read(&session, &vcpus, &page_words, image, 24, &r) == SEMBLURICK_HANDLED);
+    CHECK(semblurick_raw_enter(&session, &vcpus, 0, state, sizeof state, out, sizeof out, &r) == SEMBLURICK_HANDLED && r.count == 552);
+    CHECK(semblurick_raw_awaited(&session, &vcpus, 0) == 2 && semblurick_raw_page_count(&session) == 0 && semblurick_raw_access(&session, &page_words, 0, 1) == 7);
+    CHECK(!semblurick_raw_vm_event(&session, 1) && !semblurick_raw_vcpu_event(&session, &vcpus, 0, 5) && !semblurick_raw_cr(&session, &vcpus, 0, 3));
+    CHECK(!semblurick_raw_msr(&session, &vcpus, 0, 1) && !semblurick_raw_singlestep(&session, &vcpus, 0));
+    CHECK(semblurick_raw_page_at(&session, &page_words, 0, numbers) == 7 && numbers[0] == 0 && numbers[1] == 0 && numbers[2] == 7);
+    /* a refused beginning leaves the words, and a closed session, in which nothing is awaited */
+    CHECK(semblurick_raw_image_read(&session, &vcpus, &page_words, image, 0, &r) == SEMBLURICK_BAD_FORM && semblurick_raw_is_open(&session) == 0);
+    CHECK(vcpus.words[4] == 2 && semblurick_raw_awaited(&session, &vcpus, 0) == 0);
+}
+
+/* the most of everything */
+static void limits(void) {
+    struct semblurick_settings s = settings_of(SEMBLURICK_MAX_VCPUS + 1, SEMBLURICK_MAX_VIEWS);
+    CHECK(semblurick_fresh(&guest, &s) == SEMBLURICK_BAD_SETTINGS);
+    s = settings_of(SEMBLURICK_MAX_VCPUS, SEMBLURICK_MAX_VIEWS + 1);
+    CHECK(semblurick_fresh(&guest, &s) == SEMBLURICK_BAD_SETTINGS);
+    s = settings_of(SEMBLURICK_MAX_VCPUS, SEMBLURICK_MAX_VIEWS);
+    CHECK(semblurick_fresh(&guest, &s) == SEMBLURICK_HANDLED);
+
+    /* a message of the most entries: of the pages the first 1,024 find room */
+    struct kvmi_vm_set_page_access p;
+    struct kvmi_page_access_entry e;
+    memset(&p, 0, sizeof p), memset(&e, 0, sizeof e);
+    p.count = (UINT16_MAX - sizeof p) / sizeof e, p.view = SEMBLURICK_MAX_VIEWS - 1;
+    e.access = KVMI_PAGE_ACCESS_R | KVMI_PAGE_ACCESS_W;
+    begin(KVMI_VM_SET_PAGE_ACCESS, 1), add(&p, sizeof p);
+    for (unsigned i = 0; i < p.count; i++) e.gpa = (uint64_t)i * SEMBLURICK_PAGE_BYTES, add(&e, sizeof e);
+    CHECK(p.count == 4095 && msg_size <= SEMBLURICK_MESSAGE_MAX && reply() == -KVMI_ENOMEM);
+    CHECK(semblurick_page_count(&guest) == SEMBLURICK_PAGE_LIMIT && semblurick_access(&guest, p.view, SEMBLURICK_PAGE_LIMIT - 1) == 3);
+    CHECK(semblurick_access(&guest, p.view, SEMBLURICK_PAGE_LIMIT) == 7);
+    CHECK(SEMBLURICK_MESSAGE_MAX == SEMBLURICK_HEADER_BYTES + UINT16_MAX);
+
+    /* and the longest image */
+    struct { struct kvmi_msg_hdr header; struct kvmi_vcpu_hdr of; struct kvmi_vcpu_control_msr its; } m;
+    unsigned refused = 0;
+    memset(&m, 0, sizeof m);
+    m.header.id = KVMI_VCPU_CONTROL_MSR, m.header.size = 16, m.its.enable = 1;
+    for (uint16_t v = 0; v < SEMBLURICK_MAX_VCPUS; v++) {
+        CHECK(semblurick_ready(&guest, v) == SEMBLURICK_HANDLED);
+        m.of.vcpu = v;
+        for (uint32_t i = 0; i < 0x4000; i++) {
+            m.its.msr = i < 0x2000 ? i : i - 0x2000 + 0xC0000000;
+            if (semblurick_message(&guest, &m, sizeof m, semblurick_output_of(out, sizeof out), semblurick_no_memory(), &r)) refused++;
+            if (!semblurick_msr(&guest, v, m.its.msr)) refused++;
+        }
+    }
+    CHECK(!refused && semblurick_image_size(&guest) == SEMBLURICK_IMAGE_MAX);
+    CHECK(semblurick_image_write(&guest, semblurick_output_of(image, sizeof image), &r) == SEMBLURICK_HANDLED && r.count == sizeof image);
+    CHECK(semblurick_image_read(&other, &s, image, sizeof image, &r) == SEMBLURICK_HANDLED && is_alike());
+}
+
+/* KVMI's numbers, in their order */
+static void numbers(void) {
+    static const int messages[] = {KVMI_GET_VERSION, KVMI_VM_CHECK_COMMAND, KVMI_VM_CHECK_EVENT, KVMI_VM_GET_INFO, KVMI_VM_CONTROL_EVENTS,
+        KVMI_VM_READ_PHYSICAL, KVMI_VM_WRITE_PHYSICAL, KVMI_VCPU_GET_INFO, KVMI_VCPU_PAUSE, KVMI_VCPU_CONTROL_EVENTS, KVMI_VCPU_CONTROL_CR,
+        KVMI_VCPU_CONTROL_MSR, KVMI_VM_SET_PAGE_ACCESS, KVMI_VCPU_CONTROL_SINGLESTEP, KVMI_VM_CONTROL_CMD_RESPONSE, KVMI_EVENT_REPLY, KVMI_EVENT};
+    static const int events[] = {KVMI_EVENT_UNHOOK, KVMI_EVENT_PAUSE_VCPU, KVMI_EVENT_HYPERCALL, KVMI_EVENT_BREAKPOINT, KVMI_EVENT_CR, KVMI_EVENT_TRAP,
+        KVMI_EVENT_XSETBV, KVMI_EVENT_DESCRIPTOR, KVMI_EVENT_MSR, KVMI_EVENT_PF, KVMI_EVENT_SINGLESTEP, KVMI_EVENT_CREATE_VCPU, KVMI_EVENT_CMD_ERROR,
+        KVMI_EVENT_CPUID};
+    for (int i = 0; i < 17; i++) CHECK(messages[i] == i + 1);
+    for (int i = 0; i < 14; i++) CHECK(events[i] == i + 1);
+    CHECK(KVMI_EVENT_ACTION_CONTINUE == 0 && KVMI_EVENT_ACTION_RETRY == 1 && KVMI_EVENT_ACTION_CRASH == 2);
+    CHECK(KVMI_PAGE_ACCESS_R == 1 && KVMI_PAGE_ACCESS_W == 2 && KVMI_PAGE_ACCESS_X == 4);
+}
+
+static void texts(void) {
+    static const char *const answers[] = {"handled", "closing", "closed", "short output", "bad vCPU", "bad state block", "waiting", "bad settings",
+        "bad form", "forbidden", "busy", "unknown answer", "unknown answer", "unknown answer", "not applicable", "unknown answer"};
+    for (uint32_t i = 0; i < 16; i++) CHECK(!strcmp(semblurick_answer_text(i), answers[i]));
+    CHECK(!strcmp(semblurick_answer_text(SEMBLURICK_BUSY), "busy") && !strcmp(semblurick_answer_text(UINT32_MAX), "unknown answer"));
+    CHECK(!strcmp(semblurick_signal_text(SEMBLURICK_NONE), "none") && !strcmp(semblurick_signal_text(SEMBLURICK_KICK), "kick"));
+    CHECK(!strcmp(semblurick_signal_text(SEMBLURICK_CRASH), "crash") && !strcmp(semblurick_signal_text(UINT64_MAX), "unknown signal"));
+    const int32_t errors[] = {-KVMI_EPERM, -KVMI_ENOENT, -KVMI_EAGAIN, -KVMI_ENOMEM, -KVMI_EBUSY, -KVMI_EINVAL, -KVMI_EOPNOTSUPP, -KVMI_ENOSYS};
+    static const char *const names[] = {"EPERM:", "ENOENT:", "EAGAIN:", "ENOMEM:", "EBUSY:", "EINVAL:", "EOPNOTSUPP:", "ENOSYS:"};
+    for (int i = 0; i < 8; i++) CHECK(!strncmp(semblurick_error_text(errors[i]), names[i], strlen(names[i])));
+    CHECK(!strcmp(semblurick_error_text(0), "no error") && !strcmp(semblurick_error_text(22), "unknown error"));
+    CHECK(!strcmp(semblurick_error_text(INT32_MIN), "unknown error") && !strcmp(semblurick_error_text(-38), "unknown error"));
+}
+
+int main(void) {
+    struct semblurick_settings s = settings_of(3, 2);
+    settings();
+    CHECK(semblurick_fresh(&guest, &s) == SEMBLURICK_HANDLED);
+    CHECK(!semblurick_is_ready(&guest, 0) && semblurick_ready(&guest, 0) == SEMBLURICK_HANDLED && semblurick_is_ready(&guest, 0));
+    CHECK(semblurick_ready(&guest, 1) == SEMBLURICK_HANDLED && !semblurick_is_ready(&guest, 2) && !semblurick_is_ready(&guest, 64));
+    CHECK(semblurick_ready(&guest, 3) == SEMBLURICK_BAD_VCPU && semblurick_ready(&guest, 65536) == SEMBLURICK_BAD_VCPU);
+    replies();
+    switches();
+    pages();
+    pauses();
+    errors_as_events();
+    images(&s);
+    closing();
+    lists();
+    parts();
+    limits();
+    numbers();
+    texts();
+    CHECK(second_unit() == sizeof(struct semblurick));
+    if (failed) return printf("%u of %u checks failed\n", failed, checks), 1;
+    printf("header: %u checks\n", checks);
+    return 0;
+}

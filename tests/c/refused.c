@@ -1,0 +1,38 @@
+/* What the compiler has to refuse with -Werror=unused-result, for each CASE from 1 to 12; CASE 0 is taken. */
+#include "semblurick.h"
+
+void use(struct semblurick *guest, uint8_t *bytes, size_t size, struct semblurick_vcpu *list, struct semblurick_result *r);
+void use(struct semblurick *guest, uint8_t *bytes, size_t size, struct semblurick_vcpu *list, struct semblurick_result *r) {
+    struct semblurick_settings s = SEMBLURICK_SETTINGS;
+    struct semblurick_output out = semblurick_output_of(bytes, size);
+    struct semblurick_memory memory = semblurick_memory_of(bytes, size);
+    if (semblurick_fresh(guest, &s) || semblurick_message(guest, bytes, size, out, memory, r)) return;
+    (void)list;
+    /* an answer is dropped */
+#if CASE == 1
+    semblurick_fresh(guest, &s);
+#elif CASE == 2
+    semblurick_ready(guest, 0);
+#elif CASE == 3
+    semblurick_message(guest, bytes, size, out, memory, r);
+#elif CASE == 4
+    semblurick_enter(guest, 0, bytes, size, out, r);
+#elif CASE == 5
+    semblurick_image_write(guest, out, r);
+#elif CASE == 6
+    semblurick_image_read(guest, &s, bytes, size, r);
+#elif CASE == 7
+    semblurick_list_ready(list, 1, 0);
+#elif CASE == 8
+    semblurick_list_cr(list, 1, 0, 3, 1);
+#elif CASE == 9
+    semblurick_raw_ready(&guest->session, 0, r);
+    /* output and guest memory are exchanged, or memory stands where an output should */
+#elif CASE == 10
+    if (semblurick_message(guest, bytes, size, memory, out, r)) return;
+#elif CASE == 11
+    if (semblurick_image_write(guest, memory, r)) return;
+#elif CASE == 12
+    if (semblurick_message(guest, bytes, size, bytes, size, bytes, size, r)) return;
+#endif
+}

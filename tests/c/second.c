@@ -1,0 +1,40 @@
+/* A second translation unit that has the header: it links with the first. It takes KVMI's names from elsewhere, and holds the layout
+ * of the register block against the kernel's own header, where there is one. */
+#define SEMBLURICK_NO_KVMI_NAMES
+#include "semblurick.h"
+#include "semblurick.h"
+
+#ifdef __cplusplus
+#define SAME(a, b) static_assert((a) == (b) + 0, #a)
+#else
+#define SAME(a, b) _Static_assert((a) == (b) + 0, #a)
+#endif
+
+#if defined(__has_include)
+#if __has_include(<asm/kvm.h>)
+#include <asm/kvm.h>
+#define HAS_KVM
+#endif
+#endif
+
+#ifdef HAS_KVM
+#define REG(member, name) SAME(8 + offsetof(struct kvm_regs, member), SEMBLURICK_STATE_##name)
+#define SREG(member, name) SAME(152 + offsetof(struct kvm_sregs, member), SEMBLURICK_STATE_##name)
+SAME(sizeof(struct kvm_regs), SEMBLURICK_STATE_SREGS - SEMBLURICK_STATE_REGS);
+SAME(sizeof(struct kvm_sregs), SEMBLURICK_STATE_MSRS - SEMBLURICK_STATE_SREGS);
+SAME(sizeof(struct kvm_segment), 24);
+SAME(sizeof(struct kvm_dtable), 16);
+REG(rax, RAX); REG(rbx, RBX); REG(rcx, RCX); REG(rdx, RDX); REG(rsi, RSI); REG(rdi, RDI); REG(rsp, RSP); REG(rbp, RBP);
+REG(r8, R8); REG(r15, R15); REG(rip, RIP); REG(rflags, RFLAGS);
+SREG(cs, CS); SREG(ds, DS); SREG(es, ES); SREG(fs, FS); SREG(gs, GS); SREG(ss, SS); SREG(tr, TR); SREG(ldt, LDT);
+SREG(gdt, GDT); SREG(idt, IDT); SREG(cr0, CR0); SREG(cr2, CR2); SREG(cr3, CR3); SREG(cr4, CR4); SREG(cr8, CR8);
+SREG(efer, EFER); SREG(apic_base, APIC_BASE); SREG(interrupt_bitmap, INTERRUPT_BITMAP);
+#endif
+SAME(SEMBLURICK_STATE_MSRS + 9 * 8, SEMBLURICK_STATE_BYTES);
+
+size_t second_unit(void);
+size_t second_unit(void) {
+    static struct semblurick guest;
+    struct semblurick_settings s = SEMBLURICK_SETTINGS;
+    return semblurick_fresh(&guest, &s) == SEMBLURICK_HANDLED && semblurick_is_open(&guest) ? sizeof guest : 0;
+}
