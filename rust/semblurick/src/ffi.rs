@@ -36,6 +36,21 @@ pub struct Outcome {
     pub signal: u64,
     pub vcpu: u64,
     pub wait: u64,
+    /// Kept for later; 0 in every answer.
+    pub reserved: [u64; 7],
+}
+
+/// A vCPU's record in a list that the host keeps.
+#[repr(C)]
+#[derive(Clone, Copy)]
+pub struct Vcpu {
+    pub ready: u64,
+    pub singlestep: u64,
+    pub crs: u64,
+    pub events: u64,
+    pub pauses: u64,
+    pub awaited: u64,
+    pub awaited_seq: u64,
 }
 
 pub type Vcpus = [u64; VCPU_WORDS];
@@ -44,13 +59,14 @@ pub type Pages = [u64; PAGE_WORDS];
 const _: () = {
     assert!(core::mem::size_of::<Settings>() == 32);
     assert!(core::mem::size_of::<Session>() == 72);
-    assert!(core::mem::size_of::<Outcome>() == 40);
+    assert!(core::mem::size_of::<Outcome>() == 96);
+    assert!(core::mem::size_of::<Vcpu>() == 56);
 };
 
 extern "C" {
-    pub fn semblurick_fresh(session: *mut Session, vcpus: *mut Vcpus, pages: *mut Pages, result: *mut Outcome) -> u32;
-    pub fn semblurick_ready(session: *mut Session, vcpu: u32, result: *mut Outcome) -> u32;
-    pub fn semblurick_message(
+    pub fn semblurick_raw_fresh(session: *mut Session, vcpus: *mut Vcpus, pages: *mut Pages, result: *mut Outcome) -> u32;
+    pub fn semblurick_raw_ready(session: *mut Session, vcpu: u32, result: *mut Outcome) -> u32;
+    pub fn semblurick_raw_message(
         session: *mut Session,
         vcpus: *mut Vcpus,
         pages: *mut Pages,
@@ -62,7 +78,7 @@ extern "C" {
         guest_size: usize,
         result: *mut Outcome,
     ) -> u32;
-    pub fn semblurick_enter(
+    pub fn semblurick_raw_enter(
         session: *mut Session,
         vcpus: *mut Vcpus,
         vcpu: u32,
@@ -72,8 +88,8 @@ extern "C" {
         out_size: usize,
         result: *mut Outcome,
     ) -> u32;
-    pub fn semblurick_image_size(session: *const Session, vcpus: *const Vcpus, pages: *const Pages) -> usize;
-    pub fn semblurick_image_write(
+    pub fn semblurick_raw_image_size(session: *const Session, vcpus: *const Vcpus, pages: *const Pages) -> usize;
+    pub fn semblurick_raw_image_write(
         session: *const Session,
         vcpus: *const Vcpus,
         pages: *const Pages,
@@ -81,7 +97,7 @@ extern "C" {
         out_size: usize,
         result: *mut Outcome,
     ) -> u32;
-    pub fn semblurick_image_read(
+    pub fn semblurick_raw_image_read(
         session: *mut Session,
         vcpus: *mut Vcpus,
         pages: *mut Pages,
@@ -89,4 +105,22 @@ extern "C" {
         image_size: usize,
         result: *mut Outcome,
     ) -> u32;
+
+    // lookups: they only read, and take any number
+    pub fn semblurick_raw_is_open(session: *const Session) -> u32;
+    pub fn semblurick_raw_is_ready(session: *const Session, vcpu: u32) -> u32;
+    pub fn semblurick_raw_vm_event(session: *const Session, event: u32) -> u32;
+    pub fn semblurick_raw_vcpu_event(vcpus: *const Vcpus, vcpu: u32, event: u32) -> u32;
+    pub fn semblurick_raw_cr(vcpus: *const Vcpus, vcpu: u32, cr: u32) -> u32;
+    pub fn semblurick_raw_msr(vcpus: *const Vcpus, vcpu: u32, msr: u32) -> u32;
+    pub fn semblurick_raw_singlestep(vcpus: *const Vcpus, vcpu: u32) -> u32;
+    pub fn semblurick_raw_pauses(vcpus: *const Vcpus, vcpu: u32) -> u64;
+    pub fn semblurick_raw_awaited(vcpus: *const Vcpus, vcpu: u32) -> u64;
+    pub fn semblurick_raw_page_count(session: *const Session) -> usize;
+    pub fn semblurick_raw_access(session: *const Session, pages: *const Pages, view: u32, page: u64) -> u32;
+    pub fn semblurick_raw_page_at(session: *const Session, pages: *const Pages, i: usize, page: *mut [u64; 3]);
+
+    // vCPU records in a list that the host keeps
+    pub fn semblurick_list_ready(vcpus: *mut Vcpu, count: usize, index: usize) -> u32;
+    pub fn semblurick_list_cr(vcpus: *mut Vcpu, count: usize, index: usize, cr: u32, on: u32) -> u32;
 }

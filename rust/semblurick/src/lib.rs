@@ -327,8 +327,8 @@ impl Session {
             let (raw, vcpus, pages) = (addr_of_mut!((*place).raw), addr_of_mut!((*place).vcpus), addr_of_mut!((*place).pages));
             addr_of_mut!((*raw).settings).write(settings.raw());
             Told::by(|result| match image {
-                None => ffi::semblurick_fresh(raw, vcpus, pages, result),
-                Some(image) => ffi::semblurick_image_read(raw, vcpus, pages, image.as_ptr(), image.len(), result),
+                None => ffi::semblurick_raw_fresh(raw, vcpus, pages, result),
+                Some(image) => ffi::semblurick_raw_image_read(raw, vcpus, pages, image.as_ptr(), image.len(), result),
             })
         };
         told.done().map(|_| ())
@@ -338,7 +338,7 @@ impl Session {
     #[inline]
     pub fn ready(&mut self, vcpu: u32) -> Result<(), Refusal> {
         // SAFETY: the session is borrowed for this call alone.
-        let told = unsafe { Told::by(|result| ffi::semblurick_ready(&mut self.raw, vcpu, result)) };
+        let told = unsafe { Told::by(|result| ffi::semblurick_raw_ready(&mut self.raw, vcpu, result)) };
         told.done().map(|_| ())
     }
 
@@ -349,7 +349,7 @@ impl Session {
         // SAFETY: the slices are borrowed for this call, and what is `&mut` overlaps nothing else.
         let told = unsafe {
             Told::by(|result| {
-                ffi::semblurick_message(
+                ffi::semblurick_raw_message(
                     &mut self.raw,
                     &mut self.vcpus,
                     &mut self.pages,
@@ -384,7 +384,7 @@ impl Session {
         // SAFETY: as for `message`.
         let told = unsafe {
             Told::by(|result| {
-                ffi::semblurick_enter(
+                ffi::semblurick_raw_enter(
                     &mut self.raw,
                     &mut self.vcpus,
                     vcpu,
@@ -404,7 +404,7 @@ impl Session {
     #[inline]
     pub fn image_size(&self) -> usize {
         // SAFETY: all three are only read.
-        unsafe { ffi::semblurick_image_size(&self.raw, &self.vcpus, &self.pages) }
+        unsafe { ffi::semblurick_raw_image_size(&self.raw, &self.vcpus, &self.pages) }
     }
 
     /// Writes the image, for a new host, and says how many bytes it has. Refused: [`Refusal::Closed`], [`Refusal::Busy`],
@@ -414,7 +414,7 @@ impl Session {
         // SAFETY: the session is only read, and the output overlaps nothing else.
         let told = unsafe {
             Told::by(|result| {
-                ffi::semblurick_image_write(&self.raw, &self.vcpus, &self.pages, out.as_mut_ptr(), out.len(), result)
+                ffi::semblurick_raw_image_write(&self.raw, &self.vcpus, &self.pages, out.as_mut_ptr(), out.len(), result)
             })
         };
         told.done()
