@@ -21,7 +21,7 @@ trait Filter: Sized {
 }
 
 fn proved_settings() -> semblurick::Settings {
-    semblurick::Settings { views: 8, ..semblurick::Settings::allowing_all(VCPUS) }
+    semblurick::Settings::allowing_all(VCPUS).views(8)
 }
 
 impl Filter for semblurick::Session {
@@ -41,7 +41,7 @@ impl Filter for semblurick::Session {
     }
 
     fn enter(&mut self, vcpu: u32, state: &[u8], out: &mut [u8]) -> usize {
-        semblurick::Session::enter(self, vcpu, state, out).expect("an entry").len()
+        semblurick::Session::enter(self, vcpu, state, out).expect("an entry").bytes.len()
     }
 
     fn write_image(&self, out: &mut [u8]) -> usize {

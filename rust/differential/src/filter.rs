@@ -48,21 +48,24 @@ impl Filter for Proved {
                 let error = answer.error().map(semblurick::Errno::number);
                 match answer {
                     semblurick::Answer::Closing => (Answer::Closing, error),
-                    semblurick::Answer::Handled { bytes, signal } => {
+                    semblurick::Answer::Handled { bytes, signal, .. } => {
+                        let narrow = |vcpu: u32| u16::try_from(vcpu).expect("a vCPU below 16");
                         let signal = match signal {
                             semblurick::Signal::None => Signal::None,
-                            semblurick::Signal::Kick { vcpu, wait } => Signal::Kick { vcpu, wait },
-                            semblurick::Signal::Crash { vcpu } => Signal::Crash { vcpu },
+                            semblurick::Signal::Kick { vcpu, wait } => Signal::Kick { vcpu: narrow(vcpu), wait },
+                            semblurick::Signal::Crash { vcpu } => Signal::Crash { vcpu: narrow(vcpu) },
+                            other => panic!("the reference has no {other}"),
                         };
                         (Answer::Handled { count: bytes.len(), signal }, error)
                     }
+                    other => panic!("the reference has no {other}"),
                 }
             }
         }
     }
 
     fn enter(&mut self, vcpu: u32, state: &[u8], out: &mut [u8]) -> Answer {
-        self.0.enter(vcpu, state, out).map_or_else(refused, |bytes| handled(bytes.len()))
+        self.0.enter(vcpu, state, out).map_or_else(refused, |entry| handled(entry.bytes.len()))
     }
 
     fn image_size(&self) -> usize {
@@ -113,6 +116,7 @@ fn refused(refusal: semblurick::Refusal) -> Answer {
         Refusal::BadForm { offset } => Answer::BadForm { offset },
         Refusal::Forbidden { offset } => Answer::Forbidden { offset },
         Refusal::Busy => Answer::Busy,
+        other => panic!("the reference has no {other}"),
     };
     assert_eq!(refusal.number(), answer.number());
     answer
@@ -120,16 +124,15 @@ fn refused(refusal: semblurick::Refusal) -> Answer {
 
 fn wrapped(settings: &Settings) -> semblurick::Settings {
     let [singlestep, vmfunc, eptp, ve, spp] = settings.features;
-    semblurick::Settings {
-        vcpus: settings.vcpus,
-        views: settings.views,
-        commands: semblurick::CommandSet::from_bits(settings.commands),
-        events: semblurick::EventSet::from_bits(settings.events),
-        tsc_speed: settings.tsc,
-        features: semblurick::Features { singlestep, vmfunc, eptp, ve, spp },
-        descriptors: settings.descriptors,
-        breakpoints_taken: settings.breakpoints,
-    }
+    let features = semblurick::Features::NONE.singlestep(singlestep).vmfunc(vmfunc).eptp(eptp).ve(ve).spp(spp);
+    semblurick::Settings::new(settings.vcpus)
+        .views(settings.views)
+        .commands(semblurick::CommandSet::from_bits(settings.commands))
+        .events(semblurick::EventSet::from_bits(settings.events))
+        .tsc_speed(settings.tsc)
+        .features(features)
+        .descriptors(settings.descriptors)
+        .breakpoints_taken(settings.breakpoints)
 }
 
 /// The plain implementation.

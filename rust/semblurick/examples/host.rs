@@ -1,6 +1,6 @@
 //! A host in Rust: takes the messages that stand end to end in a file, answers them, lets a kicked vCPU enter the guest, and hands
 //! the session over by an image. Usage: host FILE
-use semblurick::{Answer, Refusal, Session, Settings, Signal, MESSAGE_OUT, STATE_BYTES};
+use semblurick::{Refusal, Session, Settings, Signal, MESSAGE_OUT, STATE_BYTES};
 use std::{env, fs, process};
 
 /// The length of the next message: what its header says, or all that is left.
@@ -23,19 +23,18 @@ fn run(stream: &[u8]) -> Result<bool, Refusal> {
         let (message, after) = rest.split_at(next(rest));
         let (answer, bytes, signal) = match session.message(message, &mut out, &mut guest) {
             // here the bytes go to the tool
-            Ok(Answer::Handled { bytes, signal }) => (0, bytes.len(), signal),
-            Ok(Answer::Closing) => (1, 0, Signal::None),
+            Ok(answer) => (answer.number(), answer.bytes().len(), answer.signal()),
             Err(refusal) => (refusal.number(), 0, Signal::None),
         };
         println!("message {}: answer {answer}, {bytes} bytes", message[0]);
         match signal {
             // the vCPU leaves the guest, and is about to enter it again: a queued pause is told now
             Signal::Kick { vcpu, .. } => {
-                let event = session.enter(vcpu.into(), &[0; STATE_BYTES], &mut out)?;
-                println!("vCPU {vcpu} enters: answer 0, {} bytes", event.len());
+                let event = session.enter(vcpu, &[0; STATE_BYTES], &mut out)?;
+                println!("vCPU {vcpu} enters: answer 0, {} bytes", event.bytes.len());
             }
             Signal::Crash { vcpu } => println!("vCPU {vcpu} is to be crashed"),
-            Signal::None => {}
+            _ => {}
         }
         rest = after;
     }

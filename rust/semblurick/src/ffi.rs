@@ -42,14 +42,21 @@ pub struct Outcome {
 
 /// A vCPU's record in a list that the host keeps.
 #[repr(C)]
-#[derive(Clone, Copy)]
+#[derive(Clone, Copy, Debug, Default, PartialEq, Eq, Hash)]
 pub struct Vcpu {
+    /// Not 0: the vCPU is ready.
     pub ready: u64,
+    /// Not 0: it is to be single-stepped.
     pub singlestep: u64,
+    /// The CR switches: bits 0, 1, 2 for CR0, CR3, CR4.
     pub crs: u64,
+    /// The event switches: bit e for event e.
     pub events: u64,
+    /// How many pauses are queued.
     pub pauses: u64,
+    /// The event whose reply is awaited; 0: none.
     pub awaited: u64,
+    /// That event's seq.
     pub awaited_seq: u64,
 }
 

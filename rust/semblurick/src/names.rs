@@ -7,6 +7,7 @@ macro_rules! numbered {
         $(#[$doc])*
         #[derive(Clone, Copy, PartialEq, Eq, Hash, PartialOrd, Ord)]
         #[repr($repr)]
+        #[non_exhaustive]
         pub enum $name {
             $(#[doc = $text] $variant = $number,)*
         }
@@ -16,6 +17,7 @@ macro_rules! numbered {
             pub const ALL: &'static [$name] = &[$($name::$variant,)*];
 
             /// The one with a number, if there is one.
+            #[must_use]
             pub const fn from_number(number: $repr) -> Option<$name> {
                 match number {
                     $($number => Some($name::$variant),)*
@@ -24,11 +26,13 @@ macro_rules! numbered {
             }
 
             /// Its number on the wire.
+            #[must_use]
             pub const fn number(self) -> $repr {
                 self as $repr
             }
 
             /// Its name.
+            #[must_use]
             pub const fn name(self) -> &'static str {
                 match self {
                     $($name::$variant => $text,)*
@@ -92,6 +96,14 @@ numbered! {
     }
 }
 
+/// Its number on the wire: what the lookups of events take.
+impl From<Event> for u32 {
+    #[inline]
+    fn from(event: Event) -> u32 {
+        event.number().into()
+    }
+}
+
 numbered! {
     /// An error of a reply. Its number is the negative one that the reply holds.
     Errno: i32 {
@@ -120,11 +132,13 @@ macro_rules! set {
             pub const ALL: $name = $name(!0);
 
             /// Bit k for number k; bits that no number has are kept and stand for nothing.
+            #[must_use]
             pub const fn from_bits(bits: u32) -> $name {
                 $name(bits)
             }
 
             /// Bit k for number k.
+            #[must_use]
             pub const fn bits(self) -> u32 {
                 self.0
             }
@@ -142,6 +156,7 @@ macro_rules! set {
             }
 
             /// Whether one is in the set.
+            #[must_use]
             pub const fn has(self, item: $item) -> bool {
                 self.0 >> item.number() & 1 == 1
             }

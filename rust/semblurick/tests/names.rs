@@ -1,32 +1,96 @@
 //! What a support engineer reads.
 use semblurick::{
-    Answer, Command, CommandSet, Errno, Event, EventSet, Refusal, Session, Settings, Signal, MESSAGE_OUT, STATE_BYTES,
+    Answer, Command, CommandSet, Errno, Event, EventSet, Refusal, Session, Settings, Signal, ENTRY_OUT, MESSAGE_OUT,
+    STATE_BYTES,
 };
 
 fn on_vcpu(id: u16, seq: u32, vcpu: u16, data: [u8; 8]) -> Vec<u8> {
     [&id.to_le_bytes()[..], &[16, 0], &seq.to_le_bytes(), &vcpu.to_le_bytes(), &[0; 6], &data].concat()
 }
 
+/// A message's answer as a line of a log and as `{:?}` shows it.
+fn said(session: &mut Session, message: &[u8]) -> (String, String) {
+    let (mut out, mut guest) = ([0; MESSAGE_OUT], [0; 4096]);
+    let answer = session.message(message, &mut out, &mut guest);
+    (answer.map_or_else(|refusal| refusal.to_string(), |answer| answer.to_string()), format!("{answer:?}"))
+}
+
+fn says(session: &mut Session, message: &[u8], line: &str, shown: &str) {
+    assert_eq!(said(session, message), (line.to_owned(), shown.to_owned()));
+}
+
 #[test]
 fn answers_say_what_happened() {
     let mut session = Session::fresh(&Settings::allowing_all(2)).unwrap();
     session.ready(1).unwrap();
-    let (mut out, mut guest) = ([0; MESSAGE_OUT], [0; 4096]);
-    let said = |session: &mut Session, message: &[u8], out: &mut [u8], guest: &mut [u8]| {
-        format!("{:?}", session.message(message, out, guest))
-    };
-    let unready = on_vcpu(9, 1, 0, [0; 8]);
-    assert_eq!(said(&mut session, &unready, &mut out, &mut guest), "Ok(EAGAIN, 16 bytes, no signal)");
-    let pause = on_vcpu(9, 2, 1, [1, 0, 0, 0, 0, 0, 0, 0]);
-    assert_eq!(said(&mut session, &pause, &mut out, &mut guest), "Ok(done, 16 bytes, kick vCPU 1 and wait)");
-    assert_eq!(session.enter(1, &[0; STATE_BYTES], &mut out).unwrap().len(), 552);
-    assert_eq!(session.enter(1, &[0; STATE_BYTES], &mut out), Err(Refusal::Waiting));
+    says(
+        &mut session,
+        &on_vcpu(9, 1, 0, [0; 8]),
+        "EAGAIN, 16 bytes, no signal",
+        "Ok(Handled { id: KVMI_VCPU_PAUSE, seq: 1, error: EAGAIN, bytes: [09 00 08 00 01 00 00 00 f5 ff ff ff 00 00 00 00], \
+         signal: None })",
+    );
+    says(
+        &mut session,
+        &on_vcpu(9, 2, 1, [1, 0, 0, 0, 0, 0, 0, 0]),
+        "done, 16 bytes, kick vCPU 1 and wait",
+        "Ok(Handled { id: KVMI_VCPU_PAUSE, seq: 2, bytes: [09 00 08 00 02 00 00 00 00 00 00 00 00 00 00 00], \
+         signal: Kick { vcpu: 1, wait: true } })",
+    );
+    // a reply to an unknown message with the number of events is no event
+    says(
+        &mut session,
+        &[17, 0, 0, 0, 255, 0, 0, 0],
+        "ENOSYS, 16 bytes, no signal",
+        "Ok(Handled { id: 17, seq: 255, error: ENOSYS, bytes: [11 00 08 00 ff 00 00 00 18 fc ff ff 00 00 00 00], signal: None })",
+    );
+    // a long reply is cut
+    says(
+        &mut session,
+        &[&[6, 0, 16, 0, 3, 0, 0, 0][..], &[0; 8], &4096u64.to_le_bytes()].concat(),
+        "done, 4112 bytes, no signal",
+        &format!(
+            "Ok(Handled {{ id: KVMI_VM_READ_PHYSICAL, seq: 3, bytes: [06 00 08 10 03 00 00 00{} and 4080 more], signal: None }})",
+            " 00".repeat(24)
+        ),
+    );
+
+    let mut event = [0; ENTRY_OUT];
+    let entry = session.enter(1, &[0xAB; STATE_BYTES], &mut event).unwrap();
+    assert_eq!((entry.may_run(), entry.event(), entry.bytes.len()), (false, Some(Event::PauseVcpu), 552));
+    assert_eq!(entry.to_string(), "KVMI_EVENT_PAUSE_VCPU, 552 bytes");
+    assert_eq!(
+        format!("{entry:?}"),
+        "Entry { id: KVMI_EVENT, seq: 0, event: KVMI_EVENT_PAUSE_VCPU, vcpu: 1, bytes: [11 00 20 02 00 00 00 00 20 02 01 00 02 00 00 \
+         00 ab ab ab ab ab ab ab ab ab ab ab ab ab ab ab ab and 520 more] }"
+    );
+    assert_eq!(session.enter(1, &[0; STATE_BYTES], &mut event), Err(Refusal::Waiting));
     assert_eq!(Refusal::Waiting.to_string(), "this vCPU's event reply is awaited");
-    assert_eq!(session.write_image(&mut out), Err(Refusal::Busy));
+    let entry = session.enter(0, &[0; STATE_BYTES], &mut event).unwrap();
+    assert_eq!((entry.may_run(), entry.event(), entry.to_string()), (true, None, "may run, no bytes".to_owned()));
+    assert_eq!(format!("{entry:?}"), "Entry { bytes: [] }");
+    assert_eq!(session.write_image(&mut event), Err(Refusal::Busy));
+
     let crash = on_vcpu(16, 0, 1, [2, 2, 0, 0, 0, 0, 0, 0]);
-    assert_eq!(said(&mut session, &crash, &mut out, &mut guest), "Ok(taken, no bytes, crash vCPU 1)");
-    assert_eq!(said(&mut session, &[], &mut out, &mut guest), "Ok(the session closes)");
-    assert_eq!(said(&mut session, &[], &mut out, &mut guest), "Err(Closed)");
+    says(&mut session, &crash, "taken, no bytes, crash vCPU 1", "Ok(Handled { bytes: [], signal: Crash { vcpu: 1 } })");
+    // replies off, and errors told by events
+    says(
+        &mut session,
+        &[15, 0, 8, 0, 4, 0, 0, 0, 0, 1, 1, 0, 0, 0, 0, 0],
+        "taken, no bytes, no signal",
+        "Ok(Handled { bytes: [], signal: None })",
+    );
+    let (line, shown) = said(&mut session, &on_vcpu(9, 5, 7, [0; 8]));
+    assert_eq!(line, "EINVAL, 568 bytes, no signal");
+    assert!(
+        shown.starts_with(
+            "Ok(Handled { id: KVMI_EVENT, seq: 1, event: KVMI_EVENT_CMD_ERROR, vcpu: 0, error: EINVAL, bytes: [11 00"
+        ),
+        "{shown}"
+    );
+    assert!(shown.ends_with(" 00 and 536 more], signal: None })") && shown.len() < 300, "{shown}");
+    assert_eq!(said(&mut session, &[]), ("the session closes".to_owned(), "Ok(Closing)".to_owned()));
+    assert_eq!(said(&mut session, &[]), ("the session is closed".to_owned(), "Err(Closed)".to_owned()));
     assert!(session.is_closed());
 }
 
@@ -45,7 +109,7 @@ fn a_session_reads_as_names() {
             matches!(session.message(&message, &mut out, &mut guest), Ok(answer @ Answer::Handled { .. }) if answer.error().is_none())
         );
     }
-    session.enter(1, &[0; STATE_BYTES], &mut out).unwrap();
+    assert!(!session.enter(1, &[0; STATE_BYTES], &mut out).unwrap().may_run());
     let text = format!("{session:?}");
     for part in [
         "closed: false",
@@ -83,7 +147,7 @@ fn numbers_and_names() {
 #[test]
 fn every_refusal_of_a_beginning() {
     let settings = Settings::allowing_all(2);
-    assert_eq!(Session::fresh(&Settings { views: 9, ..settings.clone() }).err(), Some(Refusal::BadSettings));
+    assert_eq!(Session::fresh(&settings.clone().views(9)).err(), Some(Refusal::BadSettings));
     assert_eq!(Session::fresh(&Settings::allowing_all(17)).err(), Some(Refusal::BadSettings));
     let session = Session::fresh(&settings).unwrap();
     let mut image = vec![0; session.image_size()];

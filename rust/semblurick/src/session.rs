@@ -1,0 +1,319 @@
+//! A session, and the calls on it.
+
+use crate::{ffi, Answer, Entry, Refusal, Settings, Signal};
+use core::mem::MaybeUninit;
+use core::ptr::addr_of_mut;
+
+/// A session, with its tables: 43,080 bytes.
+///
+/// [`fresh`](Session::fresh) and [`from_image`](Session::from_image) give one by value. Where the stack is small or the move of 43 KB
+/// is too dear, keep the memory in a `static` or a box and begin in place: [`begin`](Session::begin) and [`load`](Session::load) on a
+/// session that is there, [`fresh_in`](Session::fresh_in) and [`from_image_in`](Session::from_image_in) on memory that holds none yet.
+#[derive(Clone)]
+#[repr(C)]
+pub struct Session {
+    pub(crate) raw: ffi::Session,
+    pub(crate) vcpus: ffi::Vcpus,
+    pub(crate) pages: ffi::Pages,
+}
+
+impl Session {
+    /// A session that is closed: memory for one that [`begin`](Session::begin) or [`load`](Session::load) makes in place.
+    ///
+    /// ```
+    /// use semblurick::{Session, Settings};
+    /// use std::sync::Mutex;
+    ///
+    /// static GUEST: Mutex<Session> = Mutex::new(Session::closed());
+    ///
+    /// let mut session = GUEST.lock().unwrap();
+    /// assert!(session.is_closed());
+    /// session.begin(&Settings::allowing_all(1))?;
+    /// session.ready(0)?;
+    /// # Ok::<(), semblurick::Refusal>(())
+    /// ```
+    #[must_use]
+    pub const fn closed() -> Session {
+        let settings = ffi::Settings {
+            vcpus: 0,
+            views: 0,
+            commands: 0,
+            events: 0,
+            tsc_speed: 0,
+            features: [0; 5],
+            descriptors: 0,
+            breakpoints_taken: 0,
+        };
+        let raw = ffi::Session { settings, vm_events: 0, pages: 0, opened: 0, mode: 0, seq: 0, ready: 0 };
+        Session { raw, vcpus: [0; ffi::VCPU_WORDS], pages: [0; ffi::PAGE_WORDS] }
+    }
+
+    /// A session with every switch off and no vCPU ready.
+    ///
+    /// # Errors
+    /// [`Refusal::BadSettings`].
+    #[inline]
+    pub fn fresh(settings: &Settings) -> Result<Session, Refusal> {
+        Session::made(settings, None)
+    }
+
+    /// A session as an image states.
+    ///
+    /// # Errors
+    /// [`Refusal::BadSettings`]; then [`Refusal::BadForm`] or [`Refusal::Forbidden`], for the first record that calls for one.
+    #[inline]
+    pub fn from_image(settings: &Settings, image: &[u8]) -> Result<Session, Refusal> {
+        Session::made(settings, Some(image))
+    }
+
+    /// Begins as [`fresh`](Session::fresh) does, in place of what was there. Refused, the session is closed.
+    ///
+    /// # Errors
+    /// [`Refusal::BadSettings`].
+    #[inline]
+    pub fn begin(&mut self, settings: &Settings) -> Result<(), Refusal> {
+        // SAFETY: the session is borrowed for this call alone.
+        unsafe { Session::begin_at(self, settings, None) }
+    }
+
+    /// Begins as [`from_image`](Session::from_image) does, in place of what was there. Refused, the session is closed.
+    ///
+    /// # Errors
+    /// [`Refusal::BadSettings`]; then [`Refusal::BadForm`] or [`Refusal::Forbidden`], for the first record that calls for one.
+    #[inline]
+    pub fn load(&mut self, settings: &Settings, image: &[u8]) -> Result<(), Refusal> {
+        // SAFETY: the session is borrowed for this call alone.
+        unsafe { Session::begin_at(self, settings, Some(image)) }
+    }
+
+    /// Begins as [`fresh`](Session::fresh) does, in memory where anything may stand: nothing is cleared first, and nothing moved.
+    ///
+    /// ```
+    /// use semblurick::{Session, Settings};
+    /// use std::mem::MaybeUninit;
+    ///
+    /// let mut place = Box::new(MaybeUninit::uninit());
+    /// let session: &mut Session = Session::fresh_in(&mut place, &Settings::allowing_all(1))?;
+    /// session.ready(0)?;
+    /// # Ok::<(), semblurick::Refusal>(())
+    /// ```
+    ///
+    /// # Errors
+    /// [`Refusal::BadSettings`].
+    #[inline]
+    pub fn fresh_in<'a>(place: &'a mut MaybeUninit<Session>, settings: &Settings) -> Result<&'a mut Session, Refusal> {
+        Session::made_in(place, settings, None)
+    }
+
+    /// Begins as [`from_image`](Session::from_image) does, in memory where anything may stand, as [`fresh_in`](Session::fresh_in).
+    ///
+    /// # Errors
+    /// [`Refusal::BadSettings`]; then [`Refusal::BadForm`] or [`Refusal::Forbidden`], for the first record that calls for one.
+    #[inline]
+    pub fn from_image_in<'a>(
+        place: &'a mut MaybeUninit<Session>,
+        settings: &Settings,
+        image: &[u8],
+    ) -> Result<&'a mut Session, Refusal> {
+        Session::made_in(place, settings, Some(image))
+    }
+
+    /// A new session: fresh, or as an image states. The library writes it in memory that was never cleared.
+    #[inline]
+    fn made(settings: &Settings, image: Option<&[u8]>) -> Result<Session, Refusal> {
+        let mut session = MaybeUninit::uninit();
+        Session::made_in(&mut session, settings, image)?;
+        // SAFETY: it was not refused, so that every word is written.
+        Ok(unsafe { session.assume_init() })
+    }
+
+    #[inline]
+    fn made_in<'a>(
+        place: &'a mut MaybeUninit<Session>,
+        settings: &Settings,
+        image: Option<&[u8]>,
+    ) -> Result<&'a mut Session, Refusal> {
+        // SAFETY: the place is borrowed for this call alone.
+        unsafe { Session::begin_at(place.as_mut_ptr(), settings, image) }?;
+        // SAFETY: it was not refused, so that every word is written.
+        Ok(unsafe { place.assume_init_mut() })
+    }
+
+    /// Begins a session, fresh or as an image states, at a place where anything may stand. Every word of it and of its tables is
+    /// then written; but refused, the session is closed and no word of the tables is written.
+    ///
+    /// # Safety
+    /// The place is memory for a session, and this call alone uses it.
+    #[inline]
+    unsafe fn begin_at(place: *mut Session, settings: &Settings, image: Option<&[u8]>) -> Result<(), Refusal> {
+        // SAFETY: the caller lends the place, the image is only read, and of the session the library uses the settings alone,
+        // which are written first.
+        let told = unsafe {
+            let (raw, vcpus, pages) = (addr_of_mut!((*place).raw), addr_of_mut!((*place).vcpus), addr_of_mut!((*place).pages));
+            addr_of_mut!((*raw).settings).write(settings.raw());
+            Told::by(|result| match image {
+                None => ffi::semblurick_raw_fresh(raw, vcpus, pages, result),
+                Some(image) => ffi::semblurick_raw_image_read(raw, vcpus, pages, image.as_ptr(), image.len(), result),
+            })
+        };
+        told.done().map(|_| ())
+    }
+
+    /// Marks a vCPU ready: the tool can use it from now on.
+    ///
+    /// # Errors
+    /// [`Refusal::Closed`], [`Refusal::BadVcpu`], tested in this order.
+    #[inline]
+    pub fn ready(&mut self, vcpu: u32) -> Result<(), Refusal> {
+        // SAFETY: the session is borrowed for this call alone.
+        let told = unsafe { Told::by(|result| ffi::semblurick_raw_ready(&mut self.raw, vcpu, result)) };
+        told.done().map(|_| ())
+    }
+
+    /// Takes one message of the tool, header included. `guest` is the guest's physical memory from address 0; a page exists if it
+    /// lies wholly inside. The answer has the bytes of `out` that go to the tool.
+    ///
+    /// Nobody else may use that memory during the call, as `&mut` says; where the guest runs meanwhile, see
+    /// [`message_at`](Session::message_at).
+    ///
+    /// # Errors
+    /// [`Refusal::Closed`]; [`Refusal::ShortOut`] where `out` has less than [`MESSAGE_OUT`](crate::MESSAGE_OUT) bytes, whatever the
+    /// message is. Tested in this order.
+    #[inline]
+    pub fn message<'a>(&mut self, message: &[u8], out: &'a mut [u8], guest: &mut [u8]) -> Result<Answer<'a>, Refusal> {
+        // SAFETY: the memory is borrowed for this call alone.
+        unsafe { self.message_at(message, out, guest) }
+    }
+
+    /// [`message`](Session::message) on guest memory that no reference may stand for, since the guest's vCPUs or devices run
+    /// meanwhile. Only `KVMI_VM_READ_PHYSICAL` and `KVMI_VM_WRITE_PHYSICAL` touch it, and nothing but the bytes that a read gives
+    /// depends on what stands in it.
+    ///
+    /// # Safety
+    /// The pointer is not null, and for all of its length the memory is mapped for reading and writing until the call ends and is no
+    /// part of the session, the message or `out`. No reference to any of it is alive in this program.
+    ///
+    /// # Errors
+    /// As [`message`](Session::message).
+    #[inline]
+    pub unsafe fn message_at<'a>(
+        &mut self,
+        message: &[u8],
+        out: &'a mut [u8],
+        guest: *mut [u8],
+    ) -> Result<Answer<'a>, Refusal> {
+        // SAFETY: the slices are borrowed for this call, what is `&mut` overlaps nothing else, and the caller lends the memory.
+        let told = unsafe {
+            Told::by(|result| {
+                ffi::semblurick_raw_message(
+                    &mut self.raw,
+                    &mut self.vcpus,
+                    &mut self.pages,
+                    message.as_ptr(),
+                    message.len(),
+                    out.as_mut_ptr(),
+                    out.len(),
+                    guest.cast(),
+                    guest.len(),
+                    result,
+                )
+            })
+        };
+        if told.number == 1 {
+            return Ok(Answer::Closing);
+        }
+        let count = told.done()?;
+        let vcpu = told.values.vcpu as u32;
+        let signal = match told.values.signal {
+            0 => Signal::None,
+            1 => Signal::Kick { vcpu, wait: told.values.wait != 0 },
+            _ => Signal::Crash { vcpu },
+        };
+        Ok(Answer::Handled { bytes: &out[..count], signal })
+    }
+
+    /// To be called before a vCPU enters the guest, with its register block. Where a pause is queued its event is written, and
+    /// the vCPU has to wait for the tool's reply; else there are no bytes, and it may run. It may call again after each message.
+    ///
+    /// # Errors
+    /// [`Refusal::Closed`]: nothing is awaited any more; [`Refusal::BadVcpu`]; [`Refusal::BadState`]; [`Refusal::ShortOut`] where
+    /// `out` has less than [`ENTRY_OUT`](crate::ENTRY_OUT) bytes, even if none would be written; [`Refusal::Waiting`]: the tool's reply
+    /// is still awaited. Tested in this order.
+    #[inline]
+    pub fn enter<'a>(&mut self, vcpu: u32, state: &[u8], out: &'a mut [u8]) -> Result<Entry<'a>, Refusal> {
+        // SAFETY: the session and the slices are borrowed for this call, and what is `&mut` overlaps nothing else.
+        let told = unsafe {
+            Told::by(|result| {
+                ffi::semblurick_raw_enter(
+                    &mut self.raw,
+                    &mut self.vcpus,
+                    vcpu,
+                    state.as_ptr(),
+                    state.len(),
+                    out.as_mut_ptr(),
+                    out.len(),
+                    result,
+                )
+            })
+        };
+        let count = told.done()?;
+        Ok(Entry { bytes: &out[..count] })
+    }
+
+    /// How many bytes the image of this session has, closed or busy as it may be.
+    #[must_use]
+    #[inline]
+    pub fn image_size(&self) -> usize {
+        // SAFETY: all three are only read.
+        unsafe { ffi::semblurick_raw_image_size(&self.raw, &self.vcpus, &self.pages) }
+    }
+
+    /// Writes the image, for a new host, and says how many bytes it has.
+    ///
+    /// # Errors
+    /// [`Refusal::Closed`]; [`Refusal::Busy`] where any vCPU's event reply is awaited; [`Refusal::ShortOut`] where `out` has less than
+    /// [`image_size`](Session::image_size) bytes. Tested in this order.
+    #[inline]
+    pub fn write_image(&self, out: &mut [u8]) -> Result<usize, Refusal> {
+        // SAFETY: the session is only read, and the output overlaps nothing else.
+        let told = unsafe {
+            Told::by(|result| {
+                ffi::semblurick_raw_image_write(&self.raw, &self.vcpus, &self.pages, out.as_mut_ptr(), out.len(), result)
+            })
+        };
+        told.done()
+    }
+
+    /// The settings that it began with.
+    #[must_use]
+    pub fn settings(&self) -> Settings {
+        Settings::of(&self.raw.settings)
+    }
+}
+
+/// What a call of the library told: the answer's number, and its values.
+struct Told {
+    number: u32,
+    values: ffi::Outcome,
+}
+
+impl Told {
+    /// # Safety
+    /// The call is one of the library's, with the result that it is handed: they write every word of it, whatever they answer.
+    #[inline]
+    unsafe fn by(call: impl FnOnce(*mut ffi::Outcome) -> u32) -> Told {
+        let mut values = MaybeUninit::uninit();
+        let number = call(values.as_mut_ptr());
+        // SAFETY: the call has written every word.
+        Told { number, values: unsafe { values.assume_init() } }
+    }
+
+    /// The count of answer 0, or the refusal.
+    #[inline]
+    fn done(&self) -> Result<usize, Refusal> {
+        match self.number {
+            0 => Ok(self.values.count as usize),
+            number => Err(Refusal::of(number, self.values.offset)),
+        }
+    }
+}

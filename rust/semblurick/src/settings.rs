@@ -1,0 +1,166 @@
+//! What a host allows and has.
+
+use crate::{ffi, CommandSet, EventSet};
+
+/// A setter for each field, by the field's name.
+macro_rules! setters {
+    ($($(#[$doc:meta])* $name:ident: $type:ty,)*) => {
+        $(
+            $(#[$doc])*
+            #[must_use]
+            pub const fn $name(mut self, $name: $type) -> Self {
+                self.$name = $name;
+                self
+            }
+        )*
+    };
+}
+
+/// What the host allows and has; fixed for a session.
+///
+/// A host begins from [`Settings::new`], where nothing is allowed, and says by name what differs. A setting that is new in a later
+/// version then stands at what it was before, and breaks no build.
+///
+/// ```
+/// use semblurick::{Event, EventSet, Features, Settings, CommandSet};
+///
+/// const SETTINGS: Settings = Settings::new(4)
+///     .views(2)
+///     .commands(CommandSet::ALL)
+///     .events(EventSet::NONE.with(Event::PauseVcpu).with(Event::Pf))
+///     .features(Features::NONE.singlestep(1));
+/// assert_eq!((SETTINGS.vcpus, SETTINGS.views, SETTINGS.descriptors), (4, 2, false));
+/// ```
+#[derive(Clone, Debug, PartialEq, Eq, Hash)]
+#[non_exhaustive]
+pub struct Settings {
+    /// 1 to [`MAX_VCPUS`](crate::MAX_VCPUS).
+    pub vcpus: u32,
+    /// 1 to [`MAX_VIEWS`](crate::MAX_VIEWS).
+    pub views: u32,
+    /// The commands that the tool may use; 1, 2, 3 and 16 it may always use.
+    pub commands: CommandSet,
+    /// The events that the tool may use.
+    pub events: EventSet,
+    /// Told by `KVMI_VCPU_GET_INFO`.
+    pub tsc_speed: u64,
+    /// Told by `KVMI_GET_VERSION`.
+    pub features: Features,
+    /// Descriptor events can be caught.
+    pub descriptors: bool,
+    /// The host has taken breakpoints for itself.
+    pub breakpoints_taken: bool,
+}
+
+impl Settings {
+    /// One view, nothing allowed and nothing supported, as the C header's `SEMBLURICK_SETTINGS`.
+    #[must_use]
+    pub const fn new(vcpus: u32) -> Settings {
+        Settings {
+            vcpus,
+            views: 1,
+            commands: CommandSet::NONE,
+            events: EventSet::NONE,
+            tsc_speed: 0,
+            features: Features::NONE,
+            descriptors: false,
+            breakpoints_taken: false,
+        }
+    }
+
+    /// One view, everything allowed and supported, breakpoints free.
+    #[must_use]
+    pub const fn allowing_all(vcpus: u32) -> Settings {
+        Settings::new(vcpus).commands(CommandSet::ALL).events(EventSet::ALL).features(Features::ALL).descriptors(true)
+    }
+
+    setters! {
+        /// How many views there are.
+        views: u32,
+        /// The commands that the tool may use.
+        commands: CommandSet,
+        /// The events that the tool may use.
+        events: EventSet,
+        /// The TSC's speed, which `KVMI_VCPU_GET_INFO` tells.
+        tsc_speed: u64,
+        /// The features, which `KVMI_GET_VERSION` tells.
+        features: Features,
+        /// Whether descriptor events can be caught.
+        descriptors: bool,
+        /// Whether the host has taken breakpoints for itself.
+        breakpoints_taken: bool,
+    }
+
+    #[inline]
+    pub(crate) fn raw(&self) -> ffi::Settings {
+        let f = self.features;
+        ffi::Settings {
+            vcpus: self.vcpus,
+            views: self.views,
+            commands: self.commands.bits(),
+            events: self.events.bits(),
+            tsc_speed: self.tsc_speed,
+            features: [f.singlestep, f.vmfunc, f.eptp, f.ve, f.spp],
+            descriptors: self.descriptors.into(),
+            breakpoints_taken: self.breakpoints_taken.into(),
+        }
+    }
+
+    pub(crate) fn of(raw: &ffi::Settings) -> Settings {
+        let [singlestep, vmfunc, eptp, ve, spp] = raw.features;
+        Settings {
+            vcpus: raw.vcpus,
+            views: raw.views,
+            commands: CommandSet::from_bits(raw.commands),
+            events: EventSet::from_bits(raw.events),
+            tsc_speed: raw.tsc_speed,
+            features: Features { singlestep, vmfunc, eptp, ve, spp },
+            descriptors: raw.descriptors != 0,
+            breakpoints_taken: raw.breakpoints_taken != 0,
+        }
+    }
+}
+
+/// [`Settings::new`] with one vCPU.
+impl Default for Settings {
+    fn default() -> Settings {
+        Settings::new(1)
+    }
+}
+
+/// The five feature bytes; a feature is there where its byte is not 0.
+#[derive(Clone, Copy, Debug, Default, PartialEq, Eq, Hash)]
+#[non_exhaustive]
+pub struct Features {
+    /// Single-stepping: `KVMI_VCPU_CONTROL_SINGLESTEP` needs it.
+    pub singlestep: u8,
+    /// VMFUNC.
+    pub vmfunc: u8,
+    /// EPTP switching.
+    pub eptp: u8,
+    /// Virtualization exceptions.
+    pub ve: u8,
+    /// Subpage protection.
+    pub spp: u8,
+}
+
+impl Features {
+    /// None of them.
+    pub const NONE: Features = Features { singlestep: 0, vmfunc: 0, eptp: 0, ve: 0, spp: 0 };
+
+    /// All of them, each byte 1.
+    pub const ALL: Features = Features { singlestep: 1, vmfunc: 1, eptp: 1, ve: 1, spp: 1 };
+
+    setters! {
+        /// Single-stepping.
+        singlestep: u8,
+        /// VMFUNC.
+        vmfunc: u8,
+        /// EPTP switching.
+        eptp: u8,
+        /// Virtualization exceptions.
+        ve: u8,
+        /// Subpage protection.
+        spp: u8,
+    }
+}

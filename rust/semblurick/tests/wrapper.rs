@@ -1,0 +1,328 @@
+//! The wrapper's own promises: settings by name, lookups, the list form, in place and on threads.
+use semblurick::{
+    vcpu_list, Access, Answer, Command, CommandSet, Entry, Errno, Event, EventSet, Features, Page, Pages, Refusal, Session,
+    Settings, Signal, Vcpu, IMAGE_MAX, MAX_VCPUS, MAX_VIEWS, MESSAGE_OUT, PAGE_LIMIT, PAUSE_LIMIT, STATE_BYTES,
+};
+use std::error::Error;
+use std::mem::{size_of, MaybeUninit};
+use std::thread;
+
+fn message(id: u16, data: &[u8]) -> Vec<u8> {
+    [&id.to_le_bytes()[..], &(data.len() as u16).to_le_bytes(), &[0; 4], data].concat()
+}
+
+fn on_vcpu(id: u16, vcpu: u16, data: [u8; 8]) -> Vec<u8> {
+    message(id, &[&vcpu.to_le_bytes()[..], &[0; 6], &data].concat())
+}
+
+fn access(view: u16, entries: &[(u64, u8)]) -> Vec<u8> {
+    let mut data = [&(entries.len() as u16).to_le_bytes()[..], &view.to_le_bytes(), &[0; 4]].concat();
+    for (page, access) in entries {
+        data.extend([&(page << 12).to_le_bytes()[..], &[*access, 0, 0, 0, 0, 0, 0, 0]].concat());
+    }
+    message(13, &data)
+}
+
+/// Sends messages that are handled without error.
+fn send(session: &mut Session, messages: &[Vec<u8>]) {
+    let (mut out, mut guest) = ([0; MESSAGE_OUT], [0; 4096]);
+    for message in messages {
+        let answer = session.message(message, &mut out, &mut guest).unwrap();
+        assert!(!answer.is_closing() && answer.error().is_none(), "{answer:?}");
+    }
+}
+
+#[test]
+fn settings_by_name() {
+    let least = Settings::new(3);
+    assert_eq!((least.vcpus, least.views, least.commands, least.events), (3, 1, CommandSet::NONE, EventSet::NONE));
+    assert_eq!(
+        (least.tsc_speed, least.features, least.descriptors, least.breakpoints_taken),
+        (0, Features::NONE, false, false)
+    );
+    assert_eq!(Settings::default(), Settings::new(1));
+    assert_eq!(Features::default(), Features::NONE);
+    const CHOSEN: Settings = Settings::new(16)
+        .views(8)
+        .commands(CommandSet::NONE.with(Command::VcpuPause))
+        .events(EventSet::ALL.without(Event::Pf))
+        .tsc_speed(1 << 40)
+        .features(Features::NONE.singlestep(2).vmfunc(3).eptp(4).ve(5).spp(255))
+        .descriptors(true)
+        .breakpoints_taken(true);
+    let session = Session::fresh(&CHOSEN).unwrap();
+    assert_eq!(session.settings(), CHOSEN);
+    assert_eq!((CHOSEN.views, CHOSEN.commands.bits(), CHOSEN.events.bits()), (8, 1 << 9, !(1 << 10)));
+    let all = Settings::allowing_all(2);
+    assert_eq!((all.views, all.commands, all.events, all.features), (1, CommandSet::ALL, EventSet::ALL, Features::ALL));
+    assert!(all.descriptors && !all.breakpoints_taken);
+    for (vcpus, views) in [(0, 1), (MAX_VCPUS + 1, 1), (1, 0), (1, MAX_VIEWS + 1)] {
+        assert_eq!(Session::fresh(&Settings::new(vcpus).views(views)).err(), Some(Refusal::BadSettings));
+    }
+    assert!(Session::fresh(&Settings::new(MAX_VCPUS).views(MAX_VIEWS)).is_ok());
+}
+
+/// What nothing allows: the tool gets EPERM, and the four messages that need no permission are answered.
+#[test]
+fn nothing_is_allowed_at_first() {
+    let mut session = Session::fresh(&Settings::new(1)).unwrap();
+    session.ready(0).unwrap();
+    let (mut out, mut guest) = ([0; MESSAGE_OUT], [0; 4096]);
+    for id in 4..16 {
+        let answer = session.message(&message(id, &[]), &mut out, &mut guest).unwrap();
+        assert_eq!(answer.error(), Some(Errno::Eperm), "message {id}");
+    }
+    assert_eq!(session.message(&message(1, &[]), &mut out, &mut guest).unwrap().error(), None);
+}
+
+#[test]
+fn lookups() {
+    let settings = Settings::allowing_all(3).views(2);
+    let mut session = Session::fresh(&settings).unwrap();
+    assert!(session.is_open() && !session.is_closed());
+    session.ready(2).unwrap();
+    send(
+        &mut session,
+        &[
+            message(5, &[12, 0, 1, 0, 0, 0, 0, 0]),
+            on_vcpu(10, 2, [9, 0, 1, 0, 0, 0, 0, 0]),
+            on_vcpu(11, 2, [1, 0, 0, 0, 4, 0, 0, 0]),
+            on_vcpu(12, 2, [1, 0, 0, 0, 0xFF, 0x1F, 0, 0xC0]),
+            on_vcpu(14, 2, [1, 0, 0, 0, 0, 0, 0, 0]),
+            on_vcpu(9, 2, [0; 8]),
+            on_vcpu(9, 2, [0; 8]),
+            access(1, &[(7, 4), (5, 1), ((1 << 52) - 1, 0)]),
+            access(0, &[(9, 3)]),
+        ],
+    );
+    let check = |session: &Session| {
+        for vcpu in (0..20).chain([255, 256, 258, 1 << 16 | 2, 1 << 31 | 2, u32::MAX]) {
+            let is = vcpu == 2;
+            assert_eq!(session.is_ready(vcpu), is, "{vcpu}");
+            assert_eq!(session.singlestep(vcpu), is, "{vcpu}");
+            for event in Event::ALL {
+                assert_eq!(session.vcpu_event(vcpu, *event), is && *event == Event::Msr);
+                assert_eq!(session.vcpu_event(vcpu, u32::from(*event)), is && *event == Event::Msr);
+            }
+            for cr in (0..9).chain([1 << 8 | 4, 1 << 31 | 4, u32::MAX]) {
+                assert_eq!(session.cr(vcpu, cr), is && cr == 4);
+            }
+            for msr in [0, 0x1FFE, 0x1FFF, 0x2000, 0x3FFF, 0xBFFF_FFFF, 0xC000_0000, 0xC000_1FFE, 0xC000_2000, u32::MAX] {
+                assert!(!session.msr(vcpu, msr));
+            }
+            assert_eq!(session.msr(vcpu, 0xC000_1FFF), is);
+        }
+        for event in (0u32..40).chain([1 << 8 | 12, 1 << 16 | 12, 1 << 31 | 12, u32::MAX]) {
+            assert_eq!(session.vm_event(event), event == 12);
+        }
+        assert!(session.vm_event(Event::CreateVcpu) && !session.vm_event(Event::Unhook));
+        assert_eq!(session.page_count(), 4);
+        let pages: Vec<Page> = session.pages().collect();
+        let told: Vec<_> = pages.iter().map(|page| (page.view, page.page, page.access.bits())).collect();
+        assert_eq!(told, [(0, 9, 3), (1, 5, 1), (1, 7, 4), (1, (1 << 52) - 1, 0)]);
+        for (i, page) in pages.iter().enumerate() {
+            assert_eq!(session.page_at(i), Some(*page));
+            assert_eq!(session.access(page.view, page.page), page.access);
+        }
+        for i in [4, 1023, 1024, usize::MAX] {
+            assert_eq!(session.page_at(i), None);
+        }
+        for (view, page) in [(0, 5), (1, 9), (2, 5), (8, 5), (1 << 16 | 1, 5), (u32::MAX, 5), (1, 1 << 52 | 5), (1, u64::MAX)] {
+            assert_eq!(session.access(view, page), Access::RWX, "view {view}, page {page}");
+        }
+        assert_eq!(
+            (session.pages().len(), session.pages().next_back(), session.pages().nth(2)),
+            (4, Some(pages[3]), Some(pages[2]))
+        );
+        let mut some = session.pages();
+        assert_eq!((some.next(), some.next_back(), some.len()), (Some(pages[0]), Some(pages[3]), 2));
+        assert_eq!((some.by_ref().count(), some.next(), some.next_back()), (2, None, None));
+    };
+    check(&session);
+    assert_eq!((session.pauses(2), session.pauses(1), session.pauses(3)), (2, 0, 0));
+
+    // the same in a session that its image makes
+    let mut image = vec![0; session.image_size()];
+    session.write_image(&mut image).unwrap();
+    let moved = Session::from_image(&settings, &image).unwrap();
+    check(&moved);
+    assert_eq!((moved.pauses(2), moved.awaited(2)), (2, None));
+
+    let mut out = [0; MESSAGE_OUT];
+    assert!(!session.enter(2, &[0; STATE_BYTES], &mut out).unwrap().may_run());
+    assert_eq!((session.pauses(2), session.awaited(2), session.awaited(0)), (1, Some(Event::PauseVcpu), None));
+    check(&session);
+    send(&mut session, &[on_vcpu(16, 2, [0, 2, 0, 0, 0, 0, 0, 0])]);
+    assert_eq!((session.pauses(2), session.awaited(2)), (1, None));
+
+    // a closed session has nothing
+    assert!(session.message(&[], &mut out, &mut []).unwrap().is_closing());
+    for session in [&session, &Session::closed()] {
+        assert!(session.is_closed() && !session.is_open() && !session.is_ready(2) && !session.vm_event(Event::CreateVcpu));
+        assert!(
+            !session.vcpu_event(2, Event::Msr) && !session.cr(2, 4) && !session.msr(2, 0xC000_1FFF) && !session.singlestep(2)
+        );
+        assert_eq!((session.pauses(2), session.awaited(2)), (0, None));
+        assert_eq!((session.page_count(), session.page_at(0), session.access(1, 5)), (0, None, Access::RWX));
+        assert_eq!(session.pages().next(), None);
+    }
+}
+
+#[test]
+fn limits() {
+    let mut session = Session::fresh(&Settings::allowing_all(1)).unwrap();
+    session.ready(0).unwrap();
+    for i in 0..PAUSE_LIMIT {
+        assert_eq!(session.pauses(0), i);
+        send(&mut session, &[on_vcpu(9, 0, [0; 8])]);
+    }
+    let (mut out, mut guest) = ([0; MESSAGE_OUT], [0; 4096]);
+    assert_eq!(session.message(&on_vcpu(9, 0, [0; 8]), &mut out, &mut guest).unwrap().error(), Some(Errno::Ebusy));
+    assert_eq!(session.pauses(0), PAUSE_LIMIT);
+    for i in 0..PAGE_LIMIT as u64 {
+        send(&mut session, &[access(0, &[(i, 1)])]);
+    }
+    assert_eq!(session.message(&access(0, &[(5000, 1)]), &mut out, &mut guest).unwrap().error(), Some(Errno::Enomem));
+    assert_eq!((session.page_count(), session.pages().len()), (PAGE_LIMIT, PAGE_LIMIT));
+    assert!(session.pages().enumerate().all(|(i, page)| page.page == i as u64));
+    assert!(session.image_size() <= IMAGE_MAX);
+}
+
+#[test]
+fn access_in_letters() {
+    let texts: Vec<String> = (0..8).map(|bits| Access::from_bits(bits).to_string()).collect();
+    assert_eq!(texts, ["---", "r--", "-w-", "rw-", "--x", "r-x", "-wx", "rwx"]);
+    assert_eq!(Access::from_bits(0xFD), Access::from_bits(5));
+    assert!(Access::RWX.grants(Access::W) && !Access::from_bits(5).grants(Access::W) && Access::NONE.grants(Access::NONE));
+    assert_eq!([Access::R, Access::W, Access::X, Access::RWX].map(Access::bits), [1, 2, 4, 7]);
+    let mut session = Session::fresh(&Settings::allowing_all(1)).unwrap();
+    send(&mut session, &[access(0, &[(3, 5)])]);
+    assert_eq!(format!("{:?}", session.pages()), "[Page { view: 0, page: 3, access: r-x }]");
+}
+
+#[test]
+fn the_list_form() {
+    assert_eq!(size_of::<Vcpu>(), 56);
+    let odd = |seed: u64| Vcpu {
+        ready: 0,
+        singlestep: seed,
+        crs: !7,
+        events: seed << 8,
+        pauses: seed << 16,
+        awaited: seed << 24,
+        awaited_seq: seed << 32,
+    };
+    let mut vcpus = [odd(1), odd(2), odd(3)];
+    let before = vcpus;
+    for index in [3, 4, 16, 1 << 32, usize::MAX] {
+        assert_eq!(vcpu_list::ready(&mut vcpus, index), Err(Refusal::BadVcpu));
+        assert_eq!(vcpu_list::set_cr(&mut vcpus, index, 1, true), Err(Refusal::BadVcpu));
+    }
+    assert_eq!(vcpu_list::set_cr(&mut vcpus, 1, 0, true), Err(Refusal::NotApplicable));
+    assert_eq!(vcpus, before);
+    assert_eq!(vcpu_list::ready(&mut vcpus, 1), Ok(()));
+    assert_eq!(vcpus, [before[0], Vcpu { ready: 1, ..before[1] }, before[2]]);
+    for cr in [1, 2, 5, 6, 7, 8, 32, 1 << 16, 1 << 31, u32::MAX] {
+        assert_eq!(vcpu_list::set_cr(&mut vcpus, 1, cr, true), Err(Refusal::NotApplicable));
+    }
+    for (cr, crs) in [(0, !7 | 1), (3, !7 | 3), (4, !7 | 7)] {
+        assert_eq!(vcpu_list::set_cr(&mut vcpus, 1, cr, true), Ok(()));
+        assert_eq!(vcpus[1].crs, crs);
+    }
+    assert_eq!(vcpu_list::set_cr(&mut vcpus, 1, 3, false), Ok(()));
+    assert_eq!(vcpus, [before[0], Vcpu { ready: 1, crs: !7 | 5, ..before[1] }, before[2]]);
+    assert_eq!(vcpu_list::ready(&mut [], 0), Err(Refusal::BadVcpu));
+    assert_eq!(vcpu_list::set_cr(&mut [], 0, 0, false), Err(Refusal::BadVcpu));
+    assert_eq!(Refusal::NotApplicable.number(), 14);
+    assert_eq!(Refusal::NotApplicable.to_string(), "no such CR, or the vCPU is not ready");
+}
+
+#[test]
+fn refusals_are_errors() {
+    fn begin(vcpus: u32) -> Result<Session, Box<dyn Error + Send + Sync>> {
+        Ok(Session::fresh(&Settings::new(vcpus))?)
+    }
+    assert_eq!(begin(0).unwrap_err().to_string(), "the settings have a count out of its range");
+    let refusals = [
+        Refusal::Closed,
+        Refusal::ShortOut,
+        Refusal::BadVcpu,
+        Refusal::BadState,
+        Refusal::Waiting,
+        Refusal::BadSettings,
+        Refusal::BadForm { offset: 5 },
+        Refusal::Forbidden { offset: 5 },
+        Refusal::Busy,
+        Refusal::NotApplicable,
+    ];
+    assert_eq!(refusals.map(Refusal::number), [2, 3, 4, 5, 6, 7, 8, 9, 10, 14]);
+    let texts = refusals.map(|refusal| refusal.to_string());
+    assert!((1..texts.len()).all(|i| !texts[..i].contains(&texts[i])));
+}
+
+#[test]
+fn a_session_begins_where_nothing_stands() {
+    let mut place = Box::new(MaybeUninit::uninit());
+    assert_eq!(Session::fresh_in(&mut place, &Settings::new(0)).err(), Some(Refusal::BadSettings));
+    let settings = Settings::allowing_all(2);
+    let session = Session::fresh_in(&mut place, &settings).unwrap();
+    session.ready(1).unwrap();
+    let mut image = vec![0; session.image_size()];
+    session.write_image(&mut image).unwrap();
+    let mut place = Box::new(MaybeUninit::uninit());
+    assert_eq!(Session::from_image_in(&mut place, &settings, &[]).err(), Some(Refusal::BadForm { offset: 0 }));
+    let moved = Session::from_image_in(&mut place, &settings, &image).unwrap();
+    assert!(moved.is_ready(1) && !moved.is_ready(0));
+    let mut again = vec![0; moved.image_size()];
+    moved.write_image(&mut again).unwrap();
+    assert_eq!(again, image);
+    assert_eq!(size_of::<Session>(), 43_080);
+}
+
+/// Guest memory that no reference stands for.
+#[test]
+fn memory_behind_a_pointer() {
+    let mut session = Session::fresh(&Settings::allowing_all(1)).unwrap();
+    let (mut out, mut guest) = ([0; MESSAGE_OUT], vec![0u8; 8192]);
+    let lent = std::ptr::slice_from_raw_parts_mut(guest.as_mut_ptr(), guest.len());
+    let write = message(7, &[&4100u64.to_le_bytes()[..], &3u64.to_le_bytes(), b"abc"].concat());
+    // SAFETY: nothing else uses the memory while the calls run.
+    let answer = unsafe { session.message_at(&write, &mut out, lent) }.unwrap();
+    assert_eq!((answer.bytes().len(), answer.error()), (16, None));
+    let read = message(6, &[4099u64.to_le_bytes(), 5u64.to_le_bytes()].concat());
+    // SAFETY: as before.
+    let answer = unsafe { session.message_at(&read, &mut out, lent) }.unwrap();
+    assert_eq!(&answer.bytes()[16..], b"\0abc\0");
+    assert_eq!(&guest[4100..4103], b"abc");
+}
+
+#[test]
+fn send_and_sync() {
+    fn both<T: Send + Sync + 'static>() {}
+    both::<Session>();
+    both::<Settings>();
+    both::<Answer<'static>>();
+    both::<Entry<'static>>();
+    both::<Refusal>();
+    both::<Signal>();
+    both::<Pages<'static>>();
+    both::<Page>();
+    both::<Vcpu>();
+
+    // sessions on threads of their own, and one that several read
+    let mut sessions: Vec<Box<Session>> =
+        (0..4).map(|_| Box::new(Session::fresh(&Settings::allowing_all(4)).unwrap())).collect();
+    thread::scope(|scope| {
+        for (vcpu, session) in (0..).zip(&mut sessions) {
+            scope.spawn(move || session.ready(vcpu).unwrap());
+        }
+    });
+    let shared = &sessions[3];
+    thread::scope(|scope| {
+        for _ in 0..4 {
+            scope.spawn(|| assert!(shared.is_ready(3) && !shared.is_ready(0)));
+        }
+    });
+    let moved = sessions.remove(1);
+    assert!(thread::spawn(move || moved.is_ready(1)).join().unwrap());
+}
