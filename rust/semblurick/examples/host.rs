@@ -1,51 +1,230 @@
-//! A host in Rust: takes the messages that stand end to end in a file, answers them, lets a kicked vCPU enter the guest, and hands
-//! the session over by an image. Usage: host FILE
-use semblurick::{Refusal, Session, Settings, Signal, MESSAGE_OUT, STATE_BYTES};
+//! A host in Rust: takes the messages that stand end to end in a file, answers them, programs what they switch, lets a kicked vCPU
+//! enter the guest, and hands the session over by an image. Usage: host FILE
+use semblurick::{Access, Command, Event, Refusal, Session, Settings, Signal, MESSAGE_OUT, PAGE_BYTES, STATE_BYTES};
+use std::collections::{BTreeMap, BTreeSet};
 use std::{env, fs, process};
 
-/// The length of the next message: what its header says, or all that is left.
-fn next(stream: &[u8]) -> usize {
-    match stream {
-        [_, _, low, high, _, _, _, _, ..] => stream.len().min(8 + usize::from(u16::from_le_bytes([*low, *high]))),
-        _ => stream.len(),
+const VCPUS: u32 = 2;
+
+#[derive(Clone, Copy, PartialEq, Eq, PartialOrd, Ord)]
+enum Intercept {
+    VmEvent { event: u32 },
+    VcpuEvent { vcpu: u32, event: u32 },
+    Cr { vcpu: u32, cr: u32 },
+    Msr { vcpu: u32, msr: u32 },
+}
+
+/// What this host has programmed, brought up to date by lookups; a real one writes page tables and a VMCS here.
+#[derive(Default, PartialEq)]
+struct Hardware {
+    /// Below rwx, by view and page.
+    pages: BTreeMap<(u32, u64), Access>,
+    intercepts: BTreeSet<Intercept>,
+    /// The vCPUs that are single-stepped.
+    stepped: BTreeSet<u32>,
+}
+
+impl Hardware {
+    fn set_page(&mut self, view: u32, page: u64, access: Access) {
+        match access {
+            Access::RWX => self.pages.remove(&(view, page)),
+            _ => self.pages.insert((view, page), access),
+        };
+    }
+
+    fn set(&mut self, intercept: Intercept, on: bool) {
+        match on {
+            true => self.intercepts.insert(intercept),
+            false => self.intercepts.remove(&intercept),
+        };
+    }
+
+    fn step(&mut self, vcpu: u32, on: bool) {
+        match on {
+            true => self.stepped.insert(vcpu),
+            false => self.stepped.remove(&vcpu),
+        };
+    }
+
+    /// An intercept, as it stands in a session.
+    fn look(&mut self, session: &Session, intercept: Intercept) {
+        let on = match intercept {
+            Intercept::VmEvent { event } => session.vm_event(event),
+            Intercept::VcpuEvent { vcpu, event } => session.vcpu_event(vcpu, event),
+            Intercept::Cr { vcpu, cr } => session.cr(vcpu, cr),
+            Intercept::Msr { vcpu, msr } => session.msr(vcpu, msr),
+        };
+        self.set(intercept, on);
+    }
+
+    /// After a message: what it names, as it stands now. One that got an error has changed nothing, and so does this. None where
+    /// it names nothing.
+    fn program(&mut self, session: &Session, message: &[u8]) -> Option<()> {
+        let (half, word) = (|at| Some(number(message, at, 2)? as u32), |at| Some(number(message, at, 4)? as u32));
+        match Command::from_number(half(0)? as u16)? {
+            Command::VmControlEvents => self.look(session, Intercept::VmEvent { event: half(8)? }),
+            Command::VcpuControlEvents => self.look(session, Intercept::VcpuEvent { vcpu: half(8)?, event: half(16)? }),
+            Command::VcpuControlCr => self.look(session, Intercept::Cr { vcpu: half(8)?, cr: word(20)? }),
+            Command::VcpuControlMsr => self.look(session, Intercept::Msr { vcpu: half(8)?, msr: word(20)? }),
+            Command::VcpuControlSinglestep => self.step(half(8)?, session.singlestep(half(8)?)),
+            Command::VmSetPageAccess => {
+                let view = half(10)?;
+                for entry in message.get(16..)?.chunks_exact(16) {
+                    let page = number(entry, 0, 8)? / PAGE_BYTES as u64;
+                    self.set_page(view, page, session.access(view, page));
+                }
+            }
+            _ => {}
+        }
+        Some(())
+    }
+
+    /// After a session began or closed: everything.
+    fn all(session: &Session) -> Hardware {
+        let mut hardware = Hardware::default();
+        for event in Event::ALL.iter().map(|event| u32::from(*event)) {
+            hardware.look(session, Intercept::VmEvent { event });
+            (0..VCPUS).for_each(|vcpu| hardware.look(session, Intercept::VcpuEvent { vcpu, event }));
+        }
+        for vcpu in 0..VCPUS {
+            [0, 3, 4].into_iter().for_each(|cr| hardware.look(session, Intercept::Cr { vcpu, cr }));
+            let msrs = (0..0x2000).chain(0xC000_0000..0xC000_2000);
+            msrs.for_each(|msr| hardware.look(session, Intercept::Msr { vcpu, msr }));
+            hardware.step(vcpu, session.singlestep(vcpu));
+        }
+        session.pages().for_each(|page| hardware.set_page(page.view, page.page, page.access));
+        hardware
+    }
+
+    /// The same, read off an image, to see that both agree. None where a record is cut.
+    fn stated(mut image: &[u8]) -> Option<Hardware> {
+        let mut hardware = Hardware::default();
+        loop {
+            // a vCPU or a view; in VM the version
+            let (of, bits) = (number(image, 2, 2)? as u32, |at, size| Some(number(image, at, size)? as u32));
+            let events = || Some((0..16).zip([bits(6, 2)?; 16]).filter(|(e, bits)| bits >> e & 1 == 1).map(|(e, _)| e));
+            let size = match image.get(..2)? {
+                b"VM" => {
+                    events()?.for_each(|event| hardware.set(Intercept::VmEvent { event }, true));
+                    8
+                }
+                b"VC" => {
+                    events()?.for_each(|event| hardware.set(Intercept::VcpuEvent { vcpu: of, event }, true));
+                    for (bit, cr) in [(1, 0), (2, 3), (4, 4)] {
+                        hardware.set(Intercept::Cr { vcpu: of, cr }, bits(5, 1)? & bit != 0);
+                    }
+                    hardware.step(of, bits(4, 1)? & 2 != 0);
+                    10
+                }
+                b"MS" => {
+                    hardware.set(Intercept::Msr { vcpu: of, msr: bits(4, 4)? }, true);
+                    8
+                }
+                b"PA" => {
+                    hardware.set_page(of, number(image, 6, 8)?, Access::from_bits(bits(4, 1)? as u8));
+                    14
+                }
+                _ => return Some(hardware),
+            };
+            image = image.get(size..)?;
+        }
     }
 }
 
+/// A little-endian number of so many bytes.
+fn number(bytes: &[u8], at: usize, size: usize) -> Option<u64> {
+    Some(bytes.get(at..at + size)?.iter().rev().fold(0, |number, byte| number << 8 | u64::from(*byte)))
+}
+
+/// The length of the next message: what its header says, or all that is left.
+fn next(stream: &[u8]) -> usize {
+    let size = number(stream, 2, 2).filter(|_| stream.len() >= 8).map_or(stream.len(), |size| 8 + size as usize);
+    size.min(stream.len())
+}
+
+fn send_to_tool(_bytes: &[u8]) {}
+
+/// The vCPU leaves the guest. With `wait` this returns when it is out.
+fn kick(_vcpu: u32, _wait: bool) {}
+
+/// One message: what it switches stands in hardware, and a vCPU that the tool waits for is out, before the tool reads that it is done.
+fn take(session: &mut Session, hardware: &mut Hardware, message: &[u8], guest: &mut [u8]) -> Result<(), Refusal> {
+    let mut out = [0; MESSAGE_OUT];
+    let answer = match session.message(message, &mut out, guest) {
+        Ok(answer) => answer,
+        Err(refusal) => {
+            println!("message {}: answer {}, 0 bytes", message[0], refusal.number());
+            return Ok(());
+        }
+    };
+    println!("message {}: answer {}, {} bytes", message[0], answer.number(), answer.bytes().len());
+    if answer.is_closing() {
+        // everything is off
+        *hardware = Hardware::all(session);
+        return Ok(());
+    }
+    hardware.program(session, message);
+    if let Signal::Kick { vcpu, wait } = answer.signal() {
+        kick(vcpu, wait);
+    }
+    send_to_tool(answer.bytes());
+    match answer.signal() {
+        Signal::Kick { vcpu, .. } => {
+            // it is about to enter the guest again: a queued pause is told now, and the vCPU waits for the tool's reply
+            let entry = session.enter(vcpu, &[0; STATE_BYTES], &mut out)?;
+            println!("vCPU {vcpu} enters: answer 0, {} bytes", entry.bytes.len());
+            send_to_tool(entry.bytes);
+        }
+        Signal::Crash { vcpu } => println!("vCPU {vcpu} is to be crashed"),
+        _ => {}
+    }
+    Ok(())
+}
+
+/// Whether the hardware is as an image states.
+fn check(hardware: &Hardware, image: &[u8]) -> bool {
+    let same = Hardware::stated(image).is_some_and(|stated| stated == *hardware);
+    if !same {
+        println!("hardware: not as the image states");
+    }
+    same
+}
+
 fn run(stream: &[u8]) -> Result<bool, Refusal> {
-    let settings = Settings::allowing_all(2);
+    let settings = Settings::allowing_all(VCPUS);
     let mut session = Session::fresh(&settings)?;
-    for vcpu in 0..settings.vcpus {
+    for vcpu in 0..VCPUS {
         session.ready(vcpu)?;
     }
-    let (mut out, mut guest) = ([0; MESSAGE_OUT], [0; 4 * 4096]);
+    let mut hardware = Hardware::default();
+    let mut guest = [0; 4 * PAGE_BYTES];
     let mut rest = stream;
     while !rest.is_empty() {
         let (message, after) = rest.split_at(next(rest));
-        let (answer, bytes, signal) = match session.message(message, &mut out, &mut guest) {
-            // here the bytes go to the tool
-            Ok(answer) => (answer.number(), answer.bytes().len(), answer.signal()),
-            Err(refusal) => (refusal.number(), 0, Signal::None),
-        };
-        println!("message {}: answer {answer}, {bytes} bytes", message[0]);
-        match signal {
-            // the vCPU leaves the guest, and is about to enter it again: a queued pause is told now
-            Signal::Kick { vcpu, .. } => {
-                let event = session.enter(vcpu, &[0; STATE_BYTES], &mut out)?;
-                println!("vCPU {vcpu} enters: answer 0, {} bytes", event.bytes.len());
-            }
-            Signal::Crash { vcpu } => println!("vCPU {vcpu} is to be crashed"),
-            _ => {}
-        }
+        take(&mut session, &mut hardware, message, &mut guest)?;
         rest = after;
     }
     let mut image = vec![0; session.image_size()];
     println!("image: answer 0, {} bytes", session.write_image(&mut image)?);
+    if !check(&hardware, &image) {
+        return Ok(false);
+    }
+
+    // on the new host
     let there = Session::from_image(&settings, &image)?;
     println!("new host: answer 0");
+    let hardware = Hardware::all(&there);
     let mut again = vec![0; there.image_size()];
     there.write_image(&mut again)?;
     println!("its image: {}", if again == image { "the same" } else { "another" });
-    Ok(again == image)
+    if again != image || !check(&hardware, &again) {
+        return Ok(false);
+    }
+    let Hardware { pages, intercepts, stepped } = &hardware;
+    let (pages, intercepts, stepped) = (pages.len(), intercepts.len(), stepped.len());
+    println!("hardware: {pages} pages below rwx, {intercepts} intercepts, {stepped} vCPUs single-stepped");
+    println!("hardware: as the image states");
+    Ok(true)
 }
 
 fn main() {

@@ -72,6 +72,14 @@ pub use vcpu_list::Vcpu;
 pub const MAX_VCPUS: u32 = 16;
 /// The most views.
 pub const MAX_VIEWS: u32 = 8;
+/// The bytes of a page.
+pub const PAGE_BYTES: usize = 4096;
+/// The bytes of a message's header.
+pub const HEADER_BYTES: usize = 8;
+/// The bytes of the longest message that a header can state.
+pub const MESSAGE_MAX: usize = HEADER_BYTES + u16::MAX as usize;
+/// The bytes of the longest event, header included.
+pub const EVENT_MAX: usize = 568;
 /// The least output for [`Session::message`].
 pub const MESSAGE_OUT: usize = 4112;
 /// The least output for [`Session::enter`].
