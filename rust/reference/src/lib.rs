@@ -9,17 +9,22 @@
 //! * [`Session::message`] takes one message of the tool,
 //! * [`Session::ready`] and [`Session::enter`] are the host's calls,
 //! * [`Session::write_image`] and [`Session::read_image`] hand the tables from
-//!   one host to another.
+//!   one host to another,
+//! * the lookups of [`Session`] tell what stands,
+//! * [`list`] has the calls on records that the host lends.
 
 #![forbid(unsafe_code)]
 
 mod event;
 mod image;
+pub mod list;
+mod lookup;
 mod message;
 mod session;
 mod standing;
 mod wire;
 
+pub use lookup::Page;
 pub use session::Session;
 
 /// Document 01, "Settings, and a session's standing": the first paragraph.
@@ -114,6 +119,8 @@ pub enum Answer {
     Forbidden { offset: usize },
     /// 10: an image is asked while a reply is awaited.
     Busy,
+    /// 14: the CR switch of a list has no such CR, or the record is not ready.
+    NotApplicable,
 }
 
 impl Answer {
@@ -131,6 +138,7 @@ impl Answer {
             Answer::BadForm { .. } => 8,
             Answer::Forbidden { .. } => 9,
             Answer::Busy => 10,
+            Answer::NotApplicable => 14,
         }
     }
 

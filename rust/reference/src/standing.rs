@@ -125,6 +125,11 @@ impl Msrs {
         }
     }
 
+    pub fn get(&self, msr: Msr) -> bool {
+        let (word, bit) = (usize::from(msr.0 / 64), 1u64 << (msr.0 % 64));
+        self.words.as_ref().is_some_and(|words| words[word] & bit != 0)
+    }
+
     /// How many switches are on.
     pub fn len(&self) -> usize {
         self.on
@@ -181,6 +186,15 @@ impl Pages {
             }
         }
         true
+    }
+
+    /// The access of a page that stands below rwx; none does in a view above 7
+    /// or from page 2^52 on.
+    pub fn get(&self, view: u32, page: u64) -> Option<u8> {
+        if view > 7 || page >> Pages::PAGE_BITS != 0 {
+            return None;
+        }
+        self.below.get(&(u64::from(view) << Pages::PAGE_BITS | page)).copied()
     }
 
     /// How many pages stand below rwx.
