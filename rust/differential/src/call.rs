@@ -1,5 +1,7 @@
 //! Calls, and their text: one call a line, a word and then `name=value` pairs.
 
+use crate::Lookup;
+use reference::list::Record;
 use reference::Settings;
 use std::fmt;
 use std::fmt::Write;
@@ -9,7 +11,7 @@ pub const OUT_ROOM: usize = 4200;
 pub const GUEST_ROOM: usize = 4 * 4096 + 64;
 pub const STATE_ROOM: usize = 1100;
 
-/// One call on both sides. All but `Fresh` and `Load` need a session and do nothing without one.
+/// One call on both sides. All but those that begin a session or use a list need a session and do nothing without one.
 #[derive(Clone, Debug, PartialEq, Eq)]
 pub enum Call {
     /// Begins a session; it takes the place of the one before, unless it is refused.
@@ -24,6 +26,12 @@ pub enum Call {
     Enter { vcpu: u32, state: usize, fill: u8, out: usize },
     /// Writes the image, with so many bytes more lent than it has.
     Image { room: i64 },
+    /// Marks a vCPU of a list ready.
+    ListReady { records: Vec<Record>, index: u64 },
+    /// Sets a CR switch of a vCPU of a list.
+    ListCr { records: Vec<Record>, index: u64, cr: u32, on: bool },
+    /// Asks what stands. A run asks between its calls, and has this as a call only where the two sides then differ.
+    Look { lookup: Lookup },
 }
 
 impl Call {
@@ -35,6 +43,9 @@ impl Call {
             Call::Message { .. } => "message",
             Call::Enter { .. } => "enter",
             Call::Image { .. } => "image",
+            Call::ListReady { .. } => "list_ready",
+            Call::ListCr { .. } => "list_cr",
+            Call::Look { .. } => "look",
         }
     }
 
@@ -61,6 +72,15 @@ impl fmt::Display for Call {
             }
             Call::Enter { vcpu, state, fill, out } => write!(f, " vcpu={vcpu} state={state} fill={fill} out={out}"),
             Call::Image { room } => write!(f, " room={room}"),
+            Call::ListReady { records, index } => {
+                write!(f, " index={index:#x} records=")?;
+                put_hex(f, &record_bytes(records))
+            }
+            Call::ListCr { records, index, cr, on } => {
+                write!(f, " index={index:#x} cr={cr:#x} on={} records=", u8::from(*on))?;
+                put_hex(f, &record_bytes(records))
+            }
+            Call::Look { lookup } => write!(f, " {lookup}"),
         }
     }
 }
@@ -78,6 +98,19 @@ fn put_hex(f: &mut fmt::Formatter<'_>, bytes: &[u8]) -> fmt::Result {
         f.write_char(digit(byte >> 4))?;
         f.write_char(digit(byte & 15))
     })
+}
+
+/// The words of a record, in the order in which it has them.
+pub fn record_words(r: &Record) -> [u64; 7] {
+    [r.ready, r.singlestep, r.crs, r.events, r.pauses, r.awaited, r.awaited_seq]
+}
+
+pub fn record_of([ready, singlestep, crs, events, pauses, awaited, awaited_seq]: [u64; 7]) -> Record {
+    Record { ready, singlestep, crs, events, pauses, awaited, awaited_seq }
+}
+
+fn record_bytes(records: &[Record]) -> Vec<u8> {
+    records.iter().flat_map(record_words).flat_map(u64::to_le_bytes).collect()
 }
 
 /// Reads a list of calls; empty lines and those with `#` first are passed over.
@@ -107,6 +140,17 @@ fn parse_call(line: &str) -> Result<Call, String> {
             out: fields.up_to("out", OUT_ROOM)?,
         },
         "image" => Call::Image { room: fields.number("room")? },
+        "list_ready" => Call::ListReady { records: fields.records()?, index: fields.number("index")? },
+        "list_cr" => Call::ListCr {
+            records: fields.records()?,
+            index: fields.number("index")?,
+            cr: fields.number("cr")?,
+            on: fields.flag("on")?,
+        },
+        "look" => {
+            let (name, of, number) = (fields.take("name")?, fields.number("of")?, fields.number("number")?);
+            Call::Look { lookup: Lookup::named(name, of, number).ok_or(format!("no lookup {name} of these numbers"))? }
+        }
         _ => return Err(format!("unknown word {word}")),
     };
     match fields.0.first() {
@@ -153,6 +197,16 @@ impl<'a> Fields<'a> {
         let nibble = |at: usize| text.get(at..at + 1).and_then(|digit| u8::from_str_radix(digit, 16).ok());
         let bytes: Option<Vec<u8>> = (0..text.len()).step_by(2).map(|at| Some(nibble(at)? << 4 | nibble(at + 1)?)).collect();
         bytes.ok_or(format!("{name} is not in hex digits, two for a byte"))
+    }
+
+    fn records(&mut self) -> Result<Vec<Record>, String> {
+        let bytes = self.hex("records")?;
+        let (words, rest) = bytes.as_chunks::<8>();
+        let (records, more) = words.as_chunks::<7>();
+        match rest.is_empty() && more.is_empty() {
+            true => Ok(records.iter().map(|words| record_of(words.map(u64::from_le_bytes))).collect()),
+            false => Err("records are not of 56 bytes each".to_owned()),
+        }
     }
 
     fn settings(&mut self) -> Result<Settings, String> {

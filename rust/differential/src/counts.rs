@@ -1,17 +1,33 @@
 //! What a run has seen.
 
-use crate::Call;
-use reference::{Answer, Signal};
+use crate::look::LOOKUPS;
+use crate::{Call, Lookup, Told};
+use reference::{Answer, Settings, Signal};
 use std::fmt;
 
 /// Every error code of a reply.
 pub const CODES: [i32; 9] = [0, -1, -2, -11, -12, -16, -22, -95, -1000];
 
 /// The kinds of calls, as rows of the answers.
-const WORDS: [&str; 6] = ["fresh", "load", "ready", "message", "enter", "image"];
+const WORDS: [&str; 8] = ["fresh", "load", "ready", "message", "enter", "image", "list_ready", "list_cr"];
 
 /// The answers that each kind has.
-const ANSWERS: [&[usize]; 6] = [&[0, 7], &[0, 7, 8, 9], &[0, 2, 4], &[0, 1, 2, 3], &[0, 2, 3, 4, 5, 6], &[0, 2, 3, 10]];
+const ANSWERS: [&[usize]; 8] =
+    [&[0, 7], &[0, 7, 8, 9], &[0, 2, 4], &[0, 1, 2, 3], &[0, 2, 3, 4, 5, 6], &[0, 2, 3, 10], &[0, 4], &[0, 4, 14]];
+
+/// What calls on lists can be about.
+const LISTS: [&str; 7] = [
+    "no record",
+    "20 records",
+    "index at the length",
+    "index past the length",
+    "CR other than 0, 3, 4, record ready",
+    "record not ready, CR 0, 3 or 4",
+    "a ready mark other than 1",
+];
+
+/// What lookups can tell, and be asked.
+const TOLD: [&str; 4] = ["nothing on", "something on", "no such number", "no such vCPU of this session"];
 
 /// The signals, told apart by whether the call wrote a reply: a kick does, with replies on, and a crash never.
 const SIGNALS: [&str; 6] =
@@ -66,7 +82,12 @@ pub struct Counts {
     pub longest: u64,
     pub most_pages: u64,
     pub largest: u64,
-    answers: [[u64; 11]; 6],
+    answers: [[u64; 15]; 8],
+    /// Lookups: by name and by what they told or were asked.
+    looked: [[u64; 4]; 12],
+    /// Lookups in closed sessions.
+    closed: u64,
+    lists: [u64; 7],
     /// By message, 0 for an unknown one, and by error.
     replies: [[u64; 9]; 17],
     command_errors: [[u64; 9]; 17],
@@ -95,8 +116,53 @@ impl Counts {
                 self.images_written += 1;
                 self.saw_image(bytes);
             }
-            Call::Fresh { .. } | Call::Ready { .. } => {}
+            Call::ListReady { records, index } | Call::ListCr { records, index, .. } => {
+                let at = records.get(*index as usize);
+                let wrong = matches!(call, Call::ListCr { cr, .. } if !matches!(cr, 0 | 3 | 4));
+                let is_cr = matches!(call, Call::ListCr { .. });
+                let kinds = [
+                    records.is_empty(),
+                    records.len() == 20,
+                    *index == records.len() as u64,
+                    *index > records.len() as u64,
+                    is_cr && wrong && at.is_some_and(|record| record.ready != 0),
+                    is_cr && !wrong && at.is_some_and(|record| record.ready == 0),
+                    at.is_some_and(|record| record.ready > 1),
+                ];
+                self.lists.iter_mut().zip(kinds).for_each(|(count, seen)| *count += u64::from(seen));
+            }
+            Call::Fresh { .. } | Call::Ready { .. } | Call::Look { .. } => {}
         }
+    }
+
+    /// Takes note of a lookup, and says whether what is asked of no session is off, or at rwx.
+    pub fn looked(&mut self, lookup: Lookup, told: Told, settings: &Settings) -> bool {
+        let is_off = match (lookup, told) {
+            (Lookup::Access { .. }, told) => told == Told::Number(7),
+            (_, told) => matches!(told, Told::Flag(false) | Told::Number(0) | Told::Page(None)),
+        };
+        let is_cr = |cr| matches!(cr, 0 | 3 | 4);
+        let is_msr = |msr| matches!(msr, 0..0x2000 | 0xC000_0000..0xC000_2000);
+        let (vcpu, is_known) = match lookup {
+            Lookup::IsOpen | Lookup::PageCount => (0, true),
+            Lookup::IsReady { vcpu } | Lookup::Singlestep { vcpu } | Lookup::Pauses { vcpu } | Lookup::Awaited { vcpu } => {
+                (vcpu, vcpu < 16)
+            }
+            Lookup::VmEvent { event } => (0, (1..15).contains(&event)),
+            Lookup::VcpuEvent { vcpu, event } => (vcpu, vcpu < 16 && (1..15).contains(&event)),
+            Lookup::Cr { vcpu, cr } => (vcpu, vcpu < 16 && is_cr(cr)),
+            Lookup::Msr { vcpu, msr } => (vcpu, vcpu < 16 && is_msr(msr)),
+            Lookup::Access { view, page } => (0, view < 8 && page < 1 << 52),
+            Lookup::PageAt { i } => (0, i < 1024),
+        };
+        let row = &mut self.looked[lookup.row()];
+        row[usize::from(!is_off)] += 1;
+        row[2] += u64::from(!is_known);
+        row[3] += u64::from(is_known && vcpu >= settings.vcpus);
+        if lookup == Lookup::IsOpen {
+            self.closed += u64::from(is_off);
+        }
+        is_off || is_known && vcpu < settings.vcpus
     }
 
     fn saw_message(&mut self, message: &[u8], answer: Answer, bytes: &[u8]) {
@@ -167,6 +233,9 @@ impl Counts {
         sum(self.answers.as_flattened_mut(), other.answers.as_flattened());
         sum(self.replies.as_flattened_mut(), other.replies.as_flattened());
         sum(self.command_errors.as_flattened_mut(), other.command_errors.as_flattened());
+        sum(self.looked.as_flattened_mut(), other.looked.as_flattened());
+        self.closed += other.closed;
+        sum(&mut self.lists, &other.lists);
         sum(&mut self.silent, &other.silent);
         sum(&mut self.closing, &other.closing);
         sum(&mut self.signals, &other.signals);
@@ -206,9 +275,27 @@ impl Counts {
                 list.push((format!("image: forbidden at {place}"), forbidden));
             }
         }
+        for (row, counts) in self.looked.iter().enumerate() {
+            let name = LOOKUPS[row];
+            let columns = match name {
+                // these are asked without a number
+                "is_open" | "page_count" => 2,
+                // and these not of a vCPU
+                "vm_event" | "access" | "page_at" => 3,
+                _ => 4,
+            };
+            list.extend(TOLD.iter().zip(counts).take(columns).map(|(told, count)| (format!("lookup {name}: {told}"), *count)));
+        }
+        list.push(("lookup: in a closed session".into(), self.closed));
+        list.extend(LISTS.iter().zip(self.lists).map(|(name, count)| (format!("list: {name}"), count)));
         list.push(("image: 1,024 pages".into(), u64::from(self.most_pages == 1024)));
         list.push(("image: the longest".into(), u64::from(self.largest == semblurick::IMAGE_MAX as u64)));
         list
+    }
+
+    /// How many lookups there were.
+    pub fn lookups(&self) -> u64 {
+        self.looked.iter().map(|[off, on, ..]| off + on).sum()
     }
 
     /// What a run had to see and did not.

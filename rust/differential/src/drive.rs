@@ -1,7 +1,8 @@
 //! Whole runs: sessions and images from a seed, on two threads.
 
 use crate::guide::Guide;
-use crate::{image, settings, shrink, Answer, Call, Counts, Filter, Mismatch, Random, Runner, Settings};
+use crate::run::Looks;
+use crate::{image, list, settings, shrink, Answer, Call, Counts, Filter, Mismatch, Random, Runner, Settings};
 use std::fmt;
 use std::sync::atomic::{AtomicBool, Ordering};
 use std::thread;
@@ -54,9 +55,12 @@ pub fn drive<L: Filter, R: Filter>(seed: u64, workers: u64, quota: Quota) -> Res
 
 /// One worker: sessions until the quota is done, and the longest image at last; or until a mismatch is found.
 pub fn work<L: Filter, R: Filter>(seed: u64, worker: u64, quota: Quota, stop: &AtomicBool) -> Result<Counts, Box<Failure>> {
-    let mut player = Player::<L, R> { runner: Runner::new(), calls: Vec::new(), images: Vec::new() };
+    let looks = Random::new(seed);
+    let mut player = Player::<L, R> { runner: Runner::new(), calls: Vec::new(), images: Vec::new(), looks, made: 0 };
     for session in 0.. {
         let mut random = Random::part(seed, worker, session);
+        // of their own, so that what is asked between calls does not change the calls
+        player.looks = Random::part(!seed, worker, session);
         let counts = &player.runner.counts;
         let done = counts.messages >= quota.messages && counts.images_read >= quota.images;
         let result = if done { player.longest(&mut random) } else { player.session(&mut random) };
@@ -80,16 +84,41 @@ struct Player<L, R> {
     calls: Vec<Call>,
     /// Images of sessions before, with their settings.
     images: Vec<(Settings, Vec<u8>)>,
+    /// For what is asked between calls, and how many calls there were.
+    looks: Random,
+    made: u64,
 }
 
 /// How many images are kept.
 const KEPT: usize = 32;
 
+/// Once in so many calls all is asked that stands, and every MSR of a vCPU.
+const ALL_LOOKS: u64 = 64;
+const ALL_MSRS: u64 = 4096;
+
 impl<L: Filter, R: Filter> Player<L, R> {
     fn call(&mut self, call: Call) -> Result<Option<Answer>, Mismatch> {
         self.calls.push(call);
         let at = self.calls.len() - 1;
-        self.runner.step(at, &self.calls[at])
+        let answer = self.runner.step(at, &self.calls[at])?;
+
+        self.made += 1;
+        let looks = match &self.calls[at] {
+            // they are about no session
+            Call::ListReady { .. } | Call::ListCr { .. } => return Ok(answer),
+            _ if self.made.is_multiple_of(ALL_MSRS) => Looks::Msrs,
+            Call::Load { keep: true, .. } => Looks::All,
+            _ if self.made.is_multiple_of(ALL_LOOKS) => Looks::All,
+            _ => Looks::Near,
+        };
+        self.runner.look(&mut self.looks, at, &self.calls[at], looks).inspect_err(|mismatch| {
+            // so that the session is there to be asked
+            if let Call::Load { keep, .. } = &mut self.calls[at] {
+                *keep = true;
+            }
+            self.calls.extend(mismatch.lookup.map(|lookup| Call::Look { lookup }));
+        })?;
+        Ok(answer)
     }
 
     /// A call that the guide is told of.
@@ -151,6 +180,10 @@ impl<L: Filter, R: Filter> Player<L, R> {
         let settings = guide.settings;
         let image = image.unwrap_or_else(|| image::made(random, &settings));
         self.mutated(random, &settings, &image)?;
+        for _ in 0..8 {
+            let call = list::call(&mut self.looks);
+            self.call(call)?;
+        }
         match self.images.len() {
             KEPT => self.images[random.index(KEPT)] = (settings, image),
             _ => self.images.push((settings, image)),

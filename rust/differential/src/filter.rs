@@ -1,5 +1,7 @@
 //! The two filters, seen through one interface.
 
+use crate::{Lookup, Told};
+use reference::list::Record;
 use reference::{Answer, Settings, Signal};
 
 /// What can be asked of a filter. `fresh` and `load` begin a session or refuse it.
@@ -12,12 +14,11 @@ pub trait Filter: Sized {
     fn enter(&mut self, vcpu: u32, state: &[u8], out: &mut [u8]) -> Answer;
     fn image_size(&self) -> usize;
     fn write_image(&self, out: &mut [u8]) -> Answer;
-    fn is_closed(&self) -> bool;
-
-    /// Whether a vCPU is ready, where the filter tells.
-    fn is_ready(&self, _vcpu: u32) -> Option<bool> {
-        None
-    }
+    fn look(&self, lookup: Lookup) -> Told;
+    /// View, page and access of each page below rwx.
+    fn pages(&self) -> Vec<(u32, u64, u8)>;
+    fn list_ready(records: &mut [Record], index: usize) -> Answer;
+    fn list_cr(records: &mut [Record], index: usize, cr: u32, on: bool) -> Answer;
 
     /// The settings, where the filter tells them.
     fn settings(&self) -> Option<Settings> {
@@ -76,12 +77,39 @@ impl Filter for Proved {
         self.0.write_image(out).map_or_else(refused, handled)
     }
 
-    fn is_closed(&self) -> bool {
-        self.0.is_closed()
+    fn look(&self, lookup: Lookup) -> Told {
+        let s = &self.0;
+        match lookup {
+            Lookup::IsOpen => {
+                assert_ne!(s.is_open(), s.is_closed());
+                Told::Flag(s.is_open())
+            }
+            Lookup::IsReady { vcpu } => Told::Flag(s.is_ready(vcpu)),
+            Lookup::VmEvent { event } => Told::Flag(s.vm_event(event)),
+            Lookup::VcpuEvent { vcpu, event } => Told::Flag(s.vcpu_event(vcpu, event)),
+            Lookup::Cr { vcpu, cr } => Told::Flag(s.cr(vcpu, cr)),
+            Lookup::Msr { vcpu, msr } => Told::Flag(s.msr(vcpu, msr)),
+            Lookup::Singlestep { vcpu } => Told::Flag(s.singlestep(vcpu)),
+            Lookup::Pauses { vcpu } => Told::Number(s.pauses(vcpu) as u64),
+            Lookup::Awaited { vcpu } => Told::Number(s.awaited(vcpu).map_or(0, |event| event.number().into())),
+            Lookup::PageCount => Told::Number(s.page_count() as u64),
+            Lookup::Access { view, page } => Told::Number(s.access(view, page).bits().into()),
+            Lookup::PageAt { i } => Told::Page(s.page_at(i as usize).map(|page| (page.view, page.page, page.access.bits()))),
+        }
     }
 
-    fn is_ready(&self, vcpu: u32) -> Option<bool> {
-        Some(self.0.is_ready(vcpu))
+    fn pages(&self) -> Vec<(u32, u64, u8)> {
+        let pages = self.0.pages();
+        assert_eq!(pages.len(), self.0.page_count());
+        pages.map(|page| (page.view, page.page, page.access.bits())).collect()
+    }
+
+    fn list_ready(records: &mut [Record], index: usize) -> Answer {
+        on_list(records, |vcpus| semblurick::vcpu_list::ready(vcpus, index))
+    }
+
+    fn list_cr(records: &mut [Record], index: usize, cr: u32, on: bool) -> Answer {
+        on_list(records, |vcpus| semblurick::vcpu_list::set_cr(vcpus, index, cr, on))
     }
 
     fn settings(&self) -> Option<Settings> {
@@ -100,6 +128,33 @@ impl Filter for Proved {
     }
 }
 
+/// A call on the wrapper's records, which get the words of these and give them back.
+fn on_list(records: &mut [Record], call: impl FnOnce(&mut [semblurick::Vcpu]) -> Result<(), semblurick::Refusal>) -> Answer {
+    let vcpu = |r: &Record| semblurick::Vcpu {
+        ready: r.ready,
+        singlestep: r.singlestep,
+        crs: r.crs,
+        events: r.events,
+        pauses: r.pauses,
+        awaited: r.awaited,
+        awaited_seq: r.awaited_seq,
+    };
+    let mut vcpus: Vec<semblurick::Vcpu> = records.iter().map(vcpu).collect();
+    let answer = call(&mut vcpus).map_or_else(refused, |()| handled(0));
+    for (record, v) in records.iter_mut().zip(&vcpus) {
+        *record = Record {
+            ready: v.ready,
+            singlestep: v.singlestep,
+            crs: v.crs,
+            events: v.events,
+            pauses: v.pauses,
+            awaited: v.awaited,
+            awaited_seq: v.awaited_seq,
+        };
+    }
+    answer
+}
+
 fn handled(count: usize) -> Answer {
     Answer::Handled { count, signal: Signal::None }
 }
@@ -116,6 +171,7 @@ fn refused(refusal: semblurick::Refusal) -> Answer {
         Refusal::BadForm { offset } => Answer::BadForm { offset },
         Refusal::Forbidden { offset } => Answer::Forbidden { offset },
         Refusal::Busy => Answer::Busy,
+        Refusal::NotApplicable => Answer::NotApplicable,
         other => panic!("the reference has no {other}"),
     };
     assert_eq!(refusal.number(), answer.number());
@@ -172,8 +228,34 @@ impl Filter for Plain {
         self.0.write_image(out)
     }
 
-    fn is_closed(&self) -> bool {
-        self.0.is_closed()
+    fn look(&self, lookup: Lookup) -> Told {
+        let s = &self.0;
+        match lookup {
+            Lookup::IsOpen => Told::Flag(s.is_open()),
+            Lookup::IsReady { vcpu } => Told::Flag(s.is_ready(vcpu)),
+            Lookup::VmEvent { event } => Told::Flag(s.vm_event(event)),
+            Lookup::VcpuEvent { vcpu, event } => Told::Flag(s.vcpu_event(vcpu, event)),
+            Lookup::Cr { vcpu, cr } => Told::Flag(s.cr(vcpu, cr)),
+            Lookup::Msr { vcpu, msr } => Told::Flag(s.msr(vcpu, msr)),
+            Lookup::Singlestep { vcpu } => Told::Flag(s.singlestep(vcpu)),
+            Lookup::Pauses { vcpu } => Told::Number(s.pauses(vcpu).into()),
+            Lookup::Awaited { vcpu } => Told::Number(s.awaited(vcpu).unwrap_or(0).into()),
+            Lookup::PageCount => Told::Number(s.page_count() as u64),
+            Lookup::Access { view, page } => Told::Number(s.access(view, page).into()),
+            Lookup::PageAt { i } => Told::Page(s.page_at(i as usize).map(|page| (page.view, page.page, page.access))),
+        }
+    }
+
+    fn pages(&self) -> Vec<(u32, u64, u8)> {
+        self.0.pages().map(|page| (page.view, page.page, page.access)).collect()
+    }
+
+    fn list_ready(records: &mut [Record], index: usize) -> Answer {
+        reference::list::ready(records, index)
+    }
+
+    fn list_cr(records: &mut [Record], index: usize, cr: u32, on: bool) -> Answer {
+        reference::list::set_cr(records, index, cr, on)
     }
 }
 

@@ -2,8 +2,9 @@
 //! can be seen of them is compared.
 //!
 //! * [`Call`] is one call, with a text form that can be replayed;
-//! * [`Runner`] makes calls on both sides and compares answers, outputs, guest memory and images;
-//! * [`settings`], [`guide`] and [`image`] make settings, calls and images, good and damaged;
+//! * [`Runner`] makes calls on both sides and compares answers, outputs, guest memory and images, and what lookups tell;
+//! * [`look`] has the lookups that are asked between calls;
+//! * [`settings`], [`guide`], [`image`] and [`list`] make settings, calls, images and lists of records, good and damaged;
 //! * [`shrink`] makes a failing list of calls short;
 //! * [`drive`] does all this for a seed, and [`Counts`] says what was seen.
 
@@ -15,6 +16,8 @@ pub mod drive;
 mod filter;
 pub mod guide;
 pub mod image;
+pub mod list;
+pub mod look;
 mod message;
 mod random;
 mod run;
@@ -24,6 +27,8 @@ pub mod shrink;
 pub use call::{parse, Call, GUEST_ROOM, OUT_ROOM, STATE_ROOM};
 pub use counts::{Counts, CODES};
 pub use filter::{told_error, Filter, Plain, Proved};
+pub use look::{Lookup, Told};
 pub use random::Random;
+pub use reference::list::Record;
 pub use reference::{Answer, Settings, Signal};
 pub use run::{run, Mismatch, Runner};

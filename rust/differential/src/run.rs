@@ -1,6 +1,8 @@
 //! Calls on both sides, and the comparing.
 
+use crate::look::{self, Lookup, Told};
 use crate::{Call, Counts, Filter, Random, GUEST_ROOM, OUT_ROOM, STATE_ROOM};
+use reference::list::Record;
 use reference::{Answer, Settings, Signal};
 use std::fmt;
 use std::panic::{catch_unwind, AssertUnwindSafe};
@@ -22,6 +24,8 @@ pub struct Mismatch {
     pub id: u16,
     pub left: String,
     pub right: String,
+    /// The lookup that shows it, where it is between calls: the first behind the call.
+    pub lookup: Option<Lookup>,
 }
 
 impl Mismatch {
@@ -51,9 +55,24 @@ struct Pair<L, R> {
     settings: Settings,
 }
 
+/// How much is asked between two calls.
+#[derive(Clone, Copy, PartialEq, Eq)]
+pub enum Looks {
+    /// What the call touched, and some of the rest.
+    Near,
+    /// All but MSRs.
+    All,
+    /// All, and every MSR of a vCPU.
+    Msrs,
+}
+
 /// Makes calls on a left and a right filter, each with memory of its own.
 pub struct Runner<L, R> {
     session: Option<Pair<L, R>>,
+    /// The session of an image that was read and is not kept, until the next call.
+    passing: Option<Pair<L, R>>,
+    /// Lookups to be asked.
+    lookups: Vec<Lookup>,
     left: Lent,
     right: Lent,
     /// What stands in the outputs and guest memories at first, and what register blocks are taken from: no byte is zero.
@@ -66,13 +85,15 @@ pub struct Runner<L, R> {
     pub counts: Counts,
 }
 
+fn text_of(panic: Box<dyn std::any::Any + Send>) -> String {
+    let text = panic.downcast_ref::<String>().cloned();
+    let text = text.or(panic.downcast_ref::<&str>().map(|text| (*text).to_owned()));
+    format!("panicked: {}", text.unwrap_or_default())
+}
+
 /// Both results, or which side panicked.
 fn both<A, B>(left: impl FnOnce() -> A, right: impl FnOnce() -> B) -> Result<(A, B), Unlike> {
-    let told = |panic: Box<dyn std::any::Any + Send>| {
-        let text = panic.downcast_ref::<String>().cloned();
-        let text = text.or(panic.downcast_ref::<&str>().map(|text| (*text).to_owned()));
-        format!("panicked: {}", text.unwrap_or_default())
-    };
+    let told = text_of;
     let answered = || "did not panic".to_owned();
     match (catch_unwind(AssertUnwindSafe(left)), catch_unwind(AssertUnwindSafe(right))) {
         (Ok(left), Ok(right)) => Ok((left, right)),
@@ -87,6 +108,11 @@ struct Unlike {
     part: &'static str,
     left: String,
     right: String,
+}
+
+/// The lookup that two filters do not answer alike, or not as they have to.
+fn unlike(lookup: Lookup, left: Told, right: Told) -> Unlike {
+    Unlike { part: lookup.name(), left: format!("{lookup:?} gives {left:?}"), right: format!("{lookup:?} gives {right:?}") }
 }
 
 fn same<T: PartialEq + fmt::Debug>(part: &'static str, left: &T, right: &T) -> Result<(), Unlike> {
@@ -121,12 +147,24 @@ impl<L: Filter, R: Filter> Runner<L, R> {
         let (pattern, guest, states) = (bytes(0, OUT_ROOM + GUARD), bytes(1, GUEST_ROOM + GUARD), bytes(2, STATE_ROOM + 256));
         let lent = || Lent { out: pattern.clone(), guest: guest.clone(), image: Vec::new() };
         let (left, right) = (lent(), lent());
-        Runner { session: None, left, right, pattern, guest, states, written: 0, image: 0, counts: Counts::default() }
+        Runner {
+            session: None,
+            passing: None,
+            lookups: Vec::new(),
+            left,
+            right,
+            pattern,
+            guest,
+            states,
+            written: 0,
+            image: 0,
+            counts: Counts::default(),
+        }
     }
 
     /// No session, and lent memory as at first.
     pub fn reset(&mut self) {
-        self.session = None;
+        (self.session, self.passing) = (None, None);
         (self.written, self.image) = (0, 0);
         for lent in [&mut self.left, &mut self.right] {
             lent.out.copy_from_slice(&self.pattern);
@@ -150,24 +188,124 @@ impl<L: Filter, R: Filter> Runner<L, R> {
         for lent in [&mut self.left, &mut self.right] {
             lent.out[..self.written].copy_from_slice(&self.pattern[..self.written]);
         }
-        (self.written, self.image) = (0, 0);
+        (self.written, self.image, self.passing) = (0, 0, None);
         self.make(call).map_err(|Unlike { part, left, right }| {
             let id = match call {
                 Call::Message { bytes, .. } => bytes.first_chunk().map_or(0, |id| u16::from_le_bytes(*id)),
                 _ => 0,
             };
-            Mismatch { at, word: call.word(), part, id, left, right }
+            Mismatch { at, word: call.word(), part, id, left, right, lookup: None }
         })
+    }
+
+    /// Asks both sides what stands after a call, the `at`th: the first lookup that is answered unlike would be the next call.
+    pub fn look(&mut self, random: &mut Random, at: usize, call: &Call, looks: Looks) -> Result<(), Mismatch> {
+        let passing = self.passing.take();
+        let is_passing = passing.is_some();
+        let Some(pair) = passing.or_else(|| self.session.take()) else { return Ok(()) };
+        let mut list = std::mem::take(&mut self.lookups);
+        list.clear();
+        let asked = catch_unwind(AssertUnwindSafe(|| self.ask(random, &pair, call, looks, &mut list)));
+        self.lookups = list;
+        match is_passing {
+            true => self.passing = Some(pair),
+            false => self.session = Some(pair),
+        }
+        let asked = asked.unwrap_or_else(|panic| {
+            let panic = Unlike { part: "panic", left: text_of(panic), right: "a lookup panicked".to_owned() };
+            Err((Lookup::IsOpen, panic))
+        });
+        asked.map_err(|(lookup, Unlike { part, left, right })| Mismatch {
+            at: at + 1,
+            word: "look",
+            part,
+            id: 0,
+            left,
+            right,
+            lookup: Some(lookup),
+        })
+    }
+
+    fn ask(
+        &mut self,
+        random: &mut Random,
+        pair: &Pair<L, R>,
+        call: &Call,
+        looks: Looks,
+        list: &mut Vec<Lookup>,
+    ) -> Result<(), (Lookup, Unlike)> {
+        let Pair { left, right, settings } = pair;
+        if looks == Looks::Near {
+            let count = match right.look(Lookup::PageCount) {
+                Told::Number(count) => count as usize,
+                told => panic!("the count of pages is {told:?}"),
+            };
+            look::near(random, call, count, list);
+        } else {
+            // the pages below rwx: the list of them, each by its place and by its number
+            let pages = right.pages();
+            let ours = left.pages();
+            for (i, page) in pages.iter().enumerate() {
+                let (lookup, told) = (Lookup::PageAt { i: i as u64 }, Told::Page(Some(*page)));
+                self.counts.looked(lookup, told, settings);
+                if ours.get(i) != Some(page) {
+                    return Err((lookup, unlike(lookup, Told::Page(ours.get(i).copied()), told)));
+                }
+                let access = (Lookup::Access { view: page.0, page: page.1 }, Told::Number(page.2.into()));
+                for (lookup, told) in [(lookup, told), access] {
+                    let found = left.look(lookup);
+                    if found != told {
+                        return Err((lookup, unlike(lookup, found, told)));
+                    }
+                }
+            }
+            if ours.len() > pages.len() {
+                let (lookup, i) = (Lookup::PageAt { i: pages.len() as u64 }, pages.len());
+                return Err((lookup, unlike(lookup, Told::Page(ours.get(i).copied()), Told::Page(None))));
+            }
+            look::all(random, looks == Looks::Msrs, &pages, list);
+        }
+        list.iter().try_for_each(|lookup| self.same_look(pair, *lookup))
+    }
+
+    /// Asks both sides. What no session has is off, or at rwx.
+    fn same_look(&mut self, pair: &Pair<L, R>, lookup: Lookup) -> Result<(), (Lookup, Unlike)> {
+        let (left, right) = (pair.left.look(lookup), pair.right.look(lookup));
+        let is_sound = self.counts.looked(lookup, left, &pair.settings);
+        match left == right && is_sound {
+            true => Ok(()),
+            false => Err((lookup, unlike(lookup, left, right))),
+        }
     }
 
     fn make(&mut self, call: &Call) -> Result<Option<Answer>, Unlike> {
         let answer = match call {
             Call::Fresh { settings } => self.fresh(settings)?,
             Call::Load { settings, keep, image } => self.load(settings, *keep, image)?,
+            Call::ListReady { records, index } => {
+                let index = *index as usize;
+                self.on_list(records, |records| L::list_ready(records, index), |records| R::list_ready(records, index))?
+            }
+            Call::ListCr { records, index, cr, on } => {
+                let (index, cr, on) = (*index as usize, *cr, *on);
+                self.on_list(
+                    records,
+                    |records| L::list_cr(records, index, cr, on),
+                    |records| R::list_cr(records, index, cr, on),
+                )?
+            }
+            Call::Look { lookup } => {
+                let Some(pair) = self.session.take() else { return Ok(None) };
+                let asked = catch_unwind(AssertUnwindSafe(|| self.same_look(&pair, *lookup)));
+                self.session = Some(pair);
+                let panic = |panic| Unlike { part: "panic", left: text_of(panic), right: "a lookup panicked".to_owned() };
+                asked.map_err(panic)?.map_err(|(_, unlike)| unlike)?;
+                return Ok(None);
+            }
             _ => {
                 let Some(mut pair) = self.session.take() else { return Ok(None) };
                 let answer = self.on(&mut pair, call)?;
-                same("is_closed", &pair.left.is_closed(), &pair.right.is_closed())?;
+                same("is_open", &pair.left.look(Lookup::IsOpen), &pair.right.look(Lookup::IsOpen))?;
                 self.session = Some(pair);
                 answer
             }
@@ -191,7 +329,10 @@ impl<L: Filter, R: Filter> Runner<L, R> {
             let written = self.write_image(&mut pair, 0)?;
             same("answer to writing the image read", &written, &Answer::Handled { count: image.len(), signal: Signal::None })?;
             same_bytes("image written after reading", self.image(), image)?;
-            self.session = Some(pair).filter(|_| keep);
+            match keep {
+                true => self.session = Some(pair),
+                false => self.passing = Some(pair),
+            }
         }
         self.image = 0;
         self.session = self.session.take().or(before);
@@ -202,7 +343,7 @@ impl<L: Filter, R: Filter> Runner<L, R> {
     fn begun(&mut self, settings: &Settings, left: Result<L, Answer>, right: Result<R, Answer>) -> Result<Answer, Unlike> {
         match (left, right) {
             (Ok(left), Ok(right)) => {
-                same("is_closed", &left.is_closed(), &right.is_closed())?;
+                same("is_open", &left.look(Lookup::IsOpen), &right.look(Lookup::IsOpen))?;
                 self.session = Some(Pair { left, right, settings: settings.clone() });
                 Ok(Answer::Handled { count: 0, signal: Signal::None })
             }
@@ -212,6 +353,20 @@ impl<L: Filter, R: Filter> Runner<L, R> {
                 Ok(left.expect_err("one of them was refused"))
             }
         }
+    }
+
+    /// A call on copies of these records: the answer, and all records afterwards.
+    fn on_list(
+        &mut self,
+        records: &[Record],
+        left: impl FnOnce(&mut [Record]) -> Answer,
+        right: impl FnOnce(&mut [Record]) -> Answer,
+    ) -> Result<Answer, Unlike> {
+        let (mut ours, mut theirs) = (records.to_vec(), records.to_vec());
+        let (left, right) = both(|| left(&mut ours), || right(&mut theirs))?;
+        same("answer", &left, &right)?;
+        same("records", &ours, &theirs)?;
+        Ok(left)
     }
 
     fn on(&mut self, pair: &mut Pair<L, R>, call: &Call) -> Result<Answer, Unlike> {
@@ -241,7 +396,7 @@ impl<L: Filter, R: Filter> Runner<L, R> {
                 Ok(left)
             }
             Call::Image { room } => self.write_image(pair, *room),
-            Call::Fresh { .. } | Call::Load { .. } => unreachable!("these begin sessions"),
+            _ => unreachable!("these are made elsewhere"),
         }
     }
 
@@ -278,13 +433,13 @@ impl<L: Filter, R: Filter> Runner<L, R> {
         Ok(left)
     }
 
-    /// What only one side may tell: settings as they were given, and ready marks as the image has them.
+    /// What a filter tells of itself: settings as they were given, and ready marks as the image has them.
     fn same_told(&self, pair: &Pair<L, R>) -> Result<(), Unlike> {
         for told in [pair.left.settings(), pair.right.settings()].iter().flatten() {
             same("settings told and given", told, &pair.settings)?;
         }
         let image = self.image();
-        if image.is_empty() && !pair.left.is_closed() {
+        if image.is_empty() && pair.left.look(Lookup::IsOpen) == Told::Flag(true) {
             return Ok(());
         }
         let is_ready = |vcpu: u32| {
@@ -293,8 +448,8 @@ impl<L: Filter, R: Filter> Runner<L, R> {
         };
         for vcpu in (0..17).chain([32, 63, 64, 65, u32::MAX]) {
             let known = vcpu < pair.settings.vcpus && is_ready(vcpu);
-            for told in [pair.left.is_ready(vcpu), pair.right.is_ready(vcpu)].into_iter().flatten() {
-                same("ready mark told and in the image", &told, &known)?;
+            for told in [pair.left.look(Lookup::IsReady { vcpu }), pair.right.look(Lookup::IsReady { vcpu })] {
+                same("ready mark told and in the image", &told, &Told::Flag(known))?;
             }
         }
         Ok(())

@@ -1,6 +1,6 @@
 //! Makes a failing list of calls short.
 
-use crate::{image, Call, Filter, Mismatch, Runner};
+use crate::{image, Call, Filter, Mismatch, Record, Runner};
 use std::ops::Range;
 use std::time::{Duration, Instant};
 
@@ -143,7 +143,8 @@ impl<L: Filter, R: Filter> Search<'_, L, R> {
             Some(Call::Fresh { .. } | Call::Load { .. }) => BEGINNINGS,
             Some(Call::Message { .. }) => MESSAGES,
             Some(Call::Enter { .. } | Call::Image { .. }) => OTHERS,
-            Some(Call::Ready { .. }) | None => &[],
+            Some(Call::ListReady { .. } | Call::ListCr { .. }) => LISTS,
+            Some(Call::Ready { .. } | Call::Look { .. }) | None => &[],
         };
         for way in ways {
             if let Some(mut call) = self.calls.get(at).cloned() {
@@ -269,6 +270,19 @@ const OTHERS: &[fn(&mut Call)] = &[|call| match call {
     Call::Image { room } => *room = 0,
     _ => {}
 }];
+
+const LISTS: &[fn(&mut Call)] = &[
+    |call| {
+        if let Call::ListReady { records, index } | Call::ListCr { records, index, .. } = call {
+            records.truncate(usize::try_from(*index).unwrap_or(0).saturating_add(1));
+        }
+    },
+    |call| {
+        if let Call::ListReady { records, .. } | Call::ListCr { records, .. } = call {
+            records.iter_mut().for_each(|record| *record = Record { ready: record.ready.min(1), ..Record::default() });
+        }
+    },
+];
 
 fn with_settings(call: &mut Call, change: impl Fn(&mut reference::Settings)) {
     if let Call::Fresh { settings } | Call::Load { settings, .. } = call {

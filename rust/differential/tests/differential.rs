@@ -11,6 +11,7 @@ const SEED: u64 = 1;
 /// The least that a run does.
 const MESSAGES: u64 = 3_000_000;
 const IMAGES: u64 = 300_000;
+const LOOKUPS: u64 = 100 * MESSAGES;
 const WORKERS: u64 = 2;
 
 /// Prints even where a test's own output is kept back.
@@ -51,10 +52,14 @@ fn both_sides_agree() {
     let time = begun.elapsed().as_secs_f64();
     println!("{counts}");
     say(&format!(
-        "differential: {} messages, {} images read and {} written in {} sessions, alike on both sides; {time:.1} s",
-        counts.messages, counts.images_read, counts.images_written, counts.sessions
+        "differential: {} messages, {} images read and {} written in {} sessions, with {} lookups, alike on both sides; {time:.1} s",
+        counts.messages,
+        counts.images_read,
+        counts.images_written,
+        counts.sessions,
+        counts.lookups()
     ));
-    assert!(counts.messages >= MESSAGES && counts.images_read >= IMAGES);
+    assert!(counts.messages >= MESSAGES && counts.images_read >= IMAGES && counts.lookups() >= LOOKUPS);
     assert_eq!(counts.missing(), Vec::<String>::new(), "not seen with seed {seed}");
 }
 

@@ -2,7 +2,8 @@
 
 use differential::drive::{work, Failure, Quota};
 use differential::{
-    parse, run, Answer, Call, Counts, Filter, Plain, Runner, Settings, Signal, GUEST_ROOM, OUT_ROOM, STATE_ROOM,
+    parse, run, Answer, Call, Counts, Filter, Lookup, Plain, Record, Runner, Settings, Signal, Told, GUEST_ROOM, OUT_ROOM,
+    STATE_ROOM,
 };
 use std::cell::Cell;
 use std::collections::BTreeMap;
@@ -28,6 +29,22 @@ trait Fault {
 
     fn write_image(&self, right: &Plain, out: &mut [u8]) -> Answer {
         right.write_image(out)
+    }
+
+    fn look(&self, right: &Plain, lookup: Lookup) -> Told {
+        right.look(lookup)
+    }
+
+    fn pages(&self, right: &Plain) -> Vec<(u32, u64, u8)> {
+        right.pages()
+    }
+
+    fn list_ready(&self, records: &mut [Record], index: usize) -> Answer {
+        Plain::list_ready(records, index)
+    }
+
+    fn list_cr(&self, records: &mut [Record], index: usize, cr: u32, on: bool) -> Answer {
+        Plain::list_cr(records, index, cr, on)
     }
 }
 
@@ -77,8 +94,20 @@ impl Filter for Wrong {
         self.fault.write_image(&self.right, out)
     }
 
-    fn is_closed(&self) -> bool {
-        self.right.is_closed()
+    fn look(&self, lookup: Lookup) -> Told {
+        self.fault.look(&self.right, lookup)
+    }
+
+    fn pages(&self) -> Vec<(u32, u64, u8)> {
+        self.fault.pages(&self.right)
+    }
+
+    fn list_ready(records: &mut [Record], index: usize) -> Answer {
+        fault().list_ready(records, index)
+    }
+
+    fn list_cr(records: &mut [Record], index: usize, cr: u32, on: bool) -> Answer {
+        fault().list_cr(records, index, cr, on)
     }
 }
 
@@ -133,6 +162,7 @@ fn texts_are_read_back() {
         descriptors: false,
         breakpoints: true,
     };
+    let odd = Record { ready: 1, singlestep: 2, crs: 3, events: 4, pauses: 5, awaited: 6, awaited_seq: u64::MAX };
     let calls = [
         Call::Fresh { settings: settings.clone() },
         Call::Load { settings, keep: true, image: vec![0, 0xFF, 0x10] },
@@ -141,11 +171,36 @@ fn texts_are_read_back() {
         Call::Message { out: OUT_ROOM, guest: GUEST_ROOM, bytes: (0..=255).collect() },
         Call::Enter { vcpu: 0, state: STATE_ROOM, fill: 255, out: 552 },
         Call::Image { room: -1_000_000 },
+        Call::ListReady { records: Vec::new(), index: u64::MAX },
+        Call::ListCr { records: vec![Record::default(), odd], index: 1, cr: u32::MAX, on: true },
+        Call::Look { lookup: Lookup::IsOpen },
+        Call::Look { lookup: Lookup::IsReady { vcpu: u32::MAX } },
+        Call::Look { lookup: Lookup::VmEvent { event: u32::MAX } },
+        Call::Look { lookup: Lookup::VcpuEvent { vcpu: 1, event: 2 } },
+        Call::Look { lookup: Lookup::Cr { vcpu: 1, cr: 3 } },
+        Call::Look { lookup: Lookup::Msr { vcpu: 1, msr: 0xC000_0000 } },
+        Call::Look { lookup: Lookup::Singlestep { vcpu: 1 } },
+        Call::Look { lookup: Lookup::Pauses { vcpu: 1 } },
+        Call::Look { lookup: Lookup::Awaited { vcpu: 1 } },
+        Call::Look { lookup: Lookup::PageCount },
+        Call::Look { lookup: Lookup::Access { view: u32::MAX, page: u64::MAX } },
+        Call::Look { lookup: Lookup::PageAt { i: u64::MAX } },
     ];
     let lines: Vec<String> = calls.iter().map(Call::to_string).collect();
     assert_eq!(parse(&format!("# calls\n\n{}\n", lines.join("\n"))).unwrap(), calls);
-    for line in ["wake vcpu=0", "ready", "ready vcpu=-1", "ready vcpu=1 out=2", "image room", "message out=4201 guest=0 bytes="]
-    {
+    for line in [
+        "wake vcpu=0",
+        "ready",
+        "ready vcpu=-1",
+        "ready vcpu=1 out=2",
+        "image room",
+        "message out=4201 guest=0 bytes=",
+        "list_ready index=0 records=00",
+        "list_cr index=0 cr=0 on=2 records=",
+        "look name=nothing of=0 number=0",
+        "look name=is_open of=1 number=0",
+        "look name=msr of=0 number=0x100000000",
+    ] {
         parse(line).expect_err(line);
     }
     parse("message out=16 guest=0 bytes=0").expect_err("half a byte");
@@ -445,14 +500,14 @@ struct CloseKeeps(usize);
 
 impl Fault for CloseKeeps {
     fn message(&mut self, right: &mut Plain, message: &[u8], out: &mut [u8], guest: &mut [u8]) -> (Answer, Option<i32>) {
-        if !right.is_closed() {
+        if !right.0.is_closed() {
             self.0 = right.image_size();
         }
         right.message(message, out, guest)
     }
 
     fn image_size(&self, right: &Plain) -> usize {
-        match right.is_closed() {
+        match right.0.is_closed() {
             true => self.0,
             false => right.image_size(),
         }
@@ -535,5 +590,215 @@ wrong_load! {
             }
             result => result,
         }
+    }
+}
+
+/// A fault in what lookups tell alone.
+macro_rules! wrong_look {
+    ($(#[$doc:meta])* $test:ident, $fault:ident, $most:literal, $name:literal, |$right:ident, $lookup:ident| $body:expr) => {
+        struct $fault;
+
+        impl Fault for $fault {
+            fn look(&self, $right: &Plain, $lookup: Lookup) -> Told {
+                $body
+            }
+        }
+
+        $(#[$doc])*
+        #[test]
+        fn $test() {
+            let failure = found($most, || Box::new($fault));
+            assert!(matches!(failure.list.last(), Some(Call::Look { lookup }) if lookup.name() == $name));
+        }
+    };
+}
+
+wrong_look! {
+    /// A number outside the ranges reads another MSR's switch.
+    takes_one_msr_for_another, MsrAlias, 4, "msr", |right, lookup| match lookup {
+        Lookup::Msr { vcpu, msr } => right.look(Lookup::Msr { vcpu, msr: msr & 0xC000_1FFF }),
+        _ => right.look(lookup),
+    }
+}
+
+wrong_look! {
+    /// Only the last MSR of all is wrong.
+    misses_an_msr, MsrMissed, 4, "msr", |right, lookup| match lookup {
+        Lookup::Msr { msr: 0xC000_1FFF, .. } => Told::Flag(false),
+        _ => right.look(lookup),
+    }
+}
+
+wrong_look! {
+    takes_cr_3_for_cr_1, CrAlias, 4, "cr", |right, lookup| match lookup {
+        Lookup::Cr { vcpu, cr: 1 } => right.look(Lookup::Cr { vcpu, cr: 3 }),
+        _ => right.look(lookup),
+    }
+}
+
+wrong_look! {
+    cuts_an_event, EventCut, 4, "vm_event", |right, lookup| match lookup {
+        Lookup::VmEvent { event } => right.look(Lookup::VmEvent { event: event & 0xFFFF }),
+        _ => right.look(lookup),
+    }
+}
+
+wrong_look! {
+    cuts_a_vcpu, VcpuCut, 4, "is_ready", |right, lookup| match lookup {
+        Lookup::IsReady { vcpu } => right.look(Lookup::IsReady { vcpu: vcpu & 0xFFFF }),
+        _ => right.look(lookup),
+    }
+}
+
+wrong_look! {
+    tells_one_pause_less, PauseLess, 11, "pauses", |right, lookup| match right.look(lookup) {
+        Told::Number(8) if matches!(lookup, Lookup::Pauses { .. }) => Told::Number(7),
+        told => told,
+    }
+}
+
+wrong_look! {
+    awaits_another_event, OtherAwaited, 5, "awaited", |right, lookup| match right.look(lookup) {
+        Told::Number(2) if matches!(lookup, Lookup::Awaited { .. }) => Told::Number(1),
+        told => told,
+    }
+}
+
+wrong_look! {
+    finds_a_page_in_any_view, AnyView, 4, "access", |right, lookup| match lookup {
+        Lookup::Access { page, .. } => (0..8).map(|view| right.look(Lookup::Access { view, page })).find(|told| *told != Told::Number(7)).unwrap_or(Told::Number(7)),
+        _ => right.look(lookup),
+    }
+}
+
+wrong_look! {
+    cuts_a_page, PageCut, 4, "access", |right, lookup| match lookup {
+        Lookup::Access { view, page } => right.look(Lookup::Access { view, page: page & ((1 << 52) - 1) }),
+        _ => right.look(lookup),
+    }
+}
+
+wrong_look! {
+    /// A bisection that never looks at the last page.
+    misses_the_last_page, LastPage, 6, "access", |right, lookup| match lookup {
+        Lookup::Access { view, page } if right.pages().last().is_some_and(|last| (last.0, last.1) == (view, page)) => Told::Number(7),
+        _ => right.look(lookup),
+    }
+}
+
+wrong_look! {
+    repeats_the_last_page, LastRepeated, 4, "page_at", |right, lookup| match lookup {
+        Lookup::PageAt { i } if i > 0 && i == right.pages().len() as u64 => right.look(Lookup::PageAt { i: i - 1 }),
+        _ => right.look(lookup),
+    }
+}
+
+wrong_look! {
+    counts_pages_wrong, PageCounted, 4, "page_count", |right, lookup| match (lookup, right.look(lookup)) {
+        (Lookup::PageCount, Told::Number(count @ 1..)) => Told::Number(count + 1),
+        (_, told) => told,
+    }
+}
+
+wrong_look! {
+    /// A closed session has something on.
+    stays_on, StaysOn, 3, "singlestep", |right, lookup| match lookup {
+        Lookup::Singlestep { vcpu: 0 } if right.0.is_closed() => Told::Flag(true),
+        _ => right.look(lookup),
+    }
+}
+
+/// The list of pages alone is wrong.
+struct Unsorted;
+
+impl Fault for Unsorted {
+    fn pages(&self, right: &Plain) -> Vec<(u32, u64, u8)> {
+        let mut pages = right.pages();
+        pages.sort_by_key(|page| page.1);
+        pages
+    }
+}
+
+#[test]
+fn lists_pages_out_of_order() {
+    FAULT.set(Some(|| Box::new(Unsorted)));
+    let failure = work::<Wrong, Plain>(1, 0, QUOTA, &AtomicBool::new(false)).err().expect("the fault is found");
+    assert_eq!(failure.mismatch.part, "page_at");
+}
+
+/// A fault in the calls on lists.
+macro_rules! wrong_list {
+    ($test:ident, $fault:ident, $word:literal, |$records:ident, $index:ident, $cr:ident| $body:expr) => {
+        struct $fault;
+
+        impl $fault {
+            fn call($records: &mut [Record], $index: usize, $cr: Option<(u32, bool)>) -> Answer {
+                $body
+            }
+        }
+
+        impl Fault for $fault {
+            fn list_ready(&self, records: &mut [Record], index: usize) -> Answer {
+                $fault::call(records, index, None)
+            }
+
+            fn list_cr(&self, records: &mut [Record], index: usize, cr: u32, on: bool) -> Answer {
+                $fault::call(records, index, Some((cr, on)))
+            }
+        }
+
+        #[test]
+        fn $test() {
+            let failure = found(1, || Box::new($fault));
+            assert_eq!(failure.mismatch.word, $word);
+        }
+    };
+}
+
+fn right_list(records: &mut [Record], index: usize, cr: Option<(u32, bool)>) -> Answer {
+    match cr {
+        None => Plain::list_ready(records, index),
+        Some((cr, on)) => Plain::list_cr(records, index, cr, on),
+    }
+}
+
+wrong_list! {
+    tests_14_before_4, FourteenFirst, "list_cr", |records, index, cr| match cr {
+        Some((cr, _)) if !matches!(cr, 0 | 3 | 4) => Answer::NotApplicable,
+        _ => right_list(records, index, cr),
+    }
+}
+
+wrong_list! {
+    takes_an_index_at_the_length, AtLength, "list_ready", |records, index, cr| match cr {
+        None if index == records.len() => Answer::Handled { count: 0, signal: Signal::None },
+        _ => right_list(records, index, cr),
+    }
+}
+
+wrong_list! {
+    marks_another_record, OtherRecord, "list_ready", |records, index, cr| {
+        let answer = right_list(records, index, cr);
+        if let (None, Some(next)) = (cr, records.get_mut(index.wrapping_add(1))) {
+            next.ready |= 1 << 63;
+        }
+        answer
+    }
+}
+
+wrong_list! {
+    wants_a_ready_mark_of_1, ReadyIsOne, "list_cr", |records, index, cr| match cr {
+        Some(_) if records.get(index).is_some_and(|record| record.ready > 1) => Answer::NotApplicable,
+        _ => right_list(records, index, cr),
+    }
+}
+
+wrong_list! {
+    clears_other_bits, ClearsBits, "list_cr", |records, index, cr| {
+        let answer = right_list(records, index, cr);
+        if let (Some(_), Answer::Handled { .. }) = (cr, answer) {
+            records[index].crs &= 7;
+        }
+        answer
     }
 }

@@ -89,7 +89,8 @@ impl Session {
 
     /// The i-th page below rwx, "by view then page" as in the image.
     pub fn page_at(&self, i: usize) -> Option<Page> {
-        self.pages().nth(i)
+        // Not walked through in vain.
+        (i < self.page_count()).then(|| self.pages().nth(i)).flatten()
     }
 
     /// The pages below rwx, "by view then page" as in the image.
