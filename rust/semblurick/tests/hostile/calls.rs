@@ -1,0 +1,572 @@
+//! Calls, each made twice.
+
+use crate::lent;
+use crate::library::*;
+use crate::memory::{seen, Side, PAGE};
+use crate::random::Random;
+use crate::AT;
+use std::ptr::{copy_nonoverlapping, write_bytes};
+use std::slice::from_raw_parts_mut;
+use std::sync::atomic::Ordering;
+
+pub const KINDS: [(&str, &[u64]); 9] = [
+    ("fresh", &[0, 7]),
+    ("ready", &[0, 2, 4]),
+    ("message", &[0, 1, 2, 3]),
+    ("enter", &[0, 2, 3, 4, 5, 6]),
+    ("image_write", &[0, 2, 3, 10]),
+    ("image_read", &[0, 7, 8, 9]),
+    ("image_size", &[]),
+    ("list_ready", &[0, 4]),
+    ("list_cr", &[0, 4, 14]),
+];
+
+pub const LOOKUPS: [&str; 12] = [
+    "is_open",
+    "is_ready",
+    "vm_event",
+    "vcpu_event",
+    "cr",
+    "msr",
+    "singlestep",
+    "pauses",
+    "awaited",
+    "page_count",
+    "access",
+    "page_at",
+];
+
+/// The two sides, and what was seen.
+pub struct Hostile {
+    random: Random,
+    end: Side,
+    beginning: Side,
+    pub calls: u64,
+    pub answers: [[u64; 15]; 9],
+    /// By lookup: nothing on, something on.
+    pub lookups: [[u64; 2]; 12],
+    /// A vCPU that awaits a reply, and the event's seq.
+    awaited: Option<(u32, u32)>,
+    /// Images that sessions wrote, with the settings under which they can be read.
+    images: Vec<(Session, Vec<u8>)>,
+    guest: Vec<u8>,
+}
+
+impl Hostile {
+    pub fn new(seed: u64) -> Hostile {
+        let mut random = Random(seed);
+        let guest = random.bytes(5 * PAGE);
+        Hostile {
+            random,
+            end: Side::new(true),
+            beginning: Side::new(false),
+            calls: 0,
+            answers: [[0; 15]; 9],
+            lookups: [[0; 2]; 12],
+            awaited: None,
+            images: Vec::new(),
+            guest,
+        }
+    }
+
+    fn session(&self) -> Session {
+        // SAFETY: any bits are numbers.
+        unsafe { self.end.session.cast::<Session>().read() }
+    }
+
+    fn set_session(&mut self, session: Session) {
+        for side in [&self.end, &self.beginning] {
+            // SAFETY: there is a session's room.
+            unsafe { side.session.cast::<Session>().write(session) };
+        }
+    }
+
+    /// Changes bytes on the first side and makes the second side equal.
+    fn set_tables(&mut self, change: impl FnOnce(&mut Random, &mut [u8], &mut [u8])) {
+        let (end, beginning) = (&self.end, &self.beginning);
+        // SAFETY: there is room for the tables, and nothing else uses it.
+        unsafe {
+            change(&mut self.random, from_raw_parts_mut(end.vcpus, VCPU_BYTES), from_raw_parts_mut(end.pages, PAGE_BYTES));
+            copy_nonoverlapping(end.vcpus, beginning.vcpus, VCPU_BYTES);
+            copy_nonoverlapping(end.pages, beginning.pages, PAGE_BYTES);
+        }
+    }
+
+    fn same_session(&self) {
+        // SAFETY: the sides are only read.
+        let same = unsafe { seen(self.end.session, SESSION) == seen(self.beginning.session, SESSION) };
+        assert!(
+            same,
+            "the sessions differ:\n{:?}",
+            [&self.end, &self.beginning].map(|side| unsafe { side.session.cast::<Session>().read() })
+        );
+    }
+
+    fn same_tables(&self) {
+        for (name, ours, theirs, size) in [
+            ("the words of the vCPUs", self.end.vcpus, self.beginning.vcpus, VCPU_BYTES),
+            ("the words of the pages", self.end.pages, self.beginning.pages, PAGE_BYTES),
+        ] {
+            // SAFETY: the sides are only read.
+            let (ours, theirs) = unsafe { (seen(ours, size), seen(theirs, size)) };
+            if let Some(at) = (ours != theirs).then(|| ours.iter().zip(theirs).position(|(a, b)| a != b)).flatten() {
+                panic!("{name} differ at byte {at}");
+            }
+        }
+    }
+
+    /// A call, first on the side whose buffers are at the end, and then on the other. What only reads changes nothing: while the
+    /// second side is still as it was, both are equal.
+    fn twice(&mut self, reads: impl Fn(u64) -> Reads, call: impl Fn(&Side) -> u64) -> u64 {
+        self.calls += 1;
+        AT.store(self.calls, Ordering::Relaxed);
+        let first = call(&self.end);
+        match reads(first) {
+            Reads::Nothing => {}
+            Reads::Tables => self.same_tables(),
+            Reads::All => {
+                self.same_session();
+                self.same_tables();
+            }
+        }
+        let second = call(&self.beginning);
+        assert_eq!(first, second, "the two answers");
+        self.same_session();
+        self.same_tables();
+        first
+    }
+
+    /// A call with a result: all of it is written.
+    fn told(&mut self, kind: usize, reads: impl Fn(u64) -> Reads, call: impl Fn(&Side) -> u64) -> (u64, [u64; 12]) {
+        // SAFETY: there is a result's room.
+        unsafe {
+            write_bytes(self.end.result, 0xAA, RESULT);
+            write_bytes(self.beginning.result, 0x55, RESULT);
+        }
+        let answer = self.twice(reads, call);
+        // SAFETY: any bits are numbers.
+        let [first, second] = [&self.end, &self.beginning].map(|side| unsafe { side.result.cast::<[u64; 12]>().read() });
+        assert_eq!(first, second, "the two results");
+        let [count, offset, signal, vcpu, wait, rest @ ..] = first;
+        assert_eq!(rest, [0; 7], "the reserved words");
+        assert!(signal <= 2 && wait <= 1 && (signal != 0 || (vcpu, wait) == (0, 0)), "{first:?}");
+        if answer != 0 {
+            assert_eq!((count, signal), (0, 0));
+        }
+        if !matches!(answer, 8 | 9) {
+            assert_eq!(offset, 0);
+        }
+        self.note(kind, answer);
+        (answer, first)
+    }
+
+    fn note(&mut self, kind: usize, answer: u64) {
+        assert!(KINDS[kind].1.contains(&answer), "{} answers {answer}", KINDS[kind].0);
+        self.answers[kind][answer as usize] += 1;
+    }
+
+    /// Lends so many bytes of output, all alike.
+    fn lend_out(&mut self, size: usize) {
+        for side in [&self.end, &self.beginning] {
+            // SAFETY: inside the room.
+            unsafe { write_bytes(side.out(size), BLANK, size) };
+        }
+    }
+
+    /// The outputs are equal, and past the count as they were.
+    fn same_out(&self, size: usize, count: u64) -> &[u8] {
+        // SAFETY: the sides are only read.
+        let (ours, theirs) = unsafe { (seen(self.end.out(size), size), seen(self.beginning.out(size), size)) };
+        assert!(ours == theirs, "the outputs differ");
+        let (written, rest) = ours.split_at(count as usize);
+        assert!(rest.iter().all(|byte| *byte == BLANK), "output past the count");
+        written
+    }
+
+    /// Lends these bytes as a message, an image or a register block.
+    fn lend_input(&mut self, bytes: &[u8]) {
+        for side in [&self.end, &self.beginning] {
+            // SAFETY: inside the room, which holds nothing else.
+            unsafe { copy_nonoverlapping(bytes.as_ptr(), side.input(bytes.len()), bytes.len()) };
+        }
+    }
+
+    fn same_input(&self, bytes: &[u8]) {
+        for side in [&self.end, &self.beginning] {
+            // SAFETY: the sides are only read.
+            assert!(unsafe { seen(side.input(bytes.len()), bytes.len()) } == bytes, "the input changed");
+        }
+    }
+
+    fn fresh(&mut self) {
+        let reads = |answer| if answer == 7 { Reads::Tables } else { Reads::Nothing };
+        self.told(0, reads, |s| unsafe { semblurick_raw_fresh(s.session, s.vcpus, s.pages, s.result).into() });
+        self.awaited = None;
+    }
+
+    fn ready(&mut self, vcpu: u32) {
+        // of the tables it knows nothing
+        let reads = |answer| if answer == 0 { Reads::Tables } else { Reads::All };
+        self.told(1, reads, |s| unsafe { semblurick_raw_ready(s.session, vcpu, s.result).into() });
+    }
+
+    fn message(&mut self) {
+        let message = lent::message(&mut self.random, self.awaited);
+        let out = match self.random.below(30) {
+            0 => self.random.pick(&[0, 1, 16, 552, 4111]),
+            1 => 4113 + self.random.below(100),
+            _ => 4112,
+        };
+        let guest = self.random.pick(&[0, 1, PAGE - 1, PAGE, PAGE + 1, 4 * PAGE, 4 * PAGE, 5 * PAGE - 1]);
+        self.lend_input(&message);
+        self.lend_out(out);
+        for side in [&self.end, &self.beginning] {
+            // SAFETY: inside the room, which holds nothing else.
+            unsafe { copy_nonoverlapping(self.guest.as_ptr(), side.guest(guest), guest) };
+        }
+        let size = message.len();
+        let (answer, result) = self.told(2, refusal, |s| unsafe {
+            let (input, to, memory) = (s.input(size), s.out(out), s.guest(guest));
+            semblurick_raw_message(s.session, s.vcpus, s.pages, input, size, to, out, memory, guest, s.result).into()
+        });
+        self.same_out(out, result[0]);
+        self.same_input(&message);
+        // SAFETY: the sides are only read.
+        let (ours, theirs) = unsafe { (seen(self.end.guest(guest), guest), seen(self.beginning.guest(guest), guest)) };
+        assert!(ours == theirs, "the guest's memories differ");
+        if message.first() != Some(&7) || answer != 0 {
+            assert!(ours == &self.guest[..guest], "guest memory changed");
+        }
+        if answer == 1 || message.first() == Some(&16) {
+            self.awaited = None;
+        }
+    }
+
+    fn enter(&mut self, vcpu: u32) {
+        let size = match self.random.below(12) {
+            0 => self.random.pick(&[0, 1, 535, 537]),
+            _ => 536,
+        };
+        let out = match self.random.below(12) {
+            0 => self.random.pick(&[0, 1, 551]),
+            1 => 553 + self.random.below(20),
+            _ => 552,
+        };
+        let state = self.random.bytes(size);
+        self.lend_input(&state);
+        self.lend_out(out);
+        let (_, result) = self.told(3, refusal, |s| unsafe {
+            semblurick_raw_enter(s.session, s.vcpus, vcpu, s.input(size), size, s.out(out), out, s.result).into()
+        });
+        let written = self.same_out(out, result[0]);
+        let awaited = (!written.is_empty()).then(|| {
+            assert!(written.len() == 552 && written[16..] == state, "a pause event");
+            (vcpu, u32::from_le_bytes([written[4], written[5], written[6], written[7]]))
+        });
+        self.same_input(&state);
+        self.awaited = awaited.or(self.awaited);
+    }
+
+    fn image_size(&mut self) -> usize {
+        let size = self.twice(|_| Reads::All, |s| unsafe { semblurick_raw_image_size(s.session, s.vcpus, s.pages) as u64 });
+        assert!(size <= IMAGE_MAX as u64, "an image of {size} bytes");
+        size as usize
+    }
+
+    fn image_write(&mut self) {
+        let size = self.image_size();
+        let out = match self.random.below(8) {
+            0 => size + 1 + self.random.below(100),
+            1 => size - 1,
+            2 => self.random.below(size),
+            // the longest of them take long
+            _ if size < 100_000 || self.random.percent(10) => size,
+            _ => self.random.below(200),
+        };
+        self.lend_out(out);
+        let (answer, result) = self.told(
+            4,
+            |_| Reads::All,
+            |s| unsafe { semblurick_raw_image_write(s.session, s.vcpus, s.pages, s.out(out), out, s.result).into() },
+        );
+        let image = self.same_out(out, result[0]);
+        if answer == 0 {
+            assert_eq!(result[0], size as u64, "an image has its size");
+            if size < 50_000 {
+                let kept = (self.session(), image.to_vec());
+                match self.images.len() {
+                    32 => {
+                        let at = self.random.below(32);
+                        self.images[at] = kept;
+                    }
+                    _ => self.images.push(kept),
+                }
+            }
+        }
+    }
+
+    fn image_read(&mut self) {
+        let mut image = match self.images.is_empty() || self.random.percent(10) {
+            true => {
+                let size = self.random.below(100);
+                self.random.bytes(size)
+            }
+            false => {
+                let at = self.random.below(self.images.len());
+                let (settings, image) = self.images[at].clone();
+                if self.random.percent(80) {
+                    // settings that fit, and all else of any bits
+                    let mut session = lent::session(&mut self.random);
+                    (session.vcpus, session.views) = (settings.vcpus, settings.views);
+                    (session.events, session.flags) = (settings.events, settings.flags);
+                    self.set_session(session);
+                }
+                image
+            }
+        };
+        if self.random.percent(40) && !image.is_empty() {
+            match self.random.below(3) {
+                0 => image.truncate(self.random.below(image.len())),
+                1 => image.push(0),
+                _ => {
+                    let at = self.random.below(image.len());
+                    image[at] ^= 1 << self.random.below(8);
+                }
+            }
+        }
+        self.lend_input(&image);
+        let size = image.len();
+        let reads = |answer| if answer == 0 { Reads::Nothing } else { Reads::Tables };
+        let (answer, result) = self.told(5, reads, |s| unsafe {
+            semblurick_raw_image_read(s.session, s.vcpus, s.pages, s.input(size), size, s.result).into()
+        });
+        self.same_input(&image);
+        assert!(result[1] <= size as u64, "an offset outside the image");
+        if answer == 0 {
+            // what was taken is what is written
+            assert_eq!(self.image_size(), size);
+        }
+        self.awaited = None;
+    }
+
+    fn lookup(&mut self) {
+        let r = &mut self.random;
+        let row = r.below(12);
+        let (vcpu, event, cr) = (r.vcpu(), if r.percent(80) { r.below(21) as u32 } else { r.word() as u32 }, r.below(9) as u32);
+        let cr = if r.percent(90) { cr } else { r.word() as u32 };
+        let (msr, view, page) = (r.msr(), r.count(8).wrapping_sub(u32::from(r.percent(50))), r.page());
+        let i = match r.below(4) {
+            0 => r.pick(&[0, 1023, 1024, 1025, usize::MAX]),
+            _ => r.below(1100),
+        };
+        let (view, page) = match r.percent(60) {
+            true => (view, page),
+            // one that is there, perhaps
+            false => {
+                let mut found = [0u64; 3];
+                // SAFETY: the session is only read, and there is room for three words.
+                unsafe { semblurick_raw_page_at(self.end.session, self.end.pages, i, found.as_mut_ptr().cast()) };
+                (found[0] as u32, found[1])
+            }
+        };
+        let told = self.twice(
+            |_| Reads::All,
+            |s| unsafe {
+                match row {
+                    0 => semblurick_raw_is_open(s.session).into(),
+                    1 => semblurick_raw_is_ready(s.session, vcpu).into(),
+                    2 => semblurick_raw_vm_event(s.session, event).into(),
+                    3 => semblurick_raw_vcpu_event(s.vcpus, vcpu, event).into(),
+                    4 => semblurick_raw_cr(s.vcpus, vcpu, cr).into(),
+                    5 => semblurick_raw_msr(s.vcpus, vcpu, msr).into(),
+                    6 => semblurick_raw_singlestep(s.vcpus, vcpu).into(),
+                    7 => semblurick_raw_pauses(s.vcpus, vcpu),
+                    8 => semblurick_raw_awaited(s.vcpus, vcpu),
+                    9 => semblurick_raw_page_count(s.session) as u64,
+                    10 => semblurick_raw_access(s.session, s.pages, view, page).into(),
+                    _ => {
+                        write_bytes(s.page, if s.at_end { 0xAA } else { 0x55 }, 24);
+                        semblurick_raw_page_at(s.session, s.pages, i, s.page);
+                        s.page.cast::<[u64; 3]>().read()[2]
+                    }
+                }
+            },
+        );
+        let off = match row {
+            0..7 => {
+                assert!(told <= 1, "{} tells {told}", LOOKUPS[row]);
+                told == 0
+            }
+            9 => {
+                assert!(told <= 1024, "{told} pages");
+                told == 0
+            }
+            10 => {
+                assert!(told <= 7, "access {told}");
+                assert!(told == 7 || view < 8 && page < 1 << 52, "a page that is not there");
+                told == 7
+            }
+            11 => {
+                // SAFETY: all three words were written.
+                let [first, second] = [&self.end, &self.beginning].map(|side| unsafe { side.page.cast::<[u64; 3]>().read() });
+                assert_eq!(first, second, "the two pages");
+                let [view, page, access] = first;
+                assert!(view < 512 && page < 1 << 52 && access <= 7, "{first:?}");
+                // SAFETY: the session is only read.
+                let count = unsafe { semblurick_raw_page_count(self.end.session) };
+                assert!(i < count || first == [0, 0, 7], "{first:?} at {i} of {count}");
+                i >= count
+            }
+            _ => told == 0,
+        };
+        self.lookups[row][usize::from(!off)] += 1;
+    }
+
+    fn list(&mut self) {
+        let r = &mut self.random;
+        let count = r.below(21);
+        let mut records = r.bytes(count * RECORD);
+        for record in records.chunks_mut(RECORD) {
+            // not ready
+            if r.percent(40) {
+                record[..8].fill(0);
+            }
+        }
+        let index = match r.below(6) {
+            0 => r.pick(&[count, count + 1, 20, 21, usize::MAX, usize::MAX / RECORD + 1, 1 << 32]),
+            _ => r.below(count.max(1)),
+        };
+        let (cr, on) = (if r.percent(60) { r.pick(&[0, 3, 4]) } else { r.word() as u32 >> r.below(32) }, r.word() as u32 & 1);
+        let is_cr = r.percent(60);
+        for side in [&self.end, &self.beginning] {
+            // SAFETY: inside the room.
+            unsafe { copy_nonoverlapping(records.as_ptr(), side.list(count), records.len()) };
+        }
+        let answer = self.twice(
+            |_| Reads::All,
+            |s| unsafe {
+                match is_cr {
+                    true => semblurick_list_cr(s.list(count), count, index, cr, on).into(),
+                    false => semblurick_list_ready(s.list(count), count, index).into(),
+                }
+            },
+        );
+        self.note(if is_cr { 8 } else { 7 }, answer);
+        // SAFETY: the sides are only read.
+        let (ours, theirs) =
+            unsafe { (seen(self.end.list(count), records.len()), seen(self.beginning.list(count), records.len())) };
+        assert!(ours == theirs, "the lists differ");
+        if answer == 0 {
+            // the record's word that was set, and nothing else
+            let at = index * RECORD + if is_cr { 16 } else { 0 };
+            records[at..at + 8].copy_from_slice(&ours[at..at + 8]);
+        }
+        assert!(ours == records, "another word of the list changed");
+    }
+
+    /// A new session: of any bits, or one that began, or of few bits.
+    fn begin(&mut self) {
+        let session = lent::session(&mut self.random);
+        self.set_session(session);
+        self.awaited = None;
+        match self.random.below(5) {
+            0 | 1 => self.set_tables(|random, vcpus, pages| {
+                random.fill(vcpus);
+                random.fill(pages);
+            }),
+            2 => self.set_tables(|random, vcpus, pages| {
+                vcpus.fill(0);
+                pages.fill(0);
+                for _ in 0..random.below(400) {
+                    let at = random.below(VCPU_BYTES);
+                    vcpus[at] = random.word() as u8;
+                    let at = random.below(PAGE_BYTES);
+                    pages[at] = random.word() as u8;
+                }
+            }),
+            _ => {
+                self.fresh();
+                // of those that the settings have, most
+                for vcpu in 0..self.session().vcpus.min(16) {
+                    if self.session().opened != 0 && self.random.percent(80) {
+                        self.ready(vcpu);
+                    }
+                }
+            }
+        }
+    }
+
+    /// Some bits of what stands become others.
+    fn spoil(&mut self) {
+        let mut session = self.session();
+        match self.random.below(6) {
+            0 => session.opened ^= 1,
+            1 => session.pages = self.random.word(),
+            2 => session.ready = self.random.word(),
+            3 => session.mode = self.random.word() as u32,
+            _ => {
+                let word = self.random.word().to_le_bytes();
+                let (at, in_pages) = (self.random.word() as usize, self.random.percent(50));
+                self.set_tables(|_, vcpus, pages| {
+                    let table = if in_pages { pages } else { vcpus };
+                    let at = at % (table.len() / 8) * 8;
+                    table[at..at + 8].copy_from_slice(&word);
+                });
+            }
+        }
+        self.set_session(session);
+    }
+
+    fn call(&mut self) {
+        let vcpu = match self.awaited {
+            Some((vcpu, _)) if self.random.percent(20) => vcpu,
+            _ => self.random.vcpu(),
+        };
+        match self.random.below(1000) {
+            0..3 => self.fresh(),
+            3..40 => self.ready(vcpu),
+            40..140 => self.enter(vcpu),
+            140..145 => self.image_write(),
+            145..155 => _ = self.image_size(),
+            155..175 => self.image_read(),
+            175..400 => self.lookup(),
+            400..450 => self.list(),
+            _ => self.message(),
+        }
+    }
+
+    /// So many calls, or a few more.
+    pub fn run(&mut self, calls: u64) {
+        while self.calls < calls {
+            self.begin();
+            for _ in 0..64 {
+                if self.random.percent(6) {
+                    self.spoil();
+                }
+                self.call();
+                // a closed session shows little
+                if self.session().opened == 0 && self.random.percent(30) {
+                    break;
+                }
+            }
+        }
+    }
+}
+
+/// What a call must not change.
+pub enum Reads {
+    Nothing,
+    Tables,
+    All,
+}
+
+/// Refusals change nothing.
+pub fn refusal(answer: u64) -> Reads {
+    match answer {
+        2.. => Reads::All,
+        _ => Reads::Nothing,
+    }
+}
+
+/// What stands in an output before it is written.
+pub const BLANK: u8 = 0xC3;

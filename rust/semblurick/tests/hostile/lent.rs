@@ -1,0 +1,98 @@
+//! What is lent: sessions, and messages.
+
+use crate::library::Session;
+use crate::memory::PAGE;
+use crate::random::Random;
+
+pub fn session(random: &mut Random) -> Session {
+    let word = random.word();
+    Session {
+        vcpus: random.count(16),
+        views: random.count(8),
+        commands: if random.percent(80) { !0 } else { random.word() as u32 },
+        events: if random.percent(80) { !0 } else { random.word() as u32 },
+        tsc_speed: word,
+        flags: if random.percent(50) { [1; 8] } else { random.word().to_le_bytes() },
+        vm_events: random.word(),
+        pages: match random.below(4) {
+            0 => random.word(),
+            1 => random.pick(&[0, 1, 1023, 1024, 1025, u64::MAX]),
+            _ => random.below(1025) as u64,
+        },
+        opened: if random.percent(90) { random.pick(&[1, 2, 1 << 31, u32::MAX]) } else { 0 },
+        mode: if random.percent(70) { 0 } else { random.pick(&[1, 2, 3, u32::MAX]) },
+        seq: random.pick(&[0, 1, u32::MAX, word as u32]),
+        padding: random.word() as u32,
+        ready: if random.percent(70) { !0 } else { random.word() },
+    }
+}
+
+/// A message: any bytes, or the layout of one with fields that mostly fit.
+pub fn message(random: &mut Random, awaited: Option<(u32, u32)>) -> Vec<u8> {
+    if random.percent(10) {
+        let size = random.pick(&[0, 1, 7, 8, 9, 16, 24, 40, 100]);
+        return random.bytes(size);
+    }
+    let id = match random.below(20) {
+        0 => random.pick(&[0, 17, 18, 256, 65535]),
+        // EVENT_REPLY closes unless it is awaited
+        1 if awaited.is_some() || random.percent(10) => 16,
+        _ => 1 + random.below(15) as u16,
+    };
+    let mut data = Vec::new();
+    if matches!(id, 8..=12 | 14 | 16) {
+        data.extend((random.vcpu() as u16).to_le_bytes());
+        data.extend([0; 6]);
+    }
+    let enable = if random.percent(95) { random.below(2) as u8 } else { random.word() as u8 };
+    match id {
+        2 | 3 => data.extend([random.below(18) as u8, 0, 0, 0, 0, 0, 0, 0]),
+        5 | 10 => data.extend([random.below(16) as u8, 0, enable, 0, 0, 0, 0, 0]),
+        6 | 7 => {
+            let (page, at) = (random.below(5), random.pick(&[0, 0, 1, 4095, 2048]));
+            let size = if random.percent(90) { 1 + random.below(PAGE - at) } else { random.pick(&[0, PAGE + 1 - at, 5000]) };
+            let gpa = if random.percent(90) { (page * PAGE + at) as u64 } else { random.word() };
+            data.extend([gpa.to_le_bytes(), (size as u64).to_le_bytes()].concat());
+            if id == 7 {
+                data.extend(random.bytes(size));
+            }
+        }
+        9 | 14 => data.extend([enable, 0, 0, 0, 0, 0, 0, 0]),
+        11 | 12 => {
+            let number = if id == 11 { random.below(9) as u32 } else { random.msr() };
+            data.extend([&[enable, 0, 0, 0][..], &number.to_le_bytes()].concat());
+        }
+        13 => {
+            let count = match random.below(200) {
+                0 => 4094,
+                1..20 => random.below(200),
+                _ => random.below(8),
+            };
+            data.extend([count as u8, (count >> 8) as u8, random.below(9) as u8, 0, 0, 0, 0, 0]);
+            for _ in 0..count {
+                data.extend((random.page() << 12).to_le_bytes());
+                data.extend([random.pick(&[0, 1, 3, 4, 5, 7]), 0, 0, 0, 0, 0, 0, 0]);
+            }
+        }
+        15 => data.extend([enable, random.below(2) as u8, random.below(2) as u8, 0, 0, 0, 0, 0]),
+        16 => data.extend([random.pick(&[0, 0, 2, 1]), 2, 0, 0, 0, 0, 0, 0]),
+        _ => {}
+    }
+    let mut seq = random.word() as u32;
+    if let (16, Some((vcpu, known)), true) = (id, awaited, random.percent(90)) {
+        data[..2].copy_from_slice(&(vcpu as u16).to_le_bytes());
+        seq = known;
+    }
+    let mut bytes = [&id.to_le_bytes()[..], &(data.len() as u16).to_le_bytes(), &seq.to_le_bytes(), &data].concat();
+    if random.percent(4) {
+        match random.below(3) {
+            0 => bytes.truncate(random.below(bytes.len() + 1)),
+            1 => bytes.extend([0; 3]),
+            _ => {
+                let at = random.below(bytes.len());
+                bytes[at] ^= 1 << random.below(8);
+            }
+        }
+    }
+    bytes
+}
