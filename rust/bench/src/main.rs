@@ -1,6 +1,7 @@
 //! The proved filter beside the plain Rust implementation, in one run: ns a message, best of several rounds, and the ratio.
-//! With `count`: instructions a call, beside their bounds.
+//! With `count`: instructions a call, beside their bounds. With `longest`: the longest time of a call.
 mod callgrind;
+mod longest;
 
 use std::hint::black_box;
 use std::process::ExitCode;
@@ -372,6 +373,10 @@ fn main() -> ExitCode {
     let done = match words[..] {
         ["count"] => callgrind::table(),
         ["count", ref words @ ..] => callgrind::run(words),
+        ["longest"] => {
+            longest::table();
+            Ok(())
+        }
         _ => {
             times(words.first().unwrap_or(&""));
             Ok(())
