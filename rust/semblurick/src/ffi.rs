@@ -117,15 +117,15 @@ extern "C" {
     pub fn semblurick_raw_is_open(session: *const Session) -> u32;
     pub fn semblurick_raw_is_ready(session: *const Session, vcpu: u32) -> u32;
     pub fn semblurick_raw_vm_event(session: *const Session, event: u32) -> u32;
-    pub fn semblurick_raw_vcpu_event(vcpus: *const Vcpus, vcpu: u32, event: u32) -> u32;
-    pub fn semblurick_raw_cr(vcpus: *const Vcpus, vcpu: u32, cr: u32) -> u32;
-    pub fn semblurick_raw_msr(vcpus: *const Vcpus, vcpu: u32, msr: u32) -> u32;
-    pub fn semblurick_raw_singlestep(vcpus: *const Vcpus, vcpu: u32) -> u32;
-    pub fn semblurick_raw_pauses(vcpus: *const Vcpus, vcpu: u32) -> u64;
-    pub fn semblurick_raw_awaited(vcpus: *const Vcpus, vcpu: u32) -> u64;
+    pub fn semblurick_raw_vcpu_event(session: *const Session, vcpus: *const Vcpus, vcpu: u32, event: u32) -> u32;
+    pub fn semblurick_raw_cr(session: *const Session, vcpus: *const Vcpus, vcpu: u32, cr: u32) -> u32;
+    pub fn semblurick_raw_msr(session: *const Session, vcpus: *const Vcpus, vcpu: u32, msr: u32) -> u32;
+    pub fn semblurick_raw_singlestep(session: *const Session, vcpus: *const Vcpus, vcpu: u32) -> u32;
+    pub fn semblurick_raw_pauses(session: *const Session, vcpus: *const Vcpus, vcpu: u32) -> u64;
+    pub fn semblurick_raw_awaited(session: *const Session, vcpus: *const Vcpus, vcpu: u32) -> u64;
     pub fn semblurick_raw_page_count(session: *const Session) -> usize;
     pub fn semblurick_raw_access(session: *const Session, pages: *const Pages, view: u32, page: u64) -> u32;
-    pub fn semblurick_raw_page_at(session: *const Session, pages: *const Pages, i: usize, page: *mut [u64; 3]);
+    pub fn semblurick_raw_page_at(session: *const Session, pages: *const Pages, i: usize, page: *mut [u64; 3]) -> u32;
 
     // vCPU records in a list that the host keeps
     pub fn semblurick_list_ready(vcpus: *mut Vcpu, count: usize, index: usize) -> u32;

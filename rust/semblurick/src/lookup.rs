@@ -66,7 +66,7 @@ impl Session {
     #[inline]
     pub fn vcpu_event(&self, vcpu: u32, event: impl Into<u32>) -> bool {
         // SAFETY: as above.
-        unsafe { ffi::semblurick_raw_vcpu_event(&self.vcpus, vcpu, event.into()) != 0 }
+        unsafe { ffi::semblurick_raw_vcpu_event(&self.raw, &self.vcpus, vcpu, event.into()) != 0 }
     }
 
     /// Whether writes to a control register, 0, 3 or 4, are to be caught on a vCPU: `KVMI_VCPU_CONTROL_CR` sets it.
@@ -74,7 +74,7 @@ impl Session {
     #[inline]
     pub fn cr(&self, vcpu: u32, cr: u32) -> bool {
         // SAFETY: as above.
-        unsafe { ffi::semblurick_raw_cr(&self.vcpus, vcpu, cr) != 0 }
+        unsafe { ffi::semblurick_raw_cr(&self.raw, &self.vcpus, vcpu, cr) != 0 }
     }
 
     /// Whether writes to an MSR are to be caught on a vCPU: `KVMI_VCPU_CONTROL_MSR` sets it, for the MSRs 0 to 0x1FFF and 0xC0000000
@@ -83,7 +83,7 @@ impl Session {
     #[inline]
     pub fn msr(&self, vcpu: u32, msr: u32) -> bool {
         // SAFETY: as above.
-        unsafe { ffi::semblurick_raw_msr(&self.vcpus, vcpu, msr) != 0 }
+        unsafe { ffi::semblurick_raw_msr(&self.raw, &self.vcpus, vcpu, msr) != 0 }
     }
 
     /// Whether a vCPU is to be single-stepped: `KVMI_VCPU_CONTROL_SINGLESTEP` sets it.
@@ -91,7 +91,7 @@ impl Session {
     #[inline]
     pub fn singlestep(&self, vcpu: u32) -> bool {
         // SAFETY: as above.
-        unsafe { ffi::semblurick_raw_singlestep(&self.vcpus, vcpu) != 0 }
+        unsafe { ffi::semblurick_raw_singlestep(&self.raw, &self.vcpus, vcpu) != 0 }
     }
 
     /// How many pauses are queued for a vCPU, at most [`PAUSE_LIMIT`](crate::PAUSE_LIMIT).
@@ -99,7 +99,7 @@ impl Session {
     #[inline]
     pub fn pauses(&self, vcpu: u32) -> usize {
         // SAFETY: as above.
-        unsafe { ffi::semblurick_raw_pauses(&self.vcpus, vcpu) as usize }
+        unsafe { ffi::semblurick_raw_pauses(&self.raw, &self.vcpus, vcpu) as usize }
     }
 
     /// The event of a vCPU whose reply is awaited.
@@ -107,7 +107,7 @@ impl Session {
     #[inline]
     pub fn awaited(&self, vcpu: u32) -> Option<Event> {
         // SAFETY: as above.
-        let number = unsafe { ffi::semblurick_raw_awaited(&self.vcpus, vcpu) };
+        let number = unsafe { ffi::semblurick_raw_awaited(&self.raw, &self.vcpus, vcpu) };
         Event::from_number(u16::try_from(number).ok()?)
     }
 
@@ -133,12 +133,11 @@ impl Session {
     #[inline]
     pub fn page_at(&self, i: usize) -> Option<Page> {
         let mut found = MaybeUninit::<[u64; 3]>::uninit();
-        // SAFETY: as above, and the call writes all three words.
-        let [view, page, access] = unsafe {
-            ffi::semblurick_raw_page_at(&self.raw, &self.pages, i, found.as_mut_ptr());
-            found.assume_init()
+        // SAFETY: as above, and the call writes all three words; it gives the last of them, too.
+        let (access, [view, page, _]) = unsafe {
+            let access = ffi::semblurick_raw_page_at(&self.raw, &self.pages, i, found.as_mut_ptr());
+            (Access(access as u8), found.assume_init())
         };
-        let access = Access(access as u8);
         (access != Access::RWX).then_some(Page { view: view as u32, page, access })
     }
 

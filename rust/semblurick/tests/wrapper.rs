@@ -155,9 +155,12 @@ fn lookups() {
     send(&mut session, &[on_vcpu(16, 2, [0, 2, 0, 0, 0, 0, 0, 0])]);
     assert_eq!((session.pauses(2), session.awaited(2)), (1, None));
 
-    // a closed session has nothing
+    // a closed session has nothing, and neither has one that was refused in place, whatever its tables have been
+    let mut refused = [session.clone(), session.clone()];
+    assert_eq!(refused[0].begin(&Settings::new(0)), Err(Refusal::BadSettings));
+    assert_eq!(refused[1].load(&settings, &image[..20]), Err(Refusal::BadForm { offset: 18 }));
     assert!(session.message(&[], &mut out, &mut []).unwrap().is_closing());
-    for session in [&session, &Session::closed()] {
+    for session in [&session, &Session::closed(), &refused[0], &refused[1]] {
         assert!(session.is_closed() && !session.is_open() && !session.is_ready(2) && !session.vm_event(Event::CreateVcpu));
         assert!(
             !session.vcpu_event(2, Event::Msr) && !session.cr(2, 4) && !session.msr(2, 0xC000_1FFF) && !session.singlestep(2)

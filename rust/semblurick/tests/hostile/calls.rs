@@ -365,7 +365,7 @@ impl Hostile {
             false => {
                 let mut found = [0u64; 3];
                 // SAFETY: the session is only read, and there is room for three words.
-                unsafe { semblurick_raw_page_at(self.end.session, self.end.pages, i, found.as_mut_ptr().cast()) };
+                _ = unsafe { semblurick_raw_page_at(self.end.session, self.end.pages, i, found.as_mut_ptr().cast()) };
                 (found[0] as u32, found[1])
             }
         };
@@ -376,18 +376,17 @@ impl Hostile {
                     0 => semblurick_raw_is_open(s.session).into(),
                     1 => semblurick_raw_is_ready(s.session, vcpu).into(),
                     2 => semblurick_raw_vm_event(s.session, event).into(),
-                    3 => semblurick_raw_vcpu_event(s.vcpus, vcpu, event).into(),
-                    4 => semblurick_raw_cr(s.vcpus, vcpu, cr).into(),
-                    5 => semblurick_raw_msr(s.vcpus, vcpu, msr).into(),
-                    6 => semblurick_raw_singlestep(s.vcpus, vcpu).into(),
-                    7 => semblurick_raw_pauses(s.vcpus, vcpu),
-                    8 => semblurick_raw_awaited(s.vcpus, vcpu),
+                    3 => semblurick_raw_vcpu_event(s.session, s.vcpus, vcpu, event).into(),
+                    4 => semblurick_raw_cr(s.session, s.vcpus, vcpu, cr).into(),
+                    5 => semblurick_raw_msr(s.session, s.vcpus, vcpu, msr).into(),
+                    6 => semblurick_raw_singlestep(s.session, s.vcpus, vcpu).into(),
+                    7 => semblurick_raw_pauses(s.session, s.vcpus, vcpu),
+                    8 => semblurick_raw_awaited(s.session, s.vcpus, vcpu),
                     9 => semblurick_raw_page_count(s.session) as u64,
                     10 => semblurick_raw_access(s.session, s.pages, view, page).into(),
                     _ => {
                         write_bytes(s.page, if s.at_end { 0xAA } else { 0x55 }, 24);
-                        semblurick_raw_page_at(s.session, s.pages, i, s.page);
-                        s.page.cast::<[u64; 3]>().read()[2]
+                        semblurick_raw_page_at(s.session, s.pages, i, s.page).into()
                     }
                 }
             },
@@ -411,7 +410,7 @@ impl Hostile {
                 let [first, second] = [&self.end, &self.beginning].map(|side| unsafe { side.page.cast::<[u64; 3]>().read() });
                 assert_eq!(first, second, "the two pages");
                 let [view, page, access] = first;
-                assert!(view < 512 && page < 1 << 52 && access <= 7, "{first:?}");
+                assert!(view < 512 && page < 1 << 52 && access <= 7 && access == told, "{first:?}");
                 // SAFETY: the session is only read.
                 let count = unsafe { semblurick_raw_page_count(self.end.session) };
                 assert!(i < count || first == [0, 0, 7], "{first:?} at {i} of {count}");
@@ -419,6 +418,10 @@ impl Hostile {
             }
             _ => told == 0,
         };
+        // what a closed session has, its tables do not tell
+        let (is_open, of_tables) = (self.session().opened != 0, matches!(row, 3..9));
+        assert!(off || !of_tables || is_open, "{} tells {told} of a closed session", LOOKUPS[row]);
+        assert!(off || !of_tables || vcpu < 16, "{} tells {told} of vCPU {vcpu}", LOOKUPS[row]);
         self.lookups[row][usize::from(!off)] += 1;
     }
 

@@ -76,15 +76,15 @@ extern "C" {
     pub fn semblurick_raw_is_open(session: Bytes) -> u32;
     pub fn semblurick_raw_is_ready(session: Bytes, vcpu: u32) -> u32;
     pub fn semblurick_raw_vm_event(session: Bytes, event: u32) -> u32;
-    pub fn semblurick_raw_vcpu_event(vcpus: Bytes, vcpu: u32, event: u32) -> u32;
-    pub fn semblurick_raw_cr(vcpus: Bytes, vcpu: u32, cr: u32) -> u32;
-    pub fn semblurick_raw_msr(vcpus: Bytes, vcpu: u32, msr: u32) -> u32;
-    pub fn semblurick_raw_singlestep(vcpus: Bytes, vcpu: u32) -> u32;
-    pub fn semblurick_raw_pauses(vcpus: Bytes, vcpu: u32) -> u64;
-    pub fn semblurick_raw_awaited(vcpus: Bytes, vcpu: u32) -> u64;
+    pub fn semblurick_raw_vcpu_event(session: Bytes, vcpus: Bytes, vcpu: u32, event: u32) -> u32;
+    pub fn semblurick_raw_cr(session: Bytes, vcpus: Bytes, vcpu: u32, cr: u32) -> u32;
+    pub fn semblurick_raw_msr(session: Bytes, vcpus: Bytes, vcpu: u32, msr: u32) -> u32;
+    pub fn semblurick_raw_singlestep(session: Bytes, vcpus: Bytes, vcpu: u32) -> u32;
+    pub fn semblurick_raw_pauses(session: Bytes, vcpus: Bytes, vcpu: u32) -> u64;
+    pub fn semblurick_raw_awaited(session: Bytes, vcpus: Bytes, vcpu: u32) -> u64;
     pub fn semblurick_raw_page_count(session: Bytes) -> usize;
     pub fn semblurick_raw_access(session: Bytes, pages: Bytes, view: u32, page: u64) -> u32;
-    pub fn semblurick_raw_page_at(session: Bytes, pages: Bytes, i: usize, page: Bytes);
+    pub fn semblurick_raw_page_at(session: Bytes, pages: Bytes, i: usize, page: Bytes) -> u32;
     pub fn semblurick_list_ready(vcpus: Bytes, count: usize, index: usize) -> u32;
     pub fn semblurick_list_cr(vcpus: Bytes, count: usize, index: usize, cr: u32, on: u32) -> u32;
 
