@@ -3,6 +3,7 @@
 use crate::{Lookup, Told};
 use reference::list::Record;
 use reference::{Answer, Settings, Signal};
+use std::cell::RefCell;
 
 /// What can be asked of a filter. `fresh` and `load` begin a session or refuse it.
 pub trait Filter: Sized {
@@ -27,23 +28,77 @@ pub trait Filter: Sized {
 }
 
 /// The proved filter, in its wrapper.
-pub struct Proved(Box<semblurick::Session>);
+pub struct Proved(Option<Box<semblurick::Session>>);
+
+thread_local! {
+    /// Sessions that are done with: the next one begins in the memory of one of them, whatever stands there, as in a host that has
+    /// one place for its guest.
+    static USED: RefCell<Vec<Box<semblurick::Session>>> = const { RefCell::new(Vec::new()) };
+}
+
+impl Drop for Proved {
+    fn drop(&mut self) {
+        USED.with_borrow_mut(|used| used.extend(self.0.take().filter(|_| used.len() < 4)));
+    }
+}
+
+impl Proved {
+    /// A session in memory that was used before, if there is some.
+    fn begun(
+        new: impl FnOnce() -> Result<semblurick::Session, semblurick::Refusal>,
+        again: impl FnOnce(&mut semblurick::Session) -> Result<(), semblurick::Refusal>,
+    ) -> Result<Proved, Answer> {
+        let Some(mut session) = USED.with_borrow_mut(Vec::pop) else {
+            return new().map(|session| Proved(Some(Box::new(session)))).map_err(refused);
+        };
+        let answer = again(&mut session).map_err(refused);
+        if answer.is_err() {
+            assert_nothing_on(&session);
+        }
+        let proved = Proved(Some(session));
+        answer.map(|()| proved)
+    }
+
+    fn s(&self) -> &semblurick::Session {
+        self.0.as_ref().expect("it is there until it is dropped")
+    }
+
+    fn s_mut(&mut self) -> &mut semblurick::Session {
+        self.0.as_mut().expect("it is there until it is dropped")
+    }
+}
+
+/// A session that was refused where another had been is a closed one.
+fn assert_nothing_on(s: &semblurick::Session) {
+    assert!(s.is_closed() && s.page_count() == 0 && s.page_at(0).is_none() && s.pages().len() == 0);
+    assert!(!semblurick::Event::ALL.iter().any(|event| s.vm_event(*event)));
+    for vcpu in 0..16 {
+        assert!(!s.is_ready(vcpu) && !s.singlestep(vcpu) && s.pauses(vcpu) == 0 && s.awaited(vcpu).is_none());
+        assert!(!semblurick::Event::ALL.iter().any(|event| s.vcpu_event(vcpu, *event)));
+        assert!(
+            ![0, 3, 4].iter().any(|cr| s.cr(vcpu, *cr))
+                && ![0, 0x1FFF, 0xC000_0000, 0xC000_1FFF].iter().any(|msr| s.msr(vcpu, *msr))
+        );
+    }
+}
 
 impl Filter for Proved {
     fn fresh(settings: &Settings) -> Result<Proved, Answer> {
-        semblurick::Session::fresh(&wrapped(settings)).map(|session| Proved(Box::new(session))).map_err(refused)
+        let settings = wrapped(settings);
+        Proved::begun(|| semblurick::Session::fresh(&settings), |session| session.begin(&settings))
     }
 
     fn load(settings: &Settings, image: &[u8]) -> Result<Proved, Answer> {
-        semblurick::Session::from_image(&wrapped(settings), image).map(|session| Proved(Box::new(session))).map_err(refused)
+        let settings = wrapped(settings);
+        Proved::begun(|| semblurick::Session::from_image(&settings, image), |session| session.load(&settings, image))
     }
 
     fn ready(&mut self, vcpu: u32) -> Answer {
-        self.0.ready(vcpu).map_or_else(refused, |()| handled(0))
+        self.s_mut().ready(vcpu).map_or_else(refused, |()| handled(0))
     }
 
     fn message(&mut self, message: &[u8], out: &mut [u8], guest: &mut [u8]) -> (Answer, Option<i32>) {
-        match self.0.message(message, out, guest) {
+        match self.s_mut().message(message, out, guest) {
             Err(refusal) => (refused(refusal), None),
             Ok(answer) => {
                 let error = answer.error().map(semblurick::Errno::number);
@@ -66,19 +121,19 @@ impl Filter for Proved {
     }
 
     fn enter(&mut self, vcpu: u32, state: &[u8], out: &mut [u8]) -> Answer {
-        self.0.enter(vcpu, state, out).map_or_else(refused, |entry| handled(entry.bytes.len()))
+        self.s_mut().enter(vcpu, state, out).map_or_else(refused, |entry| handled(entry.bytes.len()))
     }
 
     fn image_size(&self) -> usize {
-        self.0.image_size()
+        self.s().image_size()
     }
 
     fn write_image(&self, out: &mut [u8]) -> Answer {
-        self.0.write_image(out).map_or_else(refused, handled)
+        self.s().write_image(out).map_or_else(refused, handled)
     }
 
     fn look(&self, lookup: Lookup) -> Told {
-        let s = &self.0;
+        let s = self.s();
         match lookup {
             Lookup::IsOpen => {
                 assert_ne!(s.is_open(), s.is_closed());
@@ -99,8 +154,8 @@ impl Filter for Proved {
     }
 
     fn pages(&self) -> Vec<(u32, u64, u8)> {
-        let pages = self.0.pages();
-        assert_eq!(pages.len(), self.0.page_count());
+        let pages = self.s().pages();
+        assert_eq!(pages.len(), self.s().page_count());
         pages.map(|page| (page.view, page.page, page.access.bits())).collect()
     }
 
@@ -113,7 +168,7 @@ impl Filter for Proved {
     }
 
     fn settings(&self) -> Option<Settings> {
-        let told = self.0.settings();
+        let told = self.s().settings();
         let f = told.features;
         Some(Settings {
             vcpus: told.vcpus,

@@ -104,3 +104,40 @@ const _: () = {
     is_shared::<Pages<'_>>();
     is_shared::<Vcpu>();
 };
+
+/// What must not compile: settings that name every field, a `match` that knows every signal, and answers that are dropped.
+///
+/// ```compile_fail,E0639
+/// let settings = semblurick::Settings { vcpus: 2, ..semblurick::Settings::new(1) };
+/// ```
+/// ```compile_fail,E0004
+/// fn follow(signal: semblurick::Signal) {
+///     match signal {
+///         semblurick::Signal::None | semblurick::Signal::Kick { .. } | semblurick::Signal::Crash { .. } => {}
+///     }
+/// }
+/// ```
+/// ```compile_fail
+/// #![deny(unused_must_use)]
+/// fn take(session: &mut semblurick::Session, out: &mut [u8]) -> Result<(), semblurick::Refusal> {
+///     session.message(&[], out, &mut [])?;
+///     Ok(())
+/// }
+/// ```
+/// ```compile_fail
+/// #![deny(unused_must_use)]
+/// fn enter(session: &mut semblurick::Session, out: &mut [u8]) -> Result<(), semblurick::Refusal> {
+///     session.enter(0, &[], out)?;
+///     Ok(())
+/// }
+/// ```
+/// ```
+/// #![deny(unused_must_use)]
+/// fn take(session: &mut semblurick::Session, out: &mut [u8]) -> Result<(), semblurick::Refusal> {
+///     _ = session.message(&[], out, &mut [])?;
+///     _ = session.enter(0, &[], out)?;
+///     Ok(())
+/// }
+/// ```
+#[cfg(doctest)]
+struct Refused;
