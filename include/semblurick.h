@@ -346,9 +346,9 @@ SEMBLURICK_CHECKED static inline enum semblurick_answer semblurick_image_read(st
 }
 
 /* ---- lookups (since 1): what stands, for the host to program. They change nothing and refuse nothing: any number is taken. A vCPU
- * that the session has not has every switch off; in a closed session all are off, and every page is at rwx, so also after a refused
- * beginning. Each takes a constant time, but for semblurick_access, which bisects. After a message a host asks for what the message
- * named, after an image for all. */
+ * that the session has not has every switch off; where a call closed the session, or refused to begin one, all are off, and every
+ * page is at rwx. Each takes a constant time, but for semblurick_access, which bisects. After a message a host asks for what the
+ * message named, after an image for all. */
 
 static inline bool semblurick_is_open(const struct semblurick *guest) {
     return semblurick_raw_is_open(&guest->session) != 0;
