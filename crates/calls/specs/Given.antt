@@ -62,7 +62,7 @@ given t =
       result = resultWords (t .answer);
     }
 
--- ---- the calls, by what `session`, `image_writer` and `image_reader` promise
+-- ---- the calls, by what `session`, `message`, `entry`, `image_writer` and `image_reader` promise
 -- the settings are those in the session; the rest of it may be anything
 unfoldable pub freshGiven : Session → List ℕ → List ℕ → Given
 freshGiven s vcpus pages = given (freshOf (s .settings) vcpus pages)
@@ -84,7 +84,7 @@ unfoldable pub writeGiven : Session → List ℕ → List ℕ → List ℕ → G
 writeGiven s vcpus pages out = given (imageOf (state s vcpus pages) out)
 
 unfoldable pub readGiven : Session → List ℕ → List ℕ → List ℕ → Given
-readGiven s vcpus pages image = given (readOf (s .settings) image vcpus pages)
+readGiven s vcpus pages bytes = given (readOf (s .settings) bytes vcpus pages)
 
 -- ---- the calls on a list of vCPU records, on one record: document 01's number of the answer, and the record after it
 abbrev pub oneGiven : One → ListReturned

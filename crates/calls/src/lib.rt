@@ -71,7 +71,7 @@ fn put_result(result: &mut ResultWords, a: Answer) -> u32
     }
 }
 
-// What a call of `session` gave, as a host has it.
+// What a call gave, as a host has it.
 fn finish(done: session::Done, result: &mut ResultWords) -> Returned
     ensures { λ r. ⌜ (r ≡ given (told done [] [] [] []) .done) × (now (result .exit) ≡ given (told done [] [] [] []) .result) ⌝ }
 {

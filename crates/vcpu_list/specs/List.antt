@@ -23,8 +23,8 @@ abbrev pub one : Changed → One
 one r = record { answer = paper (r .answer); vcpu = r .vcpu }
 
 -- answer 0, with no bytes written and no signal
-abbrev pub done : Vcpu → One
-done v = record { answer = handled 0 Quiet; vcpu = v }
+abbrev pub acknowledged : Vcpu → One
+acknowledged v = record { answer = handled 0 Quiet; vcpu = v }
 
 abbrev pub withReady : Vcpu → ℕ → Vcpu
 withReady v x =
@@ -35,12 +35,12 @@ withCrs v x =
     record { ready = v .ready; singlestep = v .singlestep; crs = x; events = v .events; pauses = v .pauses; awaited = v .awaited; «awaited_seq» = v .«awaited_seq» }
 
 unfoldable pub oneReady : Vcpu → One
-oneReady v = done (withReady v 1)
+oneReady v = acknowledged (withReady v 1)
 
 -- "14 not applicable | list form of the CR switch: CR not 0, 3, 4, or the record is not ready | none"
 unfoldable pub oneCr : Vcpu → ℕ → Bool → One
 oneCr v cr on =
-    cond (isCr cr && not (eqb (v .ready) 0)) (done (withCrs v (putBit (v .crs) (crBit cr) on))) (record { answer = plain 14; vcpu = v })
+    cond (isCr cr && not (eqb (v .ready) 0)) (acknowledged (withCrs v (putBit (v .crs) (crBit cr) on))) (record { answer = plain 14; vcpu = v })
 
 -- ---- the list
 -- what is answered, and what the records are then

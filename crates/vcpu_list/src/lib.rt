@@ -2,7 +2,7 @@
 // What is done to a record is a function on the record by value; the two over the list reach the record and store it back.
 use kvmi::Answer;
 ghost use mathlib.Core.Path.{_≡_};
-ghost use Rattle.vcpu_list.specs.List.{one, listed, done, oneReady, oneCr, markedReady, crSet};
+ghost use Rattle.vcpu_list.specs.List.{one, listed, acknowledged, oneReady, oneCr, markedReady, crSet};
 
 // A vCPU's whole record: unsigned integers only, so that any bits are a record. A flag is set where it is not 0.
 #[repr(C)]
@@ -28,7 +28,7 @@ pub struct Changed {
 
 // Handled, with nothing written and no signal.
 fn handled(vcpu: Vcpu) -> Changed
-    ensures { λ r. ⌜ one r ≡ done vcpu ⌝ }
+    ensures { λ r. ⌜ one r ≡ acknowledged vcpu ⌝ }
 {
     Changed {
         vcpu,
