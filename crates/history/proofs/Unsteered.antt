@@ -1,20 +1,20 @@
 -- The guest can't steer the filter. Assumes nothing.
 use mathlib.Core.Path.{_≡_, refl, sym, ap, _∙_, subst}
-use Prim.Native.Nat.{ℕ, _+_}
+use Prim.Native.Nat.{ℕ, _+_, _≤_}
 use native.Mathlib.Omega.{arith}
 use mathlib.Core.List.{List, [], _∷_, _++_, append-assoc}
 use mathlib.Core.Bool.{Bool, true, false, cond, not}
 use lib.IntN.{ℤ}
-use lib.ListN.{length, take, drop, length-append, length-take, length-drop}
-use lib.Seq.{take-at}
+use lib.ListN.{length, take, drop, replicate, length-append, length-take, length-drop}
+use lib.Seq.{take-at, take-append-seam}
 use lib.Dec.{leb, ltb, eqb}
-use borrow.Author.Tests.{leb-true, leb-false, eqb-true, eqb-false, ne-eqb}
+use borrow.Author.Tests.{ltb-false, eqb-true, eqb-false, ne-eqb}
 use Rattle.wire.specs.Bytes.{le, store}
 use Rattle.wire.specs.Code.{codeBytes}
 use Rattle.wire.specs.Header.{headerOf}
 use Rattle.wire.specs.declared.Header.{Header}
 use Rattle.wire.specs.declared.Header.the-variants.{Whole, Broken}
-use Rattle.wire.proofs.Laws.{length-le, length-store, drop-store, store-start, store-past}
+use Rattle.wire.proofs.Laws.{length-le, length-store, store-start}
 use Rattle.kvmi.specs.declared.Settings.{Settings}
 use Rattle.kvmi.specs.declared.Signal.{Signal}
 use Rattle.kvmi.specs.declared.Signal.the-variants.{Quiet}
@@ -26,23 +26,54 @@ use Rattle.kvmi.specs.declared.Change.{Change}
 use Rattle.kvmi.specs.declared.Change.the-variants.{Nothing, SetVmEvent, WritePhysical, QueuePause, SetVcpuEvent, SetCr, SetMsr, SetPages, SetSinglestep, SetReplies, EndWait}
 use Rattle.kvmi.specs.declared.Verdict.{Verdict}
 use Rattle.kvmi.specs.declared.Verdict.the-variants.{Closes, Fails, Does}
-use Rattle.kvmi.specs.Answer.{Paper, handled}
-use Rattle.kvmi.specs.Limits.{leastOut}
+use Rattle.kvmi.specs.Answer.{Paper, handled, plain}
+use Rattle.kvmi.specs.Limits.{leastOut, eventOut, stateBytes}
 use Rattle.kvmi.specs.Codes.{isError}
 use Rattle.kvmi.specs.Mode.{modeOfNumber}
 use Rattle.kvmi.specs.Message.{layoutOf, vcpuOf}
 use Rattle.kvmi.specs.Verdict.{verdict}
 use Rattle.kvmi.specs.Change.{signalOf, modeFor}
-use Rattle.kvmi.specs.Reply.{messageBytes, replyBytes, replyData, answerBytes, answerOf}
-use Rattle.kvmi.specs.Call.{Call, message}
+use Rattle.kvmi.specs.Reply.{messageBytes, replyBytes, replyData, eventBytes, pauseEvent, answerBytes, answerOf}
+use Rattle.kvmi.specs.Image.{image}
+use Rattle.kvmi.specs.Call.{Call, message, ready, enter, writeImage, awaitsAny}
+use Rattle.store.specs.Words.{field, PAUSES, AWAITED}
 use Rattle.session.specs.State.{State, isClosed}
+use Rattle.session.specs.Calls.{Told, toldSame, toldWritten}
+use Rattle.session.specs.Meaning.{awaitedOf}
 use Rattle.change.specs.Change.{change}
 use Rattle.message.specs.Message.{factsIn, answeringOf, judgedOf, headedOf, messageOf}
+use Rattle.entry.specs.Entry.{pausingOf, enterOf}
+use Rattle.image_writer.specs.Write.{statedVcpus, statedTables, imageOf}
 use Rattle.history.specs.History.{stepOf, afterOf}
-use Rattle.history.specs.Unsteered.{SameFor, ButGuest, none, same, other, answersOf, Unsteered}
+use Rattle.history.specs.Unsteered.{written, ownBytes, Alike, messages, readies, enters, writes, SameFor, ButGuest, ended, more, answersOf, bytesOf, Unsteered}
 use Rattle.laws.proofs.Bool.{test}
-use Rattle.reply.proofs.Lengths.{length-code, length-reply}
+use Rattle.reply.proofs.Lengths.{length-code, length-reply, length-pause}
+use Rattle.refine.proofs.Frames.{message-past, enter-past}
 use Rattle.refine.proofs.Simulate.{both}
+
+-- ---- what is written
+written-is : (b : List ℕ) (g : Signal) (st : State) (out guest : List ℕ) → length b ≤ length out → written (toldWritten b g st out guest) ≡ b
+written-is b g st out guest h = ap (take (length b)) (store-start out b h) ∙ take-append-seam b (drop (length b) out)
+
+-- nothing written
+idle-bytes : (c : Call) (r q : Told) → r .answer .count ≡ 0 → q .answer .count ≡ 0 → ownBytes c r ≡ ownBytes c q
+unfolding ownBytes
+idle-bytes (message msg out guest) r q h g = rw (h, g)
+idle-bytes (ready vcpu) r q h g = rw (h, g)
+idle-bytes (enter vcpu block out) r q h g = rw (h, g)
+idle-bytes (writeImage out) r q h g = rw (h, g)
+
+idle : (c : Call) (a : Paper) → a .count ≡ 0 → (st : State) (out out′ guest guest′ : List ℕ)
+    → SameFor c (record { answer = a; state = st; out = out; guest = guest }) (record { answer = a; state = st; out = out′; guest = guest′ })
+idle c a z st out out′ guest guest′ = record { answer = refl; state = refl; bytes = idle-bytes c _ _ z z }
+
+-- by cases on a test of each run, the same one
+on-both : (R : Told → Told → Type 0) (b c : Bool) → b ≡ c → (x y u v : Told) → (b ≡ true → R x u) → (b ≡ false → R y v) → R (cond b x y) (cond c u v)
+on-both R b c e x y u v f g = subst (λ (t : Bool). R (cond b x y) (cond t u v)) e (both R b x y u v f g)
+
+-- a relation of two runs of which the first writes inside its output
+abbrev Inside : List ℕ → (Told → Told → Type 0) → Told → Told → Type 0
+Inside out R r q = r .answer .count ≤ length out → R r q
 
 -- ---- two answers with data of one length
 -- a reply's first 16 bytes: they know of its data the length alone
@@ -59,9 +90,11 @@ sent code d = cond (isError code) [] d
 abbrev size : ℤ → List ℕ → ℕ
 size code d = length (codeBytes code ++ le 4 0 ++ sent code d)
 
-reply-split : (id seq : ℕ) (code : ℤ) (d rest : List ℕ) → replyBytes id seq code d ++ rest ≡ head id seq code (size code d) ++ (sent code d ++ rest)
+reply-front : (id seq : ℕ) (code : ℤ) (d : List ℕ) → take 16 (replyBytes id seq code d) ≡ head id seq code (size code d)
 unfolding replyBytes messageBytes
-reply-split id seq code d rest = simp append-assoc
+reply-front id seq code d =
+    let split : replyBytes id seq code d ≡ head id seq code (size code d) ++ sent code d = simp append-assoc in
+    ap (take 16) split ∙ take-at (head id seq code (size code d)) (sent code d) 16 (head-length id seq code _)
 
 module _ (d e : List ℕ) (l : length d ≡ length e) (next id seq : ℕ) (code : ℤ) where
   size-same : size code d ≡ size code e
@@ -80,28 +113,11 @@ module _ (d e : List ℕ) (l : length d ≡ length e) (next id seq : ℕ) (code 
   bytes-length Off = refl
   bytes-length ErrorsOnly = refl
 
-  -- behind the same or other bytes
-  bytes-front : (mode : ReplyMode) (rest more : List ℕ) → rest ≡ more → take 16 (bytes mode d ++ rest) ≡ take 16 (bytes mode e ++ more)
+  bytes-front : (mode : ReplyMode) → take 16 (bytes mode d) ≡ take 16 (bytes mode e)
   unfolding answerBytes
-  bytes-front On rest more h =
-      ap (take 16) (reply-split id seq code d rest) ∙ take-at (head id seq code (size code d)) (sent code d ++ rest) 16 (head-length id seq code _)
-      ∙ ap (head id seq code) size-same
-      ∙ sym (ap (take 16) (reply-split id seq code e more) ∙ take-at (head id seq code (size code e)) (sent code e ++ more) 16 (head-length id seq code _))
-  bytes-front Off rest more h = ap (take 16) h
-  bytes-front ErrorsOnly rest more h = ap (λ (x : List ℕ). take 16 (bytes ErrorsOnly d ++ x)) h
-
-  -- stored at the front of an output, if they fit
-  stored-front : (mode : ReplyMode) (out : List ℕ) → take 16 (store out 0 (bytes mode d)) ≡ take 16 (store out 0 (bytes mode e))
-  unfolding store
-  stored-front mode out =
-      let n = bytes-length mode in
-      test (leb (length (bytes mode d)) (length out))
-      (λ h. let room = leb-true (length (bytes mode d)) (length out) h in
-      ap (take 16) (store-start out (bytes mode d) room)
-      ∙ bytes-front mode _ _ (ap (λ (k : ℕ). drop k out) n)
-      ∙ sym (ap (take 16) (store-start out (bytes mode e) (omega arith))))
-      (λ h. let short = leb-false (length (bytes mode d)) (length out) h in
-      ap (take 16) (store-past out 0 (bytes mode d) (omega arith) ∙ sym (store-past out 0 (bytes mode e) (omega arith))))
+  bytes-front On = reply-front id seq code d ∙ ap (head id seq code) size-same ∙ sym (reply-front id seq code e)
+  bytes-front Off = refl
+  bytes-front ErrorsOnly = refl
 
   abbrev answer : ReplyKind → ReplyMode → List ℕ → List ℕ
   answer kind mode x = answerOf kind mode next id seq code x
@@ -112,11 +128,11 @@ module _ (d e : List ℕ) (l : length d ≡ length e) (next id seq : ℕ) (code 
   answer-length WithData mode = bytes-length mode
   answer-length Silent mode = refl
 
-  answer-front : (kind : ReplyKind) (mode : ReplyMode) (out : List ℕ) → take 16 (store out 0 (answer kind mode d)) ≡ take 16 (store out 0 (answer kind mode e))
+  answer-front : (kind : ReplyKind) (mode : ReplyMode) → take 16 (answer kind mode d) ≡ take 16 (answer kind mode e)
   unfolding answerOf
-  answer-front CodeOnly mode out = stored-front mode out
-  answer-front WithData mode out = stored-front mode out
-  answer-front Silent mode out = refl
+  answer-front CodeOnly mode = bytes-front mode
+  answer-front WithData mode = bytes-front mode
+  answer-front Silent mode = refl
 
 -- ---- the data of a reply on two memories
 module _ (s : Settings) (guest guest′ : List ℕ) (id : ℕ) (d : List ℕ) where
@@ -152,77 +168,191 @@ module _ (st : State) (guest guest′ d : List ℕ) where
   change-same (SetReplies now mode) = (refl, refl, λ l. l)
   change-same (EndWait crash vcpu) = (refl, refl, λ l. l)
 
--- ---- a message on two memories
--- nothing written
-untouched : (msg : List ℕ) (a : Paper) (st : State) (out guest guest′ : List ℕ)
-    → SameFor msg (record { answer = a; state = st; out = out; guest = guest }) (record { answer = a; state = st; out = out; guest = guest′ })
-untouched msg a st out guest guest′ = record { answer = refl; state = refl; out = λ _. refl; front = refl; rest = refl }
+-- ---- a message
+module _ (msg out out′ : List ℕ) (lo : length out ≡ length out′) where
+  abbrev For : Told → Told → Type 0
+  For = SameFor (message msg out [])
 
-module _ (msg out d : List ℕ) (id size seq : ℕ) (w : headerOf msg ≡ Whole id size seq) where
-  answering-same : (mode : ReplyMode) (code : ℤ) (g : Signal) (guest guest′ : List ℕ) (st : State) → length guest ≡ length guest′
-      → SameFor msg (answeringOf mode id seq code d g out guest st) (answeringOf mode id seq code d g out guest′ st)
-  unfolding answeringOf
-  answering-same mode code g guest guest′ st l =
-      let next = st .session .tool .seq in
-      let kind = layoutOf id .reply in
-      let e = replyData (st .session .settings) guest id d in
-      let f = replyData (st .session .settings) guest′ id d in
-      let long = data-length (st .session .settings) guest guest′ id d l in
-      let n = answer-length e f long next id seq code kind mode in
-      record {
-        answer = ap (λ (k : ℕ). handled k g) n;
-        state = refl;
-        out = λ no. ap (λ (x : List ℕ). store out 0 (answerOf kind mode next id seq code x))
-            (data-same (st .session .settings) guest guest′ id d (λ q. no (size, seq, w ∙ ap (λ (k : ℕ). Whole k size seq) q)));
-        front = answer-front e f long next id seq code kind mode out;
-        rest =
-            let b = answerOf kind mode next id seq code e in
-            let c = answerOf kind mode next id seq code f in
-            drop-store (length b) out 0 b (omega arith) ∙ sym (drop-store (length b) out 0 c (omega arith));
-      }
+  untouched : (a : Paper) → a .count ≡ 0 → (st : State) (guest guest′ : List ℕ)
+      → For (record { answer = a; state = st; out = out; guest = guest }) (record { answer = a; state = st; out = out′; guest = guest′ })
+  untouched a z st guest guest′ = idle (message msg out []) a z st out out′ guest guest′
 
-  judged-same : (guest guest′ : List ℕ) (st : State) → length guest ≡ length guest′ → (v : Verdict) → SameFor msg (judgedOf st id seq d out guest v) (judgedOf st id seq d out guest′ v)
-  unfolding judgedOf
-  judged-same guest guest′ st l Closes = untouched msg _ _ out guest guest′
-  judged-same guest guest′ st l (Fails code) = answering-same (modeOfNumber (st .session .tool .mode)) code Quiet guest guest′ st l
-  judged-same guest guest′ st l (Does c) =
-      let mode = modeFor (modeOfNumber (st .session .tool .mode)) c in
-      let r = change st guest d c in
-      let q = change st guest′ d c in
-      let both-memories = change-same st guest guest′ d c in
-      let here = answering-same mode (r .code) (signalOf c) (r .guest) (q .guest) (r .state) (both-memories .2 l) in
-      subst (λ (x : State). SameFor msg (answeringOf mode id seq (r .code) d (signalOf c) out (r .guest) (r .state)) (answeringOf mode id seq (q .code) d (signalOf c) out (q .guest) x)) (both-memories .0)
-      (subst (λ (x : ℤ). SameFor msg (answeringOf mode id seq (r .code) d (signalOf c) out (r .guest) (r .state)) (answeringOf mode id seq x d (signalOf c) out (q .guest) (r .state))) (both-memories .1) here)
+  module _ (d : List ℕ) (id size seq : ℕ) (w : headerOf msg ≡ Whole id size seq) where
+    answering-same : (mode : ReplyMode) (code : ℤ) (g : Signal) (guest guest′ : List ℕ) (st : State) → length guest ≡ length guest′
+        → Inside out For (answeringOf mode id seq code d g out guest st) (answeringOf mode id seq code d g out′ guest′ st)
+    unfolding answeringOf ownBytes
+    answering-same mode code g guest guest′ st l fits =
+        let next = st .session .tool .seq in
+        let kind = layoutOf id .reply in
+        let s = st .session .settings in
+        let e = replyData s guest id d in
+        let f = replyData s guest′ id d in
+        let long = data-length s guest guest′ id d l in
+        let n = answer-length e f long next id seq code kind mode in
+        let b = answerOf kind mode next id seq code e in
+        let c = answerOf kind mode next id seq code f in
+        let one : take (length b) (store out 0 b) ≡ b = written-is b g st out guest fits in
+        let two : take (length c) (store out′ 0 c) ≡ c = written-is c g st out′ guest′ (omega arith) in
+        record {
+          answer = ap (λ (k : ℕ). handled k g) n;
+          state = refl;
+          bytes =
+              rw (w, one, two)
+              (both (λ (x y : List ℕ). x ≡ y) _ _ _ _ _ (λ _. answer-front e f long next id seq code kind mode)
+              (λ h. ap (answerOf kind mode next id seq code) (data-same s guest guest′ id d (eqb-false id 6 h))));
+        }
 
-module _ (st : State) (msg out guest guest′ : List ℕ) (l : length guest ≡ length guest′) where
-  headed-same : (h : Header) → headerOf msg ≡ h → SameFor msg (headedOf st (drop 8 msg) out guest h) (headedOf st (drop 8 msg) out guest′ h)
-  unfolding headedOf
-  headed-same Broken w = untouched msg _ _ out guest guest′
-  headed-same (Whole id size seq) w =
-      let d = drop 8 msg in
-      subst
-      (λ (n : ℕ). SameFor msg (judgedOf st id seq d out guest (verdict (st .session .settings) (factsIn st (length guest) (vcpuOf d)) id seq d))
-      (judgedOf st id seq d out guest′ (verdict (st .session .settings) (factsIn st n (vcpuOf d)) id seq d)))
-      l
-      (judged-same msg out d id size seq w guest guest′ st l (verdict (st .session .settings) (factsIn st (length guest) (vcpuOf d)) id seq d))
+    judged-same : (guest guest′ : List ℕ) (st : State) → length guest ≡ length guest′ → (v : Verdict)
+        → Inside out For (judgedOf st id seq d out guest v) (judgedOf st id seq d out′ guest′ v)
+    unfolding judgedOf
+    judged-same guest guest′ st l Closes _ = untouched _ refl _ guest guest′
+    judged-same guest guest′ st l (Fails code) fits = answering-same (modeOfNumber (st .session .tool .mode)) code Quiet guest guest′ st l fits
+    judged-same guest guest′ st l (Does c) fits =
+        let mode = modeFor (modeOfNumber (st .session .tool .mode)) c in
+        let r = change st guest d c in
+        let q = change st guest′ d c in
+        let both-memories = change-same st guest guest′ d c in
+        let here = answering-same mode (r .code) (signalOf c) (r .guest) (q .guest) (r .state) (both-memories .2 l) fits in
+        subst (λ (x : State). For (answeringOf mode id seq (r .code) d (signalOf c) out (r .guest) (r .state)) (answeringOf mode id seq (q .code) d (signalOf c) out′ (q .guest) x)) (both-memories .0)
+        (subst (λ (x : ℤ). For (answeringOf mode id seq (r .code) d (signalOf c) out (r .guest) (r .state)) (answeringOf mode id seq x d (signalOf c) out′ (q .guest) (r .state))) (both-memories .1) here)
 
-  message-same : SameFor msg (messageOf st msg out guest) (messageOf st msg out guest′)
-  unfolding messageOf
-  message-same =
-      both (SameFor msg) (isClosed st) _ _ _ _ (λ _. untouched msg _ st out guest guest′)
-      (λ _. both (SameFor msg) (ltb (length out) leastOut) _ _ _ _ (λ _. untouched msg _ st out guest guest′)
-      (λ _. headed-same (headerOf msg) refl))
+  module _ (st : State) (guest guest′ : List ℕ) (l : length guest ≡ length guest′) where
+    headed-same : (h : Header) → headerOf msg ≡ h → Inside out For (headedOf st (drop 8 msg) out guest h) (headedOf st (drop 8 msg) out′ guest′ h)
+    unfolding headedOf
+    headed-same Broken w = λ _. untouched _ refl _ guest guest′
+    headed-same (Whole id size seq) w =
+        let d = drop 8 msg in
+        subst
+        (λ (n : ℕ). Inside out For (judgedOf st id seq d out guest (verdict (st .session .settings) (factsIn st (length guest) (vcpuOf d)) id seq d))
+        (judgedOf st id seq d out′ guest′ (verdict (st .session .settings) (factsIn st n (vcpuOf d)) id seq d)))
+        l
+        (judged-same d id size seq w guest guest′ st l (verdict (st .session .settings) (factsIn st (length guest) (vcpuOf d)) id seq d))
+
+    message-inside : Inside out For (messageOf st msg out guest) (messageOf st msg out′ guest′)
+    unfolding messageOf
+    message-inside =
+        both (Inside out For) (isClosed st) _ _ _ _ (λ _ _. untouched (plain 2) refl st guest guest′)
+        (λ _. on-both (Inside out For) (ltb (length out) leastOut) (ltb (length out′) leastOut) (ap (λ (n : ℕ). ltb n leastOut) lo) _ _ _ _
+        (λ _ _. untouched (plain 3) refl st guest guest′)
+        (λ _. headed-same (headerOf msg) refl))
+
+    message-same : For (messageOf st msg out guest) (messageOf st msg out′ guest′)
+    message-same = message-inside (message-past st msg out guest .inside)
+
+-- ---- an entry
+-- a pause event's first 16 bytes: they know of the registers the length alone
+abbrev event-head : ℕ → ℕ → ℕ → List ℕ
+event-head seq vcpu n = le 2 17 ++ le 2 n ++ le 4 seq ++ le 2 544 ++ le 2 vcpu ++ le 1 2 ++ replicate 3 0
+
+abbrev event-size : ℕ → List ℕ → ℕ
+event-size vcpu block = length (le 2 544 ++ le 2 vcpu ++ le 1 2 ++ replicate 3 0 ++ block ++ [])
+
+event-head-length : (seq vcpu n : ℕ) → length (event-head seq vcpu n) ≡ 16
+event-head-length seq vcpu n = simp (length-append, length-le)
+
+event-front : (seq vcpu : ℕ) (block : List ℕ) → take 16 (pauseEvent seq vcpu block) ≡ event-head seq vcpu (event-size vcpu block)
+unfolding pauseEvent eventBytes messageBytes
+event-front seq vcpu block =
+    let split : pauseEvent seq vcpu block ≡ event-head seq vcpu (event-size vcpu block) ++ (block ++ []) = simp append-assoc in
+    ap (take 16) split ∙ take-at (event-head seq vcpu (event-size vcpu block)) (block ++ []) 16 (event-head-length seq vcpu _)
+
+module _ (vcpu : ℕ) (block block′ out out′ : List ℕ) (lb : length block ≡ length block′) (lo : length out ≡ length out′) (st : State) where
+  abbrev Enters : Told → Told → Type 0
+  Enters = SameFor (enter vcpu block out)
+
+  stays : (k : ℕ) → Enters (toldSame k st out []) (toldSame k st out′ [])
+  stays k = idle (enter vcpu block out) (plain k) refl st out out′ [] []
+
+  event-same : (seq : ℕ) → take 16 (pauseEvent seq vcpu block) ≡ take 16 (pauseEvent seq vcpu block′)
+  event-same seq =
+      let n : event-size vcpu block ≡ event-size vcpu block′ = simp (length-append, lb) in
+      event-front seq vcpu block ∙ ap (event-head seq vcpu) n ∙ sym (event-front seq vcpu block′)
+
+  pausing-same : Inside out Enters (pausingOf st vcpu block out) (pausingOf st vcpu block′ out′)
+  unfolding pausingOf ownBytes
+  pausing-same fits =
+      let seq = st .session .tool .seq in
+      let b = pauseEvent seq vcpu block in
+      let c = pauseEvent seq vcpu block′ in
+      let n : length b ≡ length c = length-pause seq vcpu block ∙ ap (λ (k : ℕ). 16 + k) lb ∙ sym (length-pause seq vcpu block′) in
+      let one : take (length b) (store out 0 b) ≡ b = written-is b Quiet st out [] fits in
+      let two : take (length c) (store out′ 0 c) ≡ c = written-is c Quiet st out′ [] (omega arith) in
+      record { answer = ap (λ (k : ℕ). handled k Quiet) n; state = refl; bytes = rw (one, two) (event-same seq) }
+
+  abbrev Enters-in : Told → Told → Type 0
+  Enters-in = Inside out Enters
+
+  enter-inside : Enters-in (enterOf st vcpu block out) (enterOf st vcpu block′ out′)
+  unfolding enterOf
+  enter-inside =
+      both Enters-in (isClosed st) _ _ _ _ (λ _ _. stays 2)
+      (λ _. both Enters-in (leb (st .session .settings .vcpus) vcpu) _ _ _ _ (λ _ _. stays 4)
+      (λ _. on-both Enters-in (not (eqb (length block) stateBytes)) (not (eqb (length block′) stateBytes)) (ap (λ (n : ℕ). not (eqb n stateBytes)) lb) _ _ _ _
+      (λ _ _. stays 5)
+      (λ _. on-both Enters-in (ltb (length out) eventOut) (ltb (length out′) eventOut) (ap (λ (n : ℕ). ltb n eventOut) lo) _ _ _ _ (λ _ _. stays 3)
+      (λ _. both Enters-in (not (eqb (field (st .vcpus) vcpu AWAITED) 0)) _ _ _ _ (λ _ _. stays 6)
+      (λ _. both Enters-in (leb 1 (field (st .vcpus) vcpu PAUSES)) _ _ _ _ (λ _. pausing-same)
+      (λ _ _. idle (enter vcpu block out) (handled 0 Quiet) refl st (store out 0 []) (store out′ 0 []) [] []))))))
+
+  enter-same : Enters (enterOf st vcpu block out) (enterOf st vcpu block′ out′)
+  enter-same = enter-inside (enter-past st vcpu block out .inside)
+
+-- ---- an image
+module _ (out out′ : List ℕ) (lo : length out ≡ length out′) (st : State) where
+  abbrev Writes : Told → Told → Type 0
+  Writes = SameFor (writeImage out)
+
+  kept : (k : ℕ) → Writes (toldSame k st out []) (toldSame k st out′ [])
+  kept k = idle (writeImage out) (plain k) refl st out out′ [] []
+
+  image-same : Writes (imageOf st out) (imageOf st out′)
+  unfolding imageOf ownBytes
+  image-same =
+      let b = image (statedTables st) in
+      both Writes (isClosed st) _ _ _ _ (λ _. kept 2)
+      (λ _. both Writes (awaitsAny (awaitedOf (st .vcpus) 0 (statedVcpus st))) _ _ _ _ (λ _. kept 10)
+      (λ _. on-both Writes (ltb (length out) (length b)) (ltb (length out′) (length b)) (ap (λ (n : ℕ). ltb n (length b)) lo) _ _ _ _ (λ _. kept 3)
+      (λ h. let room = ltb-false (length out) (length b) h in
+      record { answer = refl; state = refl; bytes = written-is b Quiet st out [] room ∙ sym (written-is b Quiet st out′ [] (omega arith)) })))
+
+-- ---- a call
+call-same : (st : State) (c d : Call) → Alike c d → SameFor c (stepOf st c) (stepOf st d)
+unfolding stepOf ownBytes
+call-same st c d (messages msg out out′ guest guest′ lo lg) =
+    let same = message-same msg out out′ lo st guest guest′ lg in record { answer = same .answer; state = same .state; bytes = same .bytes }
+call-same st c d (readies vcpu) = record { answer = refl; state = refl; bytes = refl }
+call-same st c d (enters vcpu block block′ out out′ lb lo) = enter-same vcpu block block′ out out′ lb lo st
+call-same st c d (writes out out′ lo) = image-same out out′ lo st
 
 -- ---- lists of calls
-lists-same : (st : State) (cs ds : List Call) → ButGuest cs ds → (answersOf st cs ≡ answersOf st ds) × (afterOf st cs ≡ afterOf st ds)
-unfolding answersOf afterOf stepOf
-lists-same st cs ds none = (refl, refl)
-lists-same st cs ds (same c b) = let r = lists-same (stepOf st c .state) _ _ b in (ap (λ (l : List Paper). stepOf st c .answer ∷ l) (r .0), r .1)
-lists-same st cs ds (other {cs = cs′} {ds = ds′} msg out guest guest′ l b) =
-    let one = message-same st msg out guest guest′ l in
-    let r = lists-same (messageOf st msg out guest .state) cs′ ds′ b in
-    let on = ap (λ (x : State). answersOf x ds′) (one .state) in
-    ((λ j. one .answer j ∷ (r .0 ∙ on) j), r .1 ∙ ap (λ (x : State). afterOf x ds′) (one .state))
+-- which bytes are a call's own is the same for both
+own-alike : (c d : Call) → Alike c d → (r : Told) → ownBytes c r ≡ ownBytes d r
+unfolding ownBytes
+own-alike c d (messages msg out out′ guest guest′ lo lg) r = refl
+own-alike c d (readies vcpu) r = refl
+own-alike c d (enters vcpu block block′ out out′ lb lo) r = refl
+own-alike c d (writes out out′ lo) r = refl
+
+-- what lists of calls give
+abbrev Same-lists : State → List Call → List Call → Type 0
+Same-lists st cs ds = (answersOf st cs ≡ answersOf st ds) × (afterOf st cs ≡ afterOf st ds) × (bytesOf st cs ≡ bytesOf st ds)
+
+lists-same : (st : State) (cs ds : List Call) → ButGuest cs ds → Same-lists st cs ds
+unfolding answersOf afterOf bytesOf
+lists-same st cs ds ended = (refl, refl, refl)
+lists-same st cs ds (more {c = c} {d = d} {cs = cs′} {ds = ds′} a b) =
+    let one = call-same st c d a in
+    let r = lists-same (stepOf st c .state) cs′ ds′ b in
+    let own = one .bytes ∙ own-alike c d a (stepOf st d) in
+    let answers = r .0 ∙ ap (λ (x : State). answersOf x ds′) (one .state) in
+    let bytes = r .2 ∙ ap (λ (x : State). bytesOf x ds′) (one .state) in
+    ((λ j. one .answer j ∷ answers j), r .1 ∙ ap (λ (x : State). afterOf x ds′) (one .state), (λ j. own j ∷ bytes j))
 
 pub unsteered : Unsteered
-unsteered = record { message = message-same; answers = λ st cs ds b. lists-same st cs ds b .0; state = λ st cs ds b. lists-same st cs ds b .1 }
+unsteered =
+    record {
+      call = call-same;
+      answers = λ st cs ds b. lists-same st cs ds b .0;
+      state = λ st cs ds b. lists-same st cs ds b .1;
+      bytes = λ st cs ds b. lists-same st cs ds b .2;
+    }

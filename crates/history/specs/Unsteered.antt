@@ -1,46 +1,79 @@
--- The guest can't steer the filter: what stands in its memory moves no answer, no table and no byte that goes out but the data of VM_READ_PHYSICAL's
--- reply. Of guest memory a message alone is given any: `readyOf`, `enterOf`, `imageOf`, `freshOf` and `readOf` take none, by their types.
--- Said of any session whatever, well formed or not.
+-- The guest can't steer the filter. Two runs of a call that agree on everything but what the guest has a part in agree on answer, session, tables and
+-- the bytes that go out, but for the data of VM_READ_PHYSICAL's reply and the registers in an event; and so do two runs of every list of calls.
+-- A host may reuse its output buffer: what an earlier read left in it moves nothing. Said of any session whatever, well formed or not.
 use mathlib.Core.Path.{_≡_}
 use Prim.Native.Nat.{ℕ}
 use mathlib.Core.List.{List, [], _∷_}
-use lib.ListN.{length, take, drop}
+use mathlib.Core.Bool.{Bool, false, cond}
+use lib.ListN.{length, take}
+use lib.Dec.{eqb}
+use Rattle.wire.specs.Header.{headerOf}
+use Rattle.wire.specs.declared.Header.{Header}
+use Rattle.wire.specs.declared.Header.the-variants.{Whole, Broken}
 use Rattle.kvmi.specs.Answer.{Paper}
-use Rattle.kvmi.specs.Call.{Call, message}
+use Rattle.kvmi.specs.Call.{Call, message, ready, enter, writeImage}
 use Rattle.session.specs.State.{State}
 use Rattle.session.specs.Calls.{Told}
-use Rattle.message.specs.Message.{messageOf}
-use Rattle.refine.specs.Errors.{HasId}
 use Rattle.history.specs.History.{stepOf, afterOf}
 
--- ---- one message on two memories
-pub record SameFor (msg : List ℕ) (r q : Told) : Type 0 where
+-- ---- what a call writes
+-- whether a header is that of VM_READ_PHYSICAL, whose reply has guest memory as its data
+abbrev pub readsGuest : Header → Bool
+readsGuest (Whole id size seq) = eqb id 6
+readsGuest Broken = false
+
+-- the bytes that a call wrote; what lies behind them in the output is as it was (Demand1: `past`)
+abbrev pub written : Told → List ℕ
+written r = take (r .answer .count) (r .out)
+
+-- those of them that are not the guest's own: of VM_READ_PHYSICAL's reply, and of the event at an entry, which carries the vCPU's registers, the
+-- first 16
+unfoldable pub ownBytes : Call → Told → List ℕ
+ownBytes (message msg out guest) r = cond (readsGuest (headerOf msg)) (take 16 (written r)) (written r)
+ownBytes (ready vcpu) r = written r
+ownBytes (enter vcpu block out) r = take 16 (written r)
+ownBytes (writeImage out) r = written r
+
+-- ---- two runs
+-- calls that agree but for what the guest has a part in: the bytes of guest memory, a vCPU's registers, and what stands in the output before the
+-- call, where an earlier read may have left the guest's bytes; all lengths agree
+pub data Alike : Call → Call → Type 0 where
+  messages : (msg out out′ guest guest′ : List ℕ) → length out ≡ length out′ → length guest ≡ length guest′
+      → Alike (message msg out guest) (message msg out′ guest′)
+  readies : (vcpu : ℕ) → Alike (ready vcpu) (ready vcpu)
+  enters : (vcpu : ℕ) (block block′ out out′ : List ℕ) → length block ≡ length block′ → length out ≡ length out′
+      → Alike (enter vcpu block out) (enter vcpu block′ out′)
+  writes : (out out′ : List ℕ) → length out ≡ length out′ → Alike (writeImage out) (writeImage out′)
+
+-- what is the same after two runs of a call
+pub record SameFor (c : Call) (r q : Told) : Type 0 where
   -- its answer: number, count of bytes written, signal
   pub answer : r .answer ≡ q .answer
   -- the session and every lent word
   pub state : r .state ≡ q .state
-  -- the whole output, unless it is VM_READ_PHYSICAL
-  pub out : (HasId msg 6 → ⊥) → r .out ≡ q .out
-  -- of that the header, the error and four zeros, and what lies behind the bytes written
-  pub front : take 16 (r .out) ≡ take 16 (q .out)
-  pub rest : drop (r .answer .count) (r .out) ≡ drop (r .answer .count) (q .out)
+  -- what goes out, the guest's own bytes apart
+  pub bytes : ownBytes c r ≡ ownBytes c q
 
--- ---- lists of calls that agree but for the bytes in guest memory, whose lengths agree
+-- lists of calls that agree so, call by call
 pub data ButGuest : List Call → List Call → Type 0 where
-  none : ButGuest [] []
-  same : {cs ds : List Call} (c : Call) → ButGuest cs ds → ButGuest (c ∷ cs) (c ∷ ds)
-  other : {cs ds : List Call} (msg out guest guest′ : List ℕ) → length guest ≡ length guest′ → ButGuest cs ds
-      → ButGuest (message msg out guest ∷ cs) (message msg out guest′ ∷ ds)
+  ended : ButGuest [] []
+  more : {c d : Call} {cs ds : List Call} → Alike c d → ButGuest cs ds → ButGuest (c ∷ cs) (d ∷ ds)
 
 -- each call's answer
 unfoldable pub answersOf : State → List Call → List Paper
 answersOf st [] = []
 answersOf st (c ∷ cs) = stepOf st c .answer ∷ answersOf (stepOf st c .state) cs
 
+-- each call's own bytes
+unfoldable pub bytesOf : State → List Call → List (List ℕ)
+bytesOf st [] = []
+bytesOf st (c ∷ cs) = ownBytes c (stepOf st c) ∷ bytesOf (stepOf st c .state) cs
+
+-- ---- "the guest cannot steer the filter"
 pub record Unsteered : Type 0 where
-  -- two runs of a message that differ in the bytes of guest memory, and in nothing else
-  pub message : (st : State) (msg out guest guest′ : List ℕ) → length guest ≡ length guest′
-      → SameFor msg (messageOf st msg out guest) (messageOf st msg out guest′)
-  -- over every list of calls: the same answers, and the same session and words after it
+  -- two runs of a call
+  pub call : (st : State) (c d : Call) → Alike c d → SameFor c (stepOf st c) (stepOf st d)
+  -- over every list of calls: the same answers, the same session and words after it, and the same bytes out
   pub answers : (st : State) (cs ds : List Call) → ButGuest cs ds → answersOf st cs ≡ answersOf st ds
   pub state : (st : State) (cs ds : List Call) → ButGuest cs ds → afterOf st cs ≡ afterOf st ds
+  pub bytes : (st : State) (cs ds : List Call) → ButGuest cs ds → bytesOf st cs ≡ bytesOf st ds
