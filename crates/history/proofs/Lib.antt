@@ -6,6 +6,7 @@ pub mod Errors
 pub mod Demand2
 pub mod Demand3
 pub mod Unsteered
+pub mod Exported
 pub mod Carried
 pub mod Closed
 pub mod Lookups

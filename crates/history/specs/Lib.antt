@@ -3,5 +3,6 @@ pub mod Demand1
 pub mod Demand2
 pub mod Demand3
 pub mod Unsteered
+pub mod Exported
 pub mod Carried
 pub mod Pauses
