@@ -13,7 +13,7 @@ use borrow.Author.Tests.{lt-ltb, le-ltb, ltb-true, ltb-false, leb-false, eq-eqb,
 use Rattle.wire.proofs.Laws.{le-or-lt}
 use Rattle.kvmi.specs.Bits.{bit}
 use Rattle.kvmi.specs.Message.{Entry, entryOf, entriesOf}
-use Rattle.page_words.specs.PageWords.{wordKey, keyOf, bisect, placeOf, standsAt, insertWord, removeWord, PageTable, pageTable, changeWord, addWord, putEntry, putEntries, runEntries}
+use Rattle.page_words.specs.PageWords.{wordKey, keyOf, bisect, placeOf, standsAt, insertWord, removeWord, PageTable, pageTable, changeWord, addWord, putEntry, nearPlace, putNear, nextHint, hintAfter, putEntries, runEntries}
 
 -- ---- bisection
 
@@ -128,6 +128,17 @@ stands-lt ws count key at h = go (ltb at count) refl h
     go true e f = ltb-true at count e
     go false e f = let z : _≡_ {A = ℕ} 0 1 = cc in absurd (omega arith)
 
+pub near-le : (ws : List ℕ) (count key hint : ℕ) → nearPlace ws count key hint ≤ count
+unfolding nearPlace
+near-le ws count key hint = go (standsAt ws count key hint) refl
+  where
+    go : (t : Bool) → standsAt ws count key hint ≡ t → cond t hint (placeOf ws count key) ≤ count
+    go true e = omega (arith, stands-lt ws count key hint e)
+    go false e = place-le ws count key
+
+pub near-bound : (ws : List ℕ) (count key hint : ℕ) {at : ℕ} → at ≡ nearPlace ws count key hint → at ≤ count
+near-bound ws count key hint e = rw e (near-le ws count key hint)
+
 -- ---- one turn of the loops that move words
 
 drop-set-here : (l : List ℕ) (i v : ℕ) → i < length l → drop i (set l i v) ≡ v ∷ drop (suc i) l
@@ -224,28 +235,29 @@ module _ (limit most key access : ℕ) (t : PageTable) (room : min limit (length
           let free : t .count < min limit (length (t .words)) = leb-false (min limit (length (t .words))) (t .count) e in
           (length-insert (t .words) (t .count) at (key * 8 + access) h (omega arith), omega arith, omega arith)
 
-  pub put-kept : Kept most t (putEntry limit key access t)
+  pub put-kept : (at : ℕ) → at ≤ t .count → Kept most t (putEntry limit at key access t)
   unfolding putEntry
-  put-kept = go (standsAt (t .words) (t .count) key at) refl
+  put-kept at h = go (standsAt (t .words) (t .count) key at) refl
     where
-      at : ℕ
-      at = placeOf (t .words) (t .count) key
-
       go : (b : Bool) → standsAt (t .words) (t .count) key at ≡ b → Kept most t (cond b (changeWord t at key access) (addWord limit t at key access))
       go true e = change-kept at (stands-lt (t .words) (t .count) key at e)
-      go false e = add-kept at (place-le (t .words) (t .count) key)
+      go false e = add-kept at h
 
-pub put-bound : (limit key access : ℕ) (t t′ : PageTable) → t .count ≤ length (t .words) → t′ ≡ putEntry limit key access t → t′ .count ≤ length (t .words)
-put-bound limit key access t t′ dense e = rw e (put-kept limit (length (t .words)) key access t (omega arith) dense dense .1)
+  near-kept : (hint : ℕ) → Kept most t (putNear limit key access hint t)
+  unfolding putNear
+  near-kept hint = put-kept (nearPlace (t .words) (t .count) key hint) (near-le (t .words) (t .count) key hint)
 
-pub entries-kept : (limit most view : ℕ) (es : List Entry) (t : PageTable) → min limit (length (t .words)) ≤ most → t .count ≤ most → t .count ≤ length (t .words)
-    → Kept most t (putEntries limit view es t)
+pub put-bound : (limit at key access : ℕ) (t t′ : PageTable) → at ≤ t .count → t .count ≤ length (t .words) → t′ ≡ putEntry limit at key access t → t′ .count ≤ length (t .words)
+put-bound limit at key access t t′ h dense e = rw e (put-kept limit (length (t .words)) key access t (omega arith) dense dense at h .1)
+
+pub entries-kept : (limit most view : ℕ) (es : List Entry) (hint : ℕ) (t : PageTable) → min limit (length (t .words)) ≤ most → t .count ≤ most → t .count ≤ length (t .words)
+    → Kept most t (putEntries limit view es hint t)
 unfolding putEntries
-entries-kept limit most view [] t room few dense = (refl, few, dense)
-entries-kept limit most view (e ∷ es) t room few dense =
-    let t′ = putEntry limit (keyOf view (e .page)) (e .access) t in
-    let k = put-kept limit most (keyOf view (e .page)) (e .access) t room few dense in
-    let r = entries-kept limit most view es t′ (rw (k .0) room) (k .1) (rw (k .0) (k .2)) in
+entries-kept limit most view [] hint t room few dense = (refl, few, dense)
+entries-kept limit most view (e ∷ es) hint t room few dense =
+    let t′ = putNear limit (keyOf view (e .page)) (e .access) hint t in
+    let k = near-kept limit most (keyOf view (e .page)) (e .access) t room few dense hint in
+    let r = entries-kept limit most view es (hintAfter limit (keyOf view (e .page)) (e .access) hint t) t′ (rw (k .0) room) (k .1) (rw (k .0) (k .2)) in
     (r .0 ∙ k .0, r .1, omega arith)
 
 -- a run of entries keeps the number of words, and of those in use within them
@@ -253,14 +265,14 @@ pub run-kept : (limit view : ℕ) (es : List Entry) (ws : List ℕ) (count : ℕ
     → (length (runEntries limit view es ws count .words) ≡ length ws) × (runEntries limit view es ws count .count ≤ length ws)
 unfolding runEntries
 run-kept limit view es ws count =
-    let k = entries-kept limit (length ws) view es (pageTable ws (min count (length ws)) false) (omega arith) (omega arith) (omega arith) in
+    let k = entries-kept limit (length ws) view es 0 (pageTable ws (min count (length ws)) false) (omega arith) (omega arith) (omega arith) in
     (k .0, k .1)
 
 -- and within the limit, where they were
 pub run-limit : (limit view : ℕ) (es : List Entry) (ws : List ℕ) (count : ℕ) → count ≤ limit → runEntries limit view es ws count .count ≤ limit
 unfolding runEntries
 run-limit limit view es ws count h =
-    entries-kept limit limit view es (pageTable ws (min count (length ws)) false) (omega arith) (omega arith) (omega arith) .1
+    entries-kept limit limit view es 0 (pageTable ws (min count (length ws)) false) (omega arith) (omega arith) (omega arith) .1
 
 -- ---- a run of entries
 
@@ -290,25 +302,36 @@ unfolding entryOf
 page-bound e h = omega arith
 
 -- what entry i of n does, and then those behind it
-run-step : (n i limit view : ℕ) (d : List ℕ) (t : PageTable) → i < n
-    → putEntries limit view (entriesOf (n - i) (drop (i * 16) d)) t
+run-step : (n i limit view hint : ℕ) (d : List ℕ) (t : PageTable) → i < n
+    → putEntries limit view (entriesOf (n - i) (drop (i * 16) d)) hint t
     ≡ putEntries limit view (entriesOf (n - (i + 1)) (drop ((i + 1) * 16) d))
-    (putEntry limit (keyOf view (entryOf (take 16 (drop (i * 16) d)) .page)) (entryOf (take 16 (drop (i * 16) d)) .access) t)
+    (hintAfter limit (keyOf view (entryOf (take 16 (drop (i * 16) d)) .page)) (entryOf (take 16 (drop (i * 16) d)) .access) hint t)
+    (putNear limit (keyOf view (entryOf (take 16 (drop (i * 16) d)) .page)) (entryOf (take 16 (drop (i * 16) d)) .access) hint t)
 unfolding putEntries entriesOf
-run-step n i limit view d t h =
+run-step n i limit view hint d t h =
     let e : n - i ≡ suc (n - (i + 1)) = omega arith in
     let m : (i + 1) * 16 ≡ i * 16 + 16 = omega arith in
     rw (e, m, ← drop-drop 16 (i * 16) d)
 
-pub run-entry : (n i limit view : ℕ) (d p : List ℕ) (page access : ℕ) (t t′ : PageTable)
+-- an entry put at its place, and the place that is tried next
+near-put : (limit at key access hint hint′ : ℕ) (t t′ : PageTable) → at ≡ nearPlace (t .words) (t .count) key hint → t′ ≡ putEntry limit at key access t → hint′ ≡ nextHint at (t′ .count)
+    → (t′ ≡ putNear limit key access hint t) × (hint′ ≡ hintAfter limit key access hint t)
+unfolding putNear hintAfter
+near-put limit at key access hint hint′ t t′ n k q = (k ∙ rw n, q ∙ rw (k, n))
+
+pub run-entry : (n i limit view at hint hint′ : ℕ) (d p : List ℕ) (page access : ℕ) (t t′ : PageTable)
     → i < n
     → p ≡ take 16 (drop (i * 16) d)
     → page ≡ entryOf p .page
     → access ≡ entryOf p .access
-    → t′ ≡ putEntry limit (keyOf view page) access t
-    → putEntries limit view (entriesOf (n - i) (drop (i * 16) d)) t ≡ putEntries limit view (entriesOf (n - (i + 1)) (drop ((i + 1) * 16) d)) t′
-run-entry n i limit view d p page access t t′ h e f g k = rw (k, f, g, e) (run-step n i limit view d t h)
+    → at ≡ nearPlace (t .words) (t .count) (keyOf view page) hint
+    → t′ ≡ putEntry limit at (keyOf view page) access t
+    → hint′ ≡ nextHint at (t′ .count)
+    → putEntries limit view (entriesOf (n - i) (drop (i * 16) d)) hint t ≡ putEntries limit view (entriesOf (n - (i + 1)) (drop ((i + 1) * 16) d)) hint′ t′
+run-entry n i limit view at hint hint′ d p page access t t′ h e f g m k q =
+    let both = near-put limit at (keyOf view page) access hint hint′ t t′ m k q in
+    rw (both .0, both .1, f, g, e) (run-step n i limit view hint d t h)
 
-pub run-end : (n i limit view : ℕ) (d : List ℕ) (t : PageTable) → n ≤ i → putEntries limit view (entriesOf (n - i) d) t ≡ t
+pub run-end : (n i limit view hint : ℕ) (d : List ℕ) (t : PageTable) → n ≤ i → putEntries limit view (entriesOf (n - i) d) hint t ≡ t
 unfolding putEntries entriesOf
-run-end n i limit view d t h = let e : n - i ≡ 0 = omega arith in rw e
+run-end n i limit view hint d t h = let e : n - i ≡ 0 = omega arith in rw e

@@ -65,16 +65,30 @@ addWord limit t at key access =
     (pageTable (t .words) (t .count) true)
     (pageTable (insertWord (t .words) (t .count) at (key * 8 + access)) (t .count + 1) (t .skipped)))
 
-unfoldable pub putEntry : ℕ → ℕ → ℕ → PageTable → PageTable
-putEntry limit key access t =
-    cond (standsAt (t .words) (t .count) key (placeOf (t .words) (t .count) key))
-    (changeWord t (placeOf (t .words) (t .count) key) key access)
-    (addWord limit t (placeOf (t .words) (t .count) key) key access)
+-- an entry whose key stands, or belongs, at a place
+unfoldable pub putEntry : ℕ → ℕ → ℕ → ℕ → PageTable → PageTable
+putEntry limit at key access t =
+    cond (standsAt (t .words) (t .count) key at) (changeWord t at key access) (addWord limit t at key access)
 
-unfoldable pub putEntries : ℕ → ℕ → List Entry → PageTable → PageTable
-putEntries limit view [] t = t
-putEntries limit view (e ∷ es) t = putEntries limit view es (putEntry limit (keyOf view (e .page)) (e .access) t)
+-- that place: one that is tried first, where the key stands there, or else by bisection
+unfoldable pub nearPlace : List ℕ → ℕ → ℕ → ℕ → ℕ
+nearPlace ws count key hint = cond (standsAt ws count key hint) hint (placeOf ws count key)
+
+unfoldable pub putNear : ℕ → ℕ → ℕ → ℕ → PageTable → PageTable
+putNear limit key access hint t = putEntry limit (nearPlace (t .words) (t .count) key hint) key access t
+
+-- the place to be tried for the next entry: behind that of this one
+unfoldable pub nextHint : ℕ → ℕ → ℕ
+nextHint at count = cond (ltb at count) (at + 1) at
+
+unfoldable pub hintAfter : ℕ → ℕ → ℕ → ℕ → PageTable → ℕ
+hintAfter limit key access hint t = nextHint (nearPlace (t .words) (t .count) key hint) (putNear limit key access hint t .count)
+
+unfoldable pub putEntries : ℕ → ℕ → List Entry → ℕ → PageTable → PageTable
+putEntries limit view [] hint t = t
+putEntries limit view (e ∷ es) hint t =
+    putEntries limit view es (hintAfter limit (keyOf view (e .page)) (e .access) hint t) (putNear limit (keyOf view (e .page)) (e .access) hint t)
 
 -- a run of entries on words of which no more than there are can be in use
 unfoldable pub runEntries : ℕ → ℕ → List Entry → List ℕ → ℕ → PageTable
-runEntries limit view es ws count = putEntries limit view es (pageTable ws (min count (length ws)) false)
+runEntries limit view es ws count = putEntries limit view es 0 (pageTable ws (min count (length ws)) false)

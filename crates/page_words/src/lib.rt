@@ -6,7 +6,7 @@ ghost use lib.Dec.{ltb};
 ghost use lib.ListN.{length};
 ghost use Rattle.kvmi.specs.Bits.{bit};
 ghost use Rattle.kvmi.specs.Message.{entryOf, entriesOf};
-ghost use Rattle.page_words.specs.PageWords.{wordKey, placeOf, insertWord, removeWord, standsAt, pageTable, changeWord, addWord, putEntry, runEntries};
+ghost use Rattle.page_words.specs.PageWords.{wordKey, placeOf, insertWord, removeWord, standsAt, pageTable, changeWord, addWord, nearPlace, nextHint, putEntry, runEntries};
 
 // How many words are lent for the pages.
 pub const PAGE_WORDS: usize = 1024;
@@ -150,19 +150,38 @@ fn stands_at(words: &[u64], count: usize, key: u64, at: usize) -> bool
     at < count && words[at] / 8 == key
 }
 
-// One entry.
+// Where a key stands among the first `count` words, or belongs: a place that is tried first, or else found by bisection. The pages of a run
+// stand one behind the other, so that each but the first is found at once.
+fn near(words: &[u64], count: usize, key: u64, hint: usize) -> usize
+    requires { ⌜ count ≤ length (now words) ⌝ }
+    ensures { λ r. ⌜ r ≡ nearPlace (now (words .entry)) count key hint ⌝ }
+{
+    if stands_at(words, count, key, hint) {
+        return hint;
+    }
+    place(words, count, key)
+}
+
+// The place to be tried for the next entry: behind that of this one.
+fn next_hint(at: usize, count: usize) -> usize
+    ensures { λ r. ⌜ r ≡ nextHint at count ⌝ }
+{
+    if at < count { at + 1 } else { at }
+}
+
+// One entry, whose key stands or belongs at a place.
 fn put_entry(
     words: &mut [u64],
     count: usize,
     limit: usize,
+    at: usize,
     key: u64,
     access: u8,
     skipped: bool,
 ) -> Taken
-    requires { ⌜ (count ≤ length (now words)) × (key < 2 ^ 55) ⌝ }
-    ensures { λ r. ⌜ pageTable (now (words .exit)) (r .count) (r .skipped) ≡ putEntry limit key access (pageTable (now (words .entry)) count skipped) ⌝ }
+    requires { ⌜ (at ≤ count) × (count ≤ length (now words)) × (key < 2 ^ 55) ⌝ }
+    ensures { λ r. ⌜ pageTable (now (words .exit)) (r .count) (r .skipped) ≡ putEntry limit at key access (pageTable (now (words .entry)) count skipped) ⌝ }
 {
-    let at = place(words, count, key);
     if stands_at(words, count, key, at) {
         change_word(words, count, at, key, access, skipped)
     } else {
@@ -196,12 +215,16 @@ pub fn put_entries(
         count: wire::smaller(count, words.len()),
         skipped: false,
     };
+    let mut hint = 0;
     let mut i = 0;
     while i < n {
         let a = wire::smaller((i as usize) * 16, d.len());
         let b = wire::smaller(a + 16, d.len());
         let e = read_entry(&d[a..b]);
-        t = put_entry(words, t.count, limit, first + e.page, e.access, t.skipped);
+        let key = first + e.page;
+        let at = near(words, t.count, key, hint);
+        t = put_entry(words, t.count, limit, at, key, e.access, t.skipped);
+        hint = next_hint(at, t.count);
         i += 1;
     }
     t

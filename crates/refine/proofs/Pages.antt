@@ -17,7 +17,7 @@ use Rattle.kvmi.specs.Tables.{Page, pageKey}
 use Rattle.kvmi.specs.Message.{Entry}
 use Rattle.kvmi.specs.Verdict.{isAccess}
 use Rattle.kvmi.specs.Change.{Run, pageOf, isSkipped, setPage, takeEntry, takeEntries}
-use Rattle.page_words.specs.PageWords.{wordKey, keyOf, bisect, placeOf, standsAt, insertWord, removeWord, PageTable, pageTable, changeWord, addWord, putEntry, putEntries, runEntries}
+use Rattle.page_words.specs.PageWords.{wordKey, keyOf, bisect, placeOf, standsAt, insertWord, removeWord, PageTable, pageTable, changeWord, addWord, putEntry, nearPlace, putNear, hintAfter, putEntries, runEntries}
 use Rattle.page_words.specs.Meaning.{pageOfWord, pagesOf, goodWord, PagesGood}
 use Rattle.laws.proofs.Bool.{and-l, and-r, and-i, either, test, clash, every-head, every-tail, every-cons}
 use Rattle.laws.proofs.Ascending.{has-past, Side, below, level, over, side, put-cases, forget-cases, has-cases, rising-low, rising-rest, rising-put, rising-forget, every-put, every-forget, forget-none}
@@ -93,6 +93,33 @@ place-placed ws count key g = bisect-placed ws key count up count 0 count count 
     up i j h l =
         rw (getD-take count ws i 0 (omega arith), getD-take count ws j 0 l) at
         (rising-at wordKey 0 0 (take count ws) (g .up) i j h (rw (length-take-le count ws (g .inside)) l))
+
+-- where a key stands among them is its place
+pub stands-once : (ws : List ℕ) (count key hint : ℕ) → PagesGood ws count → standsAt ws count key hint ≡ true → hint ≡ placeOf ws count key
+unfolding standsAt
+stands-once ws count key hint g s = go (side hint (placeOf ws count key))
+  where
+    p : Placed ws key 0 count (placeOf ws count key)
+    p = place-placed ws count key g
+
+    inside : hint < count
+    inside = ltb-true hint count (and-l (ltb hint count) _ s)
+
+    here : wordKey (getD ws hint 0) ≡ key
+    here = eqb-true _ key (and-r (ltb hint count) _ s)
+
+    up : (i j : ℕ) → i < j → j < count → wordKey (getD ws i 0) < wordKey (getD ws j 0)
+    up i j h l =
+        rw (getD-take count ws i 0 (omega arith), getD-take count ws j 0 l) at
+        (rising-at wordKey 0 0 (take count ws) (g .up) i j h (rw (length-take-le count ws (g .inside)) l))
+
+    go : Side hint (placeOf ws count key) → hint ≡ placeOf ws count key
+    go (below h e) = let q = p .before hint zero-le h in absurd (omega (arith, here))
+    go (level h e) = h
+    go (over h e) =
+        let q = up (placeOf ws count key) hint h inside in
+        let r = p .after (placeOf ws count key) (le-refl _) (omega (arith, inside)) in
+        absurd (omega (arith, here))
 
 -- ---- a table changed at the place of a key
 module _ {A : Type 0} (key : A → ℕ) (d : A) where
@@ -459,24 +486,31 @@ module _ (limit view : ℕ) (e : Entry) (t : PageTable) (g : PagesGood (t .words
       (λ f. rw (none, n, many, room, f)
       (meant-means (t .skipped) (insert-meant (t .words) (t .count) view (e .page) g v small (e .access) asks n s (omega (arith, leb-false limit (t .count) f))))))
 
-  pub put-entry : Means (length (t .words)) (takeEntry limit view e (runOf t)) (putEntry limit (keyOf view (e .page)) (e .access) t)
-  unfolding putEntry
-  put-entry = test (pageStands (t .words) (t .count) view (e .page)) (λ s. rw s (change-means s)) (λ s. rw s (add-means s))
+  -- a key that stands at the place that is tried first is where the bisection finds it, since the words ascend
+  pub near-same : (hint : ℕ) → nearPlace (t .words) (t .count) (keyOf view (e .page)) hint ≡ pageAt (t .words) (t .count) view (e .page)
+  unfolding nearPlace
+  near-same hint =
+      test (standsAt (t .words) (t .count) (keyOf view (e .page)) hint) (λ s. rw s (stands-once (t .words) (t .count) (keyOf view (e .page)) hint g s)) (λ s. rw s)
 
-pub put-entries : (limit view : ℕ) (es : List Entry) (t : PageTable) → PagesGood (t .words) (t .count) → view < 8 → So (every entryGood es) → limit ≤ length (t .words)
-    → Means (length (t .words)) (takeEntries limit view es (runOf t)) (putEntries limit view es t)
+  pub put-entry : (hint : ℕ) → Means (length (t .words)) (takeEntry limit view e (runOf t)) (putNear limit (keyOf view (e .page)) (e .access) hint t)
+  unfolding putNear putEntry
+  put-entry hint = rw (near-same hint) (test (pageStands (t .words) (t .count) view (e .page)) (λ s. rw s (change-means s)) (λ s. rw s (add-means s)))
+
+pub put-entries : (limit view : ℕ) (es : List Entry) (hint : ℕ) (t : PageTable) → PagesGood (t .words) (t .count) → view < 8 → So (every entryGood es) → limit ≤ length (t .words)
+    → Means (length (t .words)) (takeEntries limit view es (runOf t)) (putEntries limit view es hint t)
 unfolding putEntries takeEntries
-put-entries limit view [] t g v h l = record { good = g; long = refl; run = refl }
-put-entries limit view (e ∷ es) t g v h l =
-    let m = put-entry limit view e t g v (every-head entryGood e es h) l in
-    rw (← m .run, ← m .long) (put-entries limit view es (putEntry limit (keyOf view (e .page)) (e .access) t) (m .good) v (every-tail entryGood e es h) (rw (m .long) l))
+put-entries limit view [] hint t g v h l = record { good = g; long = refl; run = refl }
+put-entries limit view (e ∷ es) hint t g v h l =
+    let m = put-entry limit view e t g v (every-head entryGood e es h) l hint in
+    rw (← m .run, ← m .long)
+    (put-entries limit view es (hintAfter limit (keyOf view (e .page)) (e .access) hint t) (putNear limit (keyOf view (e .page)) (e .access) hint t) (m .good) v (every-tail entryGood e es h) (rw (m .long) l))
 
 pub run-entries : (limit view : ℕ) (es : List Entry) (ws : List ℕ) (count : ℕ) → PagesGood ws count → view < 8 → So (every entryGood es) → limit ≤ length ws
     → Means (length ws) (takeEntries limit view es (record { pages = pagesOf ws count; skipped = false })) (runEntries limit view es ws count)
 unfolding runEntries
 run-entries limit view es ws count g v h l =
     let all : min count (length ws) ≡ count = omega arith in
-    rw all (put-entries limit view es (pageTable ws count false) g v h l)
+    rw all (put-entries limit view es 0 (pageTable ws count false) g v h l)
 
 -- ---- words are what they mean
 wordOf : Page → ℕ

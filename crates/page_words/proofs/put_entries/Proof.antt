@@ -7,20 +7,20 @@ use lib.ListN.{length, drop}
 use borrow.Author.Needs.{needs}
 use Rattle.kvmi.specs.Message.{entriesOf}
 use Rattle.page_words.specs.PageWords.{keyOf, pageTable, putEntries, runEntries}
-use Rattle.page_words.proofs.PageLaws.{part-clamped, page-bound, put-bound, run-entry, run-end}
+use Rattle.page_words.proofs.PageLaws.{near-bound, part-clamped, page-bound, put-bound, run-entry, run-end}
 use Rattle.page_words.proofs.put_entries.Statement.{statement}
 use Rattle.page_words.proofs.put_entries.Tie as tie
 
 abbrev Inv-loop : tie.InvT-loop
-Inv-loop words₀ count limit view n d first t₀ i₀ words t i =
+Inv-loop words₀ count limit view n d first t₀ hint₀ i₀ words t hint i =
     (i ≤ n)
     × (length words ≡ length words₀)
     × (t .count ≤ length words₀)
     × (runEntries limit view (entriesOf n d) words₀ count
-    ≡ putEntries limit view (entriesOf (n - i) (drop (i * 16) d)) (pageTable words (t .count) (t .skipped)))
+    ≡ putEntries limit view (entriesOf (n - i) (drop (i * 16) d)) hint (pageTable words (t .count) (t .skipped)))
 
 abbrev μ-loop : tie.MeasureT-loop
-μ-loop words₀ count limit view n d first t₀ i₀ words t i = n - i
+μ-loop words₀ count limit view n d first t₀ hint₀ i₀ words t hint i = n - i
 
 cast-first : tie.Need-cast-first Inv-loop μ-loop
 cast-first c = search needs
@@ -65,11 +65,17 @@ part-read-entry-end c = search needs
 read-entry-requires : tie.Need-read-entry-requires Inv-loop μ-loop
 read-entry-requires c κs = search needs
 
-add-put-entry : tie.Need-add-put-entry Inv-loop μ-loop
-add-put-entry c = omega (arith, page-bound _ (c .before .before .read-entry .ensures .0))
+add-key : tie.Need-add-key Inv-loop μ-loop
+add-key c = omega (arith, page-bound _ (c .before .read-entry .ensures .0))
+
+near-requires : tie.Need-near-requires Inv-loop μ-loop
+near-requires c κs = search needs
 
 put-entry-requires : tie.Need-put-entry-requires Inv-loop μ-loop
-put-entry-requires c κs = omega (arith, page-bound _ (c .before .before .read-entry .ensures .0))
+put-entry-requires c κs = omega (arith, near-bound _ _ _ _ (c .before .near .ensures), page-bound _ (c .before .before .before .before .read-entry .ensures .0))
+
+next-hint-requires : tie.Need-next-hint-requires Inv-loop μ-loop
+next-hint-requires c κs = search needs
 
 add-i : tie.Need-add-i Inv-loop μ-loop
 add-i c = search needs
@@ -80,11 +86,11 @@ loop-less c = search needs
 loop-again : tie.Need-loop-again Inv-loop μ-loop
 unfolding keyOf
 loop-again c =
-    let l = c .before .before .before .before .before .before .before .before .before .before .loop in
-    let p = part-clamped _ _ _ _ (c .before .before .before .before .before .before .before .before .smaller2 .ensures) (c .before .before .before .before .before .before .before .smaller3 .ensures) in
-    let e = c .before .before .before .before .before .read-entry .ensures in
-    let next = run-entry (c .before .before .before .before .before .before .before .before .before .before .before .before .before .before .args .n) (l .i) _ _ _ _ _ _ _ _ (omega arith) p (e .0) (e .1) (c .before .before .put-entry .ensures) in
-    let bound = put-bound _ _ _ (pageTable (l .words) (l .t .count) (l .t .skipped)) _ (omega arith) (c .before .before .put-entry .ensures) in
+    let l = c .before .before .before .before .before .before .before .before .before .before .before .before .before .loop in
+    let p = part-clamped _ _ _ _ (c .before .before .before .before .before .before .before .before .before .before .before .smaller2 .ensures) (c .before .before .before .before .before .before .before .before .before .before .smaller3 .ensures) in
+    let e = c .before .before .before .before .before .before .before .before .read-entry .ensures in
+    let next = run-entry (c .before .before .before .before .before .before .before .before .before .before .before .before .before .before .before .before .before .args .n) (l .i) _ _ _ _ _ _ _ _ _ _ _ (omega arith) p (e .0) (e .1) (c .before .before .before .before .before .near .ensures) (c .before .before .before .put-entry .ensures) (c .next-hint .ensures) in
+    let bound = put-bound _ _ _ _ (pageTable (l .words) (l .t .count) (l .t .skipped)) _ (near-bound _ _ _ _ (c .before .before .before .before .before .near .ensures)) (omega arith) (c .before .before .before .put-entry .ensures) in
     (omega arith, omega arith, omega arith, l .inv .3 ∙ next)
 
 same-length : tie.Need-same-length Inv-loop μ-loop
@@ -93,7 +99,7 @@ same-length c = search needs
 returns : tie.Need-returns Inv-loop μ-loop
 returns c =
     let l = c .before .loop in
-    sym (l .inv .3 ∙ run-end (c .before .before .before .before .before .args .n) (l .i) _ _ _ _ (omega arith))
+    sym (l .inv .3 ∙ run-end (c .before .before .before .before .before .args .n) (l .i) _ _ _ _ _ (omega arith))
 
 pub put-entries-spec : {M : Type 1} → statement M
 put-entries-spec =
@@ -114,8 +120,10 @@ put-entries-spec =
     part-read-entry-start
     part-read-entry-end
     read-entry-requires
-    add-put-entry
+    add-key
+    near-requires
     put-entry-requires
+    next-hint-requires
     add-i
     loop-less
     loop-again
