@@ -1,7 +1,7 @@
 //! What calls answer: answers, entries, signals and refusals.
 
 use crate::show::{self, Hex};
-use crate::{Errno, Event, STATE_BYTES};
+use crate::{Action, Errno, Event, STATE_BYTES};
 use core::fmt;
 
 /// The bytes of a CMD_ERROR event.
@@ -26,6 +26,15 @@ pub enum Signal {
         /// Which one.
         vcpu: u32,
     },
+    /// A vCPU goes on from the event that it was offered.
+    Resume {
+        /// Which one.
+        vcpu: u32,
+        /// To continue, or to run the instruction again.
+        action: Action,
+        /// Of a CR or an MSR event, what the register is to hold; else 0.
+        value: u64,
+    },
 }
 
 impl fmt::Display for Signal {
@@ -35,6 +44,7 @@ impl fmt::Display for Signal {
             Signal::Kick { vcpu, wait: true } => write!(f, "kick vCPU {vcpu} and wait"),
             Signal::Kick { vcpu, wait: false } => write!(f, "kick vCPU {vcpu}"),
             Signal::Crash { vcpu } => write!(f, "crash vCPU {vcpu}"),
+            Signal::Resume { vcpu, action, value } => write!(f, "resume vCPU {vcpu}, {action}, value {value:#x}"),
         }
     }
 }

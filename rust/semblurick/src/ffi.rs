@@ -36,8 +36,10 @@ pub struct Outcome {
     pub signal: u64,
     pub vcpu: u64,
     pub wait: u64,
+    pub action: u64,
+    pub value: u64,
     /// Kept for later; 0 in every answer.
-    pub reserved: [u64; 7],
+    pub reserved: [u64; 5],
 }
 
 /// A vCPU's record in a list that the host keeps.
@@ -91,6 +93,9 @@ extern "C" {
         vcpu: u32,
         state: *const u8,
         state_size: usize,
+        event: u32,
+        own: *const u8,
+        own_size: usize,
         out: *mut u8,
         out_size: usize,
         result: *mut Outcome,

@@ -63,7 +63,7 @@ pub mod vcpu_list;
 
 pub use answer::{Answer, Entry, Refusal, Signal};
 pub use lookup::{Access, Page, Pages};
-pub use names::{Command, CommandSet, Errno, Event, EventSet};
+pub use names::{Action, Command, CommandSet, Errno, Event, EventSet};
 pub use session::Session;
 pub use settings::{Features, Settings};
 pub use vcpu_list::Vcpu;
@@ -79,11 +79,11 @@ pub const HEADER_BYTES: usize = 8;
 /// The bytes of the longest message that a header can state.
 pub const MESSAGE_MAX: usize = HEADER_BYTES + u16::MAX as usize;
 /// The bytes of the longest event, header included.
-pub const EVENT_MAX: usize = 568;
+pub const EVENT_MAX: usize = 576;
 /// The least output for [`Session::message`].
 pub const MESSAGE_OUT: usize = 4112;
 /// The least output for [`Session::enter`].
-pub const ENTRY_OUT: usize = 552;
+pub const ENTRY_OUT: usize = 576;
 /// The bytes of a vCPU's register block.
 pub const STATE_BYTES: usize = 536;
 /// The bytes of the longest image.

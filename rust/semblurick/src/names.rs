@@ -105,6 +105,15 @@ impl From<Event> for u32 {
 }
 
 numbered! {
+    /// What a tool's reply to an event says of the vCPU.
+    Action: u8 {
+        Continue = 0 => "KVMI_EVENT_ACTION_CONTINUE",
+        Retry = 1 => "KVMI_EVENT_ACTION_RETRY",
+        Crash = 2 => "KVMI_EVENT_ACTION_CRASH",
+    }
+}
+
+numbered! {
     /// An error of a reply. Its number is the negative one that the reply holds.
     Errno: i32 {
         Eperm = -1 => "EPERM",

@@ -1,6 +1,6 @@
 //! A session, and the calls on it.
 
-use crate::{ffi, Answer, Entry, Refusal, Settings, Signal};
+use crate::{ffi, Action, Answer, Entry, Refusal, Settings, Signal};
 use core::mem::MaybeUninit;
 use core::ptr::addr_of_mut;
 
@@ -227,7 +227,12 @@ impl Session {
         let signal = match told.values.signal {
             0 => Signal::None,
             1 => Signal::Kick { vcpu, wait: told.values.wait != 0 },
-            _ => Signal::Crash { vcpu },
+            2 => Signal::Crash { vcpu },
+            _ => Signal::Resume {
+                vcpu,
+                action: if told.values.action == 1 { Action::Retry } else { Action::Continue },
+                value: told.values.value,
+            },
         };
         Ok(Answer::Handled { bytes: &out[..count], signal })
     }
@@ -241,6 +246,19 @@ impl Session {
     /// is still awaited. Tested in this order.
     #[inline]
     pub fn enter<'a>(&mut self, vcpu: u32, state: &[u8], out: &'a mut [u8]) -> Result<Entry<'a>, Refusal> {
+        self.enter_event(vcpu, state, 0u32, &[], out)
+    }
+
+    /// [`enter`](Session::enter) with an event that the vCPU met, offered by its number, and the bytes behind its state block.
+    #[inline]
+    pub fn enter_event<'a>(
+        &mut self,
+        vcpu: u32,
+        state: &[u8],
+        event: impl Into<u32>,
+        own: &[u8],
+        out: &'a mut [u8],
+    ) -> Result<Entry<'a>, Refusal> {
         // SAFETY: the session and the slices are borrowed for this call, and what is `&mut` overlaps nothing else.
         let told = unsafe {
             Told::by(|result| {
@@ -250,6 +268,9 @@ impl Session {
                     vcpu,
                     state.as_ptr(),
                     state.len(),
+                    event.into(),
+                    own.as_ptr(),
+                    own.len(),
                     out.as_mut_ptr(),
                     out.len(),
                     result,
