@@ -3,7 +3,7 @@ use Prim.Native.Nat.{ℕ, min}
 use mathlib.Core.List.{List, [], _∷_}
 use lib.ListN.{length}
 use Rattle.kvmi.specs.declared.Signal.{Signal}
-use Rattle.kvmi.specs.declared.Signal.the-variants.{Quiet, Kick, Crash}
+use Rattle.kvmi.specs.declared.Signal.the-variants.{Quiet, Kick, Crash, Resume}
 use Rattle.kvmi.specs.Answer.{Paper}
 use Rattle.kvmi.specs.Bits.{bit}
 use Rattle.kvmi.specs.Image.{image}
@@ -18,30 +18,46 @@ use Rattle.vcpu_list.specs.List.{One}
 use Rattle.calls.specs.declared.Returned.{Returned}
 use Rattle.calls.specs.declared.ListReturned.{ListReturned}
 
--- "signal: none, kick(vCPU, wait), crash(vCPU)"
+-- "signal: none, kick(vCPU, wait), crash(vCPU)", and W1's "resume(vCPU, action, new value or 0)"
 abbrev pub signalNumber : Signal → ℕ
 signalNumber Quiet = 0
 signalNumber (Kick wait vcpu) = 1
 signalNumber (Crash vcpu) = 2
+signalNumber (Resume vcpu action value) = 3
 
 abbrev pub signalVcpu : Signal → ℕ
 signalVcpu Quiet = 0
 signalVcpu (Kick wait vcpu) = vcpu
 signalVcpu (Crash vcpu) = vcpu
+signalVcpu (Resume vcpu action value) = vcpu
 
 abbrev pub signalWaits : Signal → ℕ
 signalWaits Quiet = 0
 signalWaits (Kick wait vcpu) = bit wait
 signalWaits (Crash vcpu) = 0
+signalWaits (Resume vcpu action value) = 0
+
+abbrev pub signalAction : Signal → ℕ
+signalAction Quiet = 0
+signalAction (Kick wait vcpu) = 0
+signalAction (Crash vcpu) = 0
+signalAction (Resume vcpu action value) = action
+
+abbrev pub signalValue : Signal → ℕ
+signalValue Quiet = 0
+signalValue (Kick wait vcpu) = 0
+signalValue (Crash vcpu) = 0
+signalValue (Resume vcpu action value) = value
 
 -- how many words are lent for an answer's values
 abbrev pub resultWordCount : ℕ
 resultWordCount = 12
 
--- an answer's values, as struct semblurick_result has them; seven words are not used and 0
+-- an answer's values, as struct semblurick_result has them; five words are not used and 0
 abbrev pub resultWords : Paper → List ℕ
 resultWords p =
-    p .count ∷ p .offset ∷ signalNumber (p .signal) ∷ signalVcpu (p .signal) ∷ signalWaits (p .signal) ∷ 0 ∷ 0 ∷ 0 ∷ 0 ∷ 0 ∷ 0 ∷ 0 ∷ []
+    p .count ∷ p .offset ∷ signalNumber (p .signal) ∷ signalVcpu (p .signal) ∷ signalWaits (p .signal) ∷ signalAction (p .signal) ∷ signalValue (p .signal)
+    ∷ 0 ∷ 0 ∷ 0 ∷ 0 ∷ 0 ∷ []
 
 pub record Given : Type 0 where
   pub done : Returned

@@ -15,7 +15,7 @@ ghost use Rattle.session.specs.Calls.{told};
 ghost use Rattle.vcpu_list.specs.List.{one, oneReady, oneCr};
 ghost use Rattle.calls.specs.Given.{resultWords, given, freshGiven, readyGiven, messageGiven, enterGiven, sizeGiven, writeGiven, readGiven, oneGiven};
 
-// How many words are lent for an answer's values: its five, and seven that are 0.
+// How many words are lent for an answer's values: its seven, and five that are 0.
 pub const RESULT_WORDS: usize = 12;
 
 pub type ResultWords = [u64; RESULT_WORDS];
@@ -47,6 +47,16 @@ fn put_result(result: &mut ResultWords, a: Answer) -> u32
                 Signal::Crash { vcpu } => {
                     result[2] = 2;
                     result[3] = vcpu as u64;
+                }
+                Signal::Resume {
+                    vcpu,
+                    action,
+                    value,
+                } => {
+                    result[2] = 3;
+                    result[3] = vcpu as u64;
+                    result[5] = action as u64;
+                    result[6] = value;
                 }
             }
             0
@@ -137,21 +147,23 @@ pub fn message(
     finish(done, result)
 }
 
-// A vCPU enters the guest, with its register block.
+// A vCPU enters the guest, with its register block and an event that it is offered.
 pub fn enter(
     s: Session,
     vcpus: &mut VcpuWords,
     vcpu: u32,
     block: &[u8],
+    event: u32,
+    own: &[u8],
     out: &mut [u8],
     result: &mut ResultWords,
 ) -> Returned
-    ensures { λ r. ⌜ (r ≡ enterGiven s (now (vcpus .entry)) vcpu (now (block .entry)) (now (out .entry)) .done)
-        × (now (vcpus .exit) ≡ enterGiven s (now (vcpus .entry)) vcpu (now (block .entry)) (now (out .entry)) .vcpus)
-        × (now (out .exit) ≡ enterGiven s (now (vcpus .entry)) vcpu (now (block .entry)) (now (out .entry)) .out)
-        × (now (result .exit) ≡ enterGiven s (now (vcpus .entry)) vcpu (now (block .entry)) (now (out .entry)) .result) ⌝ }
+    ensures { λ r. ⌜ (r ≡ enterGiven s (now (vcpus .entry)) vcpu (now (block .entry)) event (now (own .entry)) (now (out .entry)) .done)
+        × (now (vcpus .exit) ≡ enterGiven s (now (vcpus .entry)) vcpu (now (block .entry)) event (now (own .entry)) (now (out .entry)) .vcpus)
+        × (now (out .exit) ≡ enterGiven s (now (vcpus .entry)) vcpu (now (block .entry)) event (now (own .entry)) (now (out .entry)) .out)
+        × (now (result .exit) ≡ enterGiven s (now (vcpus .entry)) vcpu (now (block .entry)) event (now (own .entry)) (now (out .entry)) .result) ⌝ }
 {
-    let done = entry::enter(s, vcpus, vcpu_number(vcpu), block, out);
+    let done = entry::enter(s, vcpus, vcpu_number(vcpu), block, event, own, out);
     finish(done, result)
 }
 

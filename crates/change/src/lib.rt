@@ -8,6 +8,7 @@ ghost use lib.ListN.{drop};
 ghost use Rattle.wire.specs.Bytes.{store};
 ghost use Rattle.session.specs.State.{state};
 ghost use Rattle.kvmi.specs.Codes.{OK};
+ghost use Rattle.kvmi.specs.Change.{replySignal};
 ghost use Rattle.kvmi.specs.declared.Signal.the-variants.{Quiet};
 ghost use Rattle.change.specs.Effect.{enactedOf, effect, plainEffect, toolAfter, pagesEffect, pagesSet};
 
@@ -81,6 +82,23 @@ fn set_pages(tool: Tool, pages: &mut [u64], view: u16, count: u16, d: &[u8]) -> 
     e
 }
 
+// What an event's reply has the host do.
+fn reply_signal(resumes: bool, vcpu: u16, action: u32, value: u64) -> Signal
+    ensures { λ r. ⌜ r ≡ replySignal resumes vcpu action value ⌝ }
+{
+    if action == 2 {
+        return Signal::Crash { vcpu };
+    }
+    if resumes {
+        return Signal::Resume {
+            vcpu,
+            action,
+            value,
+        };
+    }
+    Signal::Quiet
+}
+
 // A change on what the tool owns and on the lent words; of all else nothing changes.
 pub fn apply(
     s: Session,
@@ -136,13 +154,14 @@ pub fn apply(
             }
             e
         }
-        Change::EndWait { crash, vcpu } => {
+        Change::EndWait {
+            resumes,
+            vcpu,
+            action,
+            value,
+        } => {
             store::words::end_wait(vcpus, vcpu);
-            if crash {
-                still(tool, 0, Signal::Crash { vcpu })
-            } else {
-                quiet(tool)
-            }
+            still(tool, 0, reply_signal(resumes, vcpu, action, value))
         }
     }
 }

@@ -1,37 +1,99 @@
 -- The entry of a vCPU as code performs it: answer, session, and every lent word and byte after it, for any bits in the session.
 use Prim.Native.Nat.{ℕ, _-_}
+use mathlib.Core.Path.{_≡_}
 use mathlib.Core.List.{List, []}
-use mathlib.Core.Bool.{cond, not}
+use mathlib.Core.Bool.{Bool, false, cond, not, _&&_}
 use lib.ListN.{length}
 use lib.Dec.{leb, ltb, eqb}
 use Rattle.kvmi.specs.declared.Signal.the-variants.{Quiet}
+use Rattle.kvmi.specs.declared.EventSwitch.{EventSwitch}
+use Rattle.kvmi.specs.declared.EventSwitch.the-variants.{Unoffered, NoEvent, OfVm, OfVcpu, OfCr, OfMsr}
 use Rattle.kvmi.specs.Limits.{eventOut, stateBytes}
+use Rattle.kvmi.specs.Bits.{isOn}
+use Rattle.kvmi.specs.Tables.{isCr, crBit}
 use Rattle.kvmi.specs.Model.{nextSeq}
-use Rattle.kvmi.specs.Reply.{pauseEvent}
-use Rattle.store.specs.Words.{field, PAUSES, AWAITED, AWAITED-SEQ}
-use Rattle.session.specs.State.{State, withField, withSeqOf, isClosed}
+use Rattle.kvmi.specs.Event.{eventRowOf, offerFits, crNamed, msrNamed}
+use Rattle.kvmi.specs.Reply.{eventBytes, pauseEvent}
+use Rattle.store.specs.Words.{field, setField, msrBitOn, CRS, EVENTS, PAUSES, AWAITED, AWAITED-SEQ}
+use Rattle.reply.specs.declared.Answered.{Answered}
+use Rattle.reply.specs.Written.{AnswerWritten}
+use Rattle.session.specs.State.{State, withVcpuWords, withSeqOf, isClosed}
 use Rattle.session.specs.Calls.{Told, toldSame, toldWritten}
 
-unfoldable pub pausingOf : State → ℕ → List ℕ → List ℕ → Told
-pausingOf st vcpu block out =
-    toldWritten (pauseEvent (st .session .tool .seq) vcpu block) Quiet
-    (withSeqOf
-    (withField (withField (withField st vcpu PAUSES (field (st .vcpus) vcpu PAUSES - 1)) vcpu AWAITED 2) vcpu AWAITED-SEQ (st .session .tool .seq))
-    (nextSeq (st .session .tool .seq)))
-    out
-    []
+-- ---- the switches that an offered event asks for, in the VM event switches and the vCPU words
+-- whether a vCPU's switch for a control register is on; one other than CR0, CR3 and CR4 has none
+unfoldable pub crBitOn : List ℕ → ℕ → ℕ → Bool
+crBitOn w vcpu cr = isCr cr && isOn (field w vcpu CRS) (crBit cr)
 
-unfoldable pub enterOf : State → ℕ → List ℕ → List ℕ → Told
-enterOf st vcpu block out =
-    cond (isClosed st) (toldSame 2 st out [])
-    (cond (leb (st .session .settings .vcpus) vcpu) (toldSame 4 st out [])
-    (cond (not (eqb (length block) stateBytes)) (toldSame 5 st out [])
-    (cond (ltb (length out) eventOut) (toldSame 3 st out [])
-    (cond (not (eqb (field (st .vcpus) vcpu AWAITED) 0)) (toldSame 6 st out [])
-    (cond (leb 1 (field (st .vcpus) vcpu PAUSES)) (pausingOf st vcpu block out) (toldWritten [] Quiet st out []))))))
+unfoldable pub askedForBy : ℕ → List ℕ → ℕ → ℕ → List ℕ → EventSwitch → Bool
+askedForBy vmEvents w vcpu event own Unoffered = false
+askedForBy vmEvents w vcpu event own NoEvent = false
+askedForBy vmEvents w vcpu event own OfVm = isOn vmEvents event
+askedForBy vmEvents w vcpu event own OfVcpu = isOn (field w vcpu EVENTS) event
+askedForBy vmEvents w vcpu event own OfCr = isOn (field w vcpu EVENTS) event && crBitOn w vcpu (crNamed own)
+askedForBy vmEvents w vcpu event own OfMsr = isOn (field w vcpu EVENTS) event && msrBitOn w vcpu (msrNamed own)
+
+unfoldable pub isAskedForOf : ℕ → List ℕ → ℕ → ℕ → List ℕ → Bool
+isAskedForOf vmEvents w vcpu event own = askedForBy vmEvents w vcpu event own (eventRowOf event .switch)
+
+-- ---- what goes out: bytes, the vCPU words after it, and the next event's seq
+pub record Sent : Type 0 where
+  pub bytes : List ℕ
+  pub vcpus : List ℕ
+  pub next : ℕ
+
+-- the reply to an event is awaited
+unfoldable pub awaitingWords : List ℕ → ℕ → ℕ → ℕ → List ℕ
+awaitingWords w vcpu event seq = setField (setField w vcpu AWAITED event) vcpu AWAITED-SEQ seq
+
+-- the offered event
+unfoldable pub sendingOf : List ℕ → ℕ → ℕ → List ℕ → ℕ → List ℕ → Sent
+sendingOf w vcpu seq block event own =
+    record { bytes = eventBytes seq vcpu event block own; vcpus = awaitingWords w vcpu event seq; next = nextSeq seq }
+
+-- a pause from the queue
+unfoldable pub pausingOf : List ℕ → ℕ → ℕ → List ℕ → Sent
+pausingOf w vcpu seq block =
+    record {
+      bytes = pauseEvent seq vcpu block;
+      vcpus = awaitingWords (setField w vcpu PAUSES (field w vcpu PAUSES - 1)) vcpu 2 seq;
+      next = nextSeq seq;
+    }
+
+-- nothing
+abbrev pub nothingSent : List ℕ → ℕ → Sent
+nothingSent w seq = record { bytes = []; vcpus = w; next = seq }
+
+-- a queued pause, or nothing
+unfoldable pub unqueueingOf : List ℕ → ℕ → ℕ → List ℕ → Sent
+unqueueingOf w vcpu seq block = cond (leb 1 (field w vcpu PAUSES)) (pausingOf w vcpu seq block) (nothingSent w seq)
+
+-- what a function that writes it has done: the words after it, the output before and after, and what is returned
+pub record Went (vcpus before after : List ℕ) (r : Answered) (x : Sent) : Type 0 where
+  pub written : AnswerWritten before after r (x .bytes) (x .next)
+  pub words : vcpus ≡ x .vcpus
+
+-- offered event, then pause
+unfoldable pub sentOf : State → ℕ → List ℕ → ℕ → List ℕ → Sent
+sentOf st vcpu block event own =
+    cond (isAskedForOf (st .session .tool .events) (st .vcpus) vcpu event own)
+    (sendingOf (st .vcpus) vcpu (st .session .tool .seq) block event own)
+    (unqueueingOf (st .vcpus) vcpu (st .session .tool .seq) block)
+
+-- ---- the call
+abbrev pub toldSent : State → Sent → List ℕ → Told
+toldSent st x out = toldWritten (x .bytes) Quiet (withSeqOf (withVcpuWords st (x .vcpus)) (x .next)) out []
 
 -- the part behind the tests of the arguments
-unfoldable pub enteredOf : State → ℕ → List ℕ → List ℕ → Told
-enteredOf st vcpu block out =
+unfoldable pub enteredOf : State → ℕ → List ℕ → ℕ → List ℕ → List ℕ → Told
+enteredOf st vcpu block event own out =
     cond (not (eqb (field (st .vcpus) vcpu AWAITED) 0)) (toldSame 6 st out [])
-    (cond (leb 1 (field (st .vcpus) vcpu PAUSES)) (pausingOf st vcpu block out) (toldWritten [] Quiet st out []))
+    (toldSent st (sentOf st vcpu block event own) out)
+
+unfoldable pub enterOf : State → ℕ → List ℕ → ℕ → List ℕ → List ℕ → Told
+enterOf st vcpu block event own out =
+    cond (isClosed st) (toldSame 2 st out [])
+    (cond (leb (st .session .settings .vcpus) vcpu) (toldSame 4 st out [])
+    (cond (not (eqb (length block) stateBytes && offerFits event own)) (toldSame 5 st out [])
+    (cond (ltb (length out) eventOut) (toldSame 3 st out [])
+    (enteredOf st vcpu block event own out))))

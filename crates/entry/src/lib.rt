@@ -1,50 +1,172 @@
-// The call by which a vCPU enters the guest.
+// The call by which a vCPU enters the guest: an event that it is offered goes out if the tool asked for it, or else a queued pause.
 use kvmi::Answer;
+use kvmi::EventSwitch;
+use reply::Answered;
 use session::Done;
 use session::Session;
 use store::words::VcpuWords;
 ghost use mathlib.Core.Path.{_≡_};
 ghost use mathlib.Core.List.{List, []};
-ghost use Prim.Native.Nat.{ℕ};
+ghost use Prim.Native.Nat.{ℕ, _≤_};
+ghost use lib.ListN.{length};
+ghost use Rattle.kvmi.specs.Event.{offerFits};
 ghost use Rattle.session.specs.State.{state};
 ghost use Rattle.session.specs.Calls.{told};
-ghost use Rattle.entry.specs.Entry.{enterOf, enteredOf};
+ghost use Rattle.store.specs.Words.{field, PAUSES};
+ghost use Rattle.entry.specs.Entry.{isAskedForOf, crBitOn, awaitingWords, Went, sendingOf, unqueueingOf, enteredOf, enterOf};
 
-// The least output that an entry is given: a pause event's bytes.
-pub const EVENT_OUT: usize = 552;
+// The least output that an entry is given: the bytes of a CR or an MSR event.
+pub const EVENT_OUT: usize = 576;
+
+// Whether an event's number is one that can be offered, and its own bytes are as many as it has.
+fn offer_fits(event: u32, own: &[u8]) -> bool
+    ensures { λ r. ⌜ r ≡ offerFits event (now (own .entry)) ⌝ }
+{
+    let row = kvmi::events::row(event as u64);
+    let switch = row.switch;
+    match switch {
+        EventSwitch::Unoffered => false,
+        _ => own.len() == row.own,
+    }
+}
+
+// Whether a vCPU's switch for a control register is on; what has none is off.
+fn cr_on(vcpus: &[u64], vcpu: u16, cr: u32) -> bool
+    ensures { λ r. ⌜ r ≡ crBitOn (now (vcpus .entry)) vcpu cr ⌝ }
+{
+    if !tests::is_cr(cr) {
+        return false;
+    }
+    let crs = store::words::read_field(vcpus, vcpu, store::words::CRS);
+    kvmi::bits::is_on(crs, store::bits::cr_bit(cr))
+}
+
+// Whether the tool asked for an event: the switches that its row names are on.
+fn is_asked_for(vm_events: u64, vcpus: &[u64], vcpu: u16, event: u32, own: &[u8]) -> bool
+    ensures { λ r. ⌜ r ≡ isAskedForOf vm_events (now (vcpus .entry)) vcpu event (now (own .entry)) ⌝ }
+{
+    let row = kvmi::events::row(event as u64);
+    let switch = row.switch;
+    match switch {
+        EventSwitch::Unoffered => false,
+        EventSwitch::NoEvent => false,
+        EventSwitch::OfVm => kvmi::bits::is_on(vm_events, event),
+        EventSwitch::OfVcpu => {
+            let events = store::words::read_field(vcpus, vcpu, store::words::EVENTS);
+            kvmi::bits::is_on(events, event)
+        }
+        EventSwitch::OfCr => {
+            let events = store::words::read_field(vcpus, vcpu, store::words::EVENTS);
+            let cr = wire::load16(own, 0) as u32;
+            kvmi::bits::is_on(events, event) & cr_on(vcpus, vcpu, cr)
+        }
+        EventSwitch::OfMsr => {
+            let events = store::words::read_field(vcpus, vcpu, store::words::EVENTS);
+            let msr = wire::load32(own, 0);
+            kvmi::bits::is_on(events, event) & store::words::read_msr(vcpus, vcpu, msr)
+        }
+    }
+}
+
+// The reply to an event is awaited.
+fn await_reply(vcpus: &mut [u64], vcpu: u16, event: u32, seq: u32)
+    ensures { λ _. ⌜ now (vcpus .exit) ≡ awaitingWords (now (vcpus .entry)) vcpu event seq ⌝ }
+{
+    store::words::write_field(vcpus, vcpu, store::words::AWAITED, event as u64);
+    store::words::write_field(vcpus, vcpu, store::words::AWAITED_SEQ, seq as u64);
+}
+
+// The offered event goes out.
+fn send(
+    vcpus: &mut [u64],
+    vcpu: u16,
+    seq: u32,
+    block: &[u8],
+    event: u32,
+    own: &[u8],
+    out: &mut [u8],
+) -> Answered
+    requires { ⌜ length (now own) ≤ 65535 ⌝ }
+    ensures { λ r. ⌜ Went (now (vcpus .exit)) (now (out .entry)) (now (out .exit)) r (sendingOf (now (vcpus .entry)) vcpu seq (now (block .entry)) event (now (own .entry))) ⌝ }
+{
+    reply::event(out, seq, vcpu as u32, (event % 256) as u8, block, own);
+    await_reply(vcpus, vcpu, event, seq);
+    Answered {
+        count: block.len() + own.len() + 16,
+        next: reply::next_seq(seq),
+    }
+}
+
+// A queued pause goes out, if there is one.
+fn unqueue(
+    vcpus: &mut [u64],
+    vcpu: u16,
+    queued: u64,
+    seq: u32,
+    block: &[u8],
+    out: &mut [u8],
+) -> Answered
+    ensures { λ r. ⌜ (queued ≡ field (now (vcpus .entry)) vcpu PAUSES → Went (now (vcpus .exit)) (now (out .entry)) (now (out .exit)) r (unqueueingOf (now (vcpus .entry)) vcpu seq (now (block .entry)))) ⌝ }
+{
+    if queued == 0 {
+        return Answered {
+            count: 0,
+            next: seq,
+        };
+    }
+    let count = reply::pause_event(out, seq, vcpu as u32, block);
+    store::words::write_field(vcpus, vcpu, store::words::PAUSES, queued - 1);
+    await_reply(vcpus, vcpu, 2, seq);
+    Answered {
+        count,
+        next: reply::next_seq(seq),
+    }
+}
 
 // The rest of an entry whose arguments are in order.
-fn enter_open(s: Session, vcpus: &mut [u64], vcpu: u16, block: &[u8], out: &mut [u8]) -> Done
-    ensures { λ r. ⌜ ((p : List ℕ) → told r (now (vcpus .exit)) p (now (out .exit)) [] ≡ enteredOf (state s (now (vcpus .entry)) p) vcpu (now (block .entry)) (now (out .entry))) ⌝ }
+fn enter_open(
+    s: Session,
+    vcpus: &mut [u64],
+    vcpu: u16,
+    block: &[u8],
+    event: u32,
+    own: &[u8],
+    out: &mut [u8],
+) -> Done
+    requires { ⌜ length (now own) ≤ 65535 ⌝ }
+    ensures { λ r. ⌜ ((p : List ℕ) → told r (now (vcpus .exit)) p (now (out .exit)) [] ≡ enteredOf (state s (now (vcpus .entry)) p) vcpu (now (block .entry)) event (now (own .entry)) (now (out .entry))) ⌝ }
 {
-    let awaited = store::words::read_field(vcpus, vcpu, store::words::AWAITED);
-    if awaited != 0 {
+    let pending = store::words::read_pending(vcpus, vcpu);
+    if pending.awaited != 0 {
         return Done {
             answer: Answer::Waiting,
             session: s,
         };
     }
-    let queued = store::words::read_field(vcpus, vcpu, store::words::PAUSES);
-    if queued == 0 {
-        return Done {
-            answer: kvmi::answers::done(),
-            session: s,
-        };
-    }
     let seq = s.tool.seq;
-    let count = reply::pause_event(out, seq, vcpu as u32, block);
-    store::words::write_field(vcpus, vcpu, store::words::PAUSES, queued - 1);
-    store::words::write_field(vcpus, vcpu, store::words::AWAITED, 2);
-    store::words::write_field(vcpus, vcpu, store::words::AWAITED_SEQ, seq as u64);
+    let went = if is_asked_for(s.tool.events, vcpus, vcpu, event, own) {
+        send(vcpus, vcpu, seq, block, event, own, out)
+    } else {
+        unqueue(vcpus, vcpu, pending.pauses, seq, block, out)
+    };
     Done {
-        answer: kvmi::answers::wrote(count),
-        session: s.with_seq(reply::next_seq(seq)),
+        answer: kvmi::answers::wrote(went.count),
+        session: s.with_seq(went.next),
     }
 }
 
-// A vCPU enters the guest: with a pause queued, its event is written and its reply awaited.
-pub fn enter(s: Session, vcpus: &mut VcpuWords, vcpu: u16, block: &[u8], out: &mut [u8]) -> Done
-    ensures { λ r. ⌜ ((p : List ℕ) → told r (now (vcpus .exit)) p (now (out .exit)) [] ≡ enterOf (state s (now (vcpus .entry)) p) vcpu (now (block .entry)) (now (out .entry))) ⌝ }
+// A vCPU enters the guest, with its register block. It is offered an event by its number (0: none), with the event's own bytes. What goes
+// out is awaited.
+pub fn enter(
+    s: Session,
+    vcpus: &mut VcpuWords,
+    vcpu: u16,
+    block: &[u8],
+    event: u32,
+    own: &[u8],
+    out: &mut [u8],
+) -> Done
+    ensures { λ r. ⌜ ((p : List ℕ) → told r (now (vcpus .exit)) p (now (out .exit)) [] ≡ enterOf (state s (now (vcpus .entry)) p) vcpu (now (block .entry)) event (now (own .entry)) (now (out .entry))) ⌝ }
 {
     if s.tool.opened == 0 {
         return Done {
@@ -58,7 +180,7 @@ pub fn enter(s: Session, vcpus: &mut VcpuWords, vcpu: u16, block: &[u8], out: &m
             session: s,
         };
     }
-    if block.len() != reply::STATE_BYTES {
+    if (block.len() != reply::STATE_BYTES) | !offer_fits(event, own) {
         return Done {
             answer: Answer::BadState,
             session: s,
@@ -70,5 +192,5 @@ pub fn enter(s: Session, vcpus: &mut VcpuWords, vcpu: u16, block: &[u8], out: &m
             session: s,
         };
     }
-    enter_open(s, vcpus, vcpu, block, out)
+    enter_open(s, vcpus, vcpu, block, event, own, out)
 }

@@ -1,9 +1,12 @@
 // EVENT_REPLY: whether it is the reply that its vCPU awaits, and what it says. It takes any data.
 use kvmi::Change;
+use kvmi::EventRow;
 use kvmi::Facts;
 use kvmi::Verdict;
 ghost use mathlib.Core.Path.{_≡_};
-ghost use Rattle.kvmi.specs.Verdict.{isAwaited, eventReplyVerdict};
+ghost use Rattle.kvmi.specs.Message.{actionOf};
+ghost use Rattle.kvmi.specs.Event.{newValue};
+ghost use Rattle.kvmi.specs.Verdict.{isAwaited, replyFits, eventReplyVerdict};
 
 // Whether a vCPU awaits a reply, and this is it.
 fn is_awaited(facts: Facts, seq: u32, event: u8) -> bool
@@ -13,17 +16,34 @@ fn is_awaited(facts: Facts, seq: u32, event: u8) -> bool
     awaits & (facts.awaited == event as u64)
 }
 
+// Whether a reply has the size of the awaited event's, and an action that it takes.
+fn reply_fits(row: EventRow, d: &[u8], action: u8) -> bool
+    ensures { λ r. ⌜ (action ≡ actionOf (now (d .entry)) → r ≡ replyFits row (now (d .entry))) ⌝ }
+{
+    let takes = (action == 0) | (action == 2) | (action == 1) & row.retry;
+    (d.len() == row.reply) & takes
+}
+
+// The value of a reply that has one, or 0.
+fn new_value(row: EventRow, d: &[u8]) -> u64
+    ensures { λ r. ⌜ r ≡ newValue row (now (d .entry)) ⌝ }
+{
+    if row.valued { wire::load64(d, 16) } else { 0 }
+}
+
 // EVENT_REPLY never fails: it closes the session unless all of it is as it should be.
 pub fn judge_reply(facts: Facts, seq: u32, d: &[u8]) -> Verdict
     ensures { λ r. ⌜ r ≡ eventReplyVerdict facts seq (now (d .entry)) ⌝ }
 {
     let action = wire::byte(d, 8);
+    let row = kvmi::events::row(facts.awaited);
     let clean = padding::of_event_reply(d) == 0;
-    let acts = (action == 0) | (action == 2);
-    if clean & is_awaited(facts, seq, wire::byte(d, 9)) & acts {
+    if clean & is_awaited(facts, seq, wire::byte(d, 9)) & reply_fits(row, d, action) {
         let change = Change::EndWait {
             vcpu: wire::load16(d, 0),
-            crash: action == 2,
+            resumes: facts.awaited != 2,
+            action: action as u32,
+            value: new_value(row, d),
         };
         return Verdict::Does(change);
     }

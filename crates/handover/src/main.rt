@@ -140,7 +140,7 @@ fn mark_ready(held: Held, vcpu: u16) -> Held {
 fn enter(held: Held, vcpus: &mut VcpuWords, vcpu: u16) -> Held {
     let block = [0u8; reply::STATE_BYTES];
     let mut out = [0u8; 4112];
-    let done = entry::enter(held.session, vcpus, vcpu, &block, &mut out);
+    let done = entry::enter(held.session, vcpus, vcpu, &block, 0, &[], &mut out);
     move_to(b'E', held, done)
 }
 

@@ -3,7 +3,7 @@
 use Prim.Native.Nat.{ℕ, _-_}
 use mathlib.Core.Path.{_≡_}
 use mathlib.Core.List.{List, [], _∷_, _++_}
-use mathlib.Core.Bool.{Bool, true, false, cond, not, _||_}
+use mathlib.Core.Bool.{Bool, true, false, cond, not, _&&_, _||_}
 use mathlib.Core.Option.{Option, none, some}
 use lib.IntN.{ℤ}
 use lib.ListN.{length, drop}
@@ -23,9 +23,10 @@ use Rattle.kvmi.specs.Settings.{inRange}
 use Rattle.kvmi.specs.Tables.{Tables, vcpuAt, withReady, withPauses}
 use Rattle.kvmi.specs.Model.{Awaited, awaiting, Model, begun, fresh, closedModel, withSeq, setAwaited, awaitedBy, onVcpu, nextSeq, isSome}
 use Rattle.kvmi.specs.Message.{layoutOf, vcpuOf}
+use Rattle.kvmi.specs.Event.{offerFits, isAskedFor}
 use Rattle.kvmi.specs.Verdict.{verdict, factsOf}
 use Rattle.kvmi.specs.Change.{apply, signalOf, modeFor}
-use Rattle.kvmi.specs.Reply.{replyData, pauseEvent, answerOf, answerSeq}
+use Rattle.kvmi.specs.Reply.{replyData, eventBytes, pauseEvent, answerOf, answerSeq}
 use Rattle.kvmi.specs.Image.{Loaded, loaded, badForm, forbidden, image, loadImage}
 
 -- what a call gives and leaves: its answer, output, guest memory, and the model
@@ -114,21 +115,38 @@ readyStep s m vcpu =
     (writing [] Quiet [] [] (onVcpu m vcpu (λ v. withReady v true))))
 
 -- ---- "Entry of a vCPU into the guest": "2, 4, 5, 3, 6"
+-- an event that was sent with the next seq: "The awaited record now holds which event it is"
+abbrev pub awaitingReply : Model → ℕ → ℕ → Model
+awaitingReply m vcpu event = withSeq (setAwaited m vcpu (some (awaiting event (m .seq)))) (nextSeq (m .seq))
+
+-- the offered event goes out
+unfoldable pub sending : Model → ℕ → List ℕ → ℕ → List ℕ → List ℕ → Step
+sending m vcpu state event own out = writing (eventBytes (m .seq) vcpu event state own) Quiet out [] (awaitingReply m vcpu event)
+
 -- "with a pause queued, writes the pause event (552 bytes), one pause less, reply awaited; else 0 bytes"
 unfoldable pub pausing : Model → ℕ → List ℕ → List ℕ → Step
 pausing m vcpu state out =
     writing (pauseEvent (m .seq) vcpu state) Quiet out []
-    (withSeq (setAwaited (onVcpu m vcpu (λ v. withPauses v (v .pauses - 1))) vcpu (some (awaiting 2 (m .seq)))) (nextSeq (m .seq)))
+    (awaitingReply (onVcpu m vcpu (λ v. withPauses v (v .pauses - 1))) vcpu 2)
 
--- 2 closed; 4 bad vCPU; 5 bad state block, not 536 bytes; 3 short out, below 552; 6 waiting
-unfoldable pub enterStep : Settings → Model → ℕ → List ℕ → List ℕ → Step
-enterStep s m vcpu state out =
+-- a queued pause, or nothing
+unfoldable pub unqueueing : Model → ℕ → List ℕ → List ℕ → Step
+unqueueing m vcpu state out = cond (leb 1 (vcpuAt (m .tables) vcpu .pauses)) (pausing m vcpu state out) (writing [] Quiet out [] m)
+
+-- "Entry order: offered event, then pause."; "a switched-off event is passed over and a queued pause goes instead"
+unfoldable pub entering : Model → ℕ → List ℕ → ℕ → List ℕ → List ℕ → Step
+entering m vcpu state event own out =
+    cond (isAskedFor (m .tables) vcpu event own) (sending m vcpu state event own out) (unqueueing m vcpu state out)
+
+-- 2 closed; 4 bad vCPU; 5 bad state block, not 536 bytes, or an offer that does not fit; 3 short out, below 576; 6 waiting
+unfoldable pub enterStep : Settings → Model → ℕ → List ℕ → ℕ → List ℕ → List ℕ → Step
+enterStep s m vcpu state event own out =
     cond (m .closed) (unchanged 2 m out [])
     (cond (leb (s .vcpus) vcpu) (unchanged 4 m out [])
-    (cond (not (eqb (length state) stateBytes)) (unchanged 5 m out [])
+    (cond (not (eqb (length state) stateBytes && offerFits event own)) (unchanged 5 m out [])
     (cond (ltb (length out) eventOut) (unchanged 3 m out [])
     (cond (isSome (awaitedBy m vcpu)) (unchanged 6 m out [])
-    (cond (leb 1 (vcpuAt (m .tables) vcpu .pauses)) (pausing m vcpu state out) (writing [] Quiet out [] m))))))
+    (entering m vcpu state event own out)))))
 
 -- ---- image writing: "2, 10, 3"
 abbrev pub awaitsAny : List (Option Awaited) → Bool
@@ -149,8 +167,8 @@ pub data Call : Type 0 where
   message : List ℕ → List ℕ → List ℕ → Call
   -- vCPU
   ready : ℕ → Call
-  -- vCPU, register block, output
-  enter : ℕ → List ℕ → List ℕ → Call
+  -- vCPU, register block, offered event (0: none), its own bytes, output
+  enter : ℕ → List ℕ → ℕ → List ℕ → List ℕ → Call
   -- output
   writeImage : List ℕ → Call
 
@@ -158,7 +176,7 @@ pub data Call : Type 0 where
 unfoldable pub step : Settings → Model → Call → Step
 step s m (message msg out guest) = messageStep s m msg out guest
 step s m (ready vcpu) = readyStep s m vcpu
-step s m (enter vcpu state out) = enterStep s m vcpu state out
+step s m (enter vcpu state event own out) = enterStep s m vcpu state event own out
 step s m (writeImage out) = imageStep m out
 
 -- the model after a call

@@ -10,7 +10,7 @@ use lib.Dec.{leb, eqb}
 use Rattle.wire.specs.Bytes.{store}
 use Rattle.kvmi.specs.declared.ReplyMode.{ReplyMode}
 use Rattle.kvmi.specs.declared.Signal.{Signal}
-use Rattle.kvmi.specs.declared.Signal.the-variants.{Quiet, Kick, Crash}
+use Rattle.kvmi.specs.declared.Signal.the-variants.{Quiet, Kick, Crash, Resume}
 use Rattle.kvmi.specs.declared.Change.{Change}
 use Rattle.kvmi.specs.declared.Change.the-variants.{Nothing, SetVmEvent, WritePhysical, QueuePause, SetVcpuEvent, SetCr, SetMsr, SetPages, SetSinglestep, SetReplies, EndWait}
 use Rattle.kvmi.specs.Limits.{pageLimit}
@@ -86,15 +86,15 @@ apply m guest d (SetPages view count) =
     appliedRun m guest (takeEntries pageLimit view (entriesOf count (drop 8 d)) (record { pages = m .tables .pages; skipped = false }))
 apply m guest d (SetSinglestep on vcpu) = applied (onVcpu m vcpu (λ v. withSinglestep v on)) guest
 apply m guest d (SetReplies now mode) = applied (withMode m mode) guest
-apply m guest d (EndWait crash vcpu) = applied (setAwaited m vcpu none) guest
+apply m guest d (EndWait resumes vcpu action value) = applied (setAwaited m vcpu none) guest
 
 -- ---- what else a change decides
--- "A crash is signalled; the session stays open."
-abbrev pub crashing : ℕ → Bool → Signal
-crashing vcpu true = Crash vcpu
-crashing vcpu false = Quiet
+-- of an event's reply: "A crash is signalled; the session stays open."; "Such a continue or retry, unlike a pause's, is signalled as resume(vCPU, action,
+-- new value or 0)."
+abbrev pub replySignal : Bool → ℕ → ℕ → ℕ → Signal
+replySignal resumes vcpu action value = cond (eqb action 2) (Crash vcpu) (cond resumes (Resume vcpu action value) Quiet)
 
--- "signal: none, kick(vCPU, wait), crash(vCPU)": a kick for message 9
+-- "signal: none, kick(vCPU, wait), crash(vCPU)", and resume: a kick for message 9
 abbrev pub signalOf : Change → Signal
 signalOf Nothing = Quiet
 signalOf (SetVmEvent on event) = Quiet
@@ -106,7 +106,7 @@ signalOf (SetMsr on vcpu msr) = Quiet
 signalOf (SetPages view count) = Quiet
 signalOf (SetSinglestep on vcpu) = Quiet
 signalOf (SetReplies now mode) = Quiet
-signalOf (EndWait crash vcpu) = crashing vcpu crash
+signalOf (EndWait resumes vcpu action value) = replySignal resumes vcpu action value
 
 -- the mode by which a message is answered: "message 15 with now 1 applies to its own reply, with now 0 from the next message"
 abbrev pub modeFor : ReplyMode → Change → ReplyMode
@@ -120,4 +120,4 @@ modeFor old (SetMsr on vcpu msr) = old
 modeFor old (SetPages view count) = old
 modeFor old (SetSinglestep on vcpu) = old
 modeFor old (SetReplies now mode) = cond now mode old
-modeFor old (EndWait crash vcpu) = old
+modeFor old (EndWait resumes vcpu action value) = old

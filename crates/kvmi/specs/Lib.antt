@@ -9,6 +9,7 @@ pub mod Answer
 pub mod Tables
 pub mod Model
 pub mod Message
+pub mod Event
 pub mod Verdict
 pub mod Change
 pub mod Reply

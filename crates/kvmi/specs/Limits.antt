@@ -13,9 +13,9 @@ pauseLimit = 8
 abbrev pub leastOut : ℕ
 leastOut = 4112
 
--- "552 (entry)": a pause event's bytes
+-- "entry output below 576 is answer 3": the bytes of a CR or an MSR event
 abbrev pub eventOut : ℕ
-eventOut = 552
+eventOut = 576
 
 -- "536 copied state bytes"
 abbrev pub stateBytes : ℕ

@@ -7,7 +7,7 @@ use lib.ListN.{length, getD, take, drop}
 use lib.Dec.{leb, eqb}
 use Rattle.wire.specs.Bytes.{load}
 use Rattle.kvmi.specs.declared.SizeRule.{SizeRule}
-use Rattle.kvmi.specs.declared.SizeRule.the-variants.{Exactly, SizeField, Entries, Unruled}
+use Rattle.kvmi.specs.declared.SizeRule.the-variants.{Exactly, SizeField, Entries, ByEvent, Unruled}
 use Rattle.kvmi.specs.declared.ReplyKind.{ReplyKind}
 use Rattle.kvmi.specs.declared.ReplyKind.the-variants.{CodeOnly, WithData, Silent}
 use Rattle.kvmi.specs.declared.Handler.{Handler}
@@ -42,7 +42,7 @@ messages =
     ∷ row Entries CodeOnly VmSetPageAccess
     ∷ row (Exactly 16) CodeOnly VcpuControlSinglestep
     ∷ row (Exactly 8) CodeOnly VmControlCmdResponse
-    ∷ row (Exactly 16) Silent EventReply
+    ∷ row ByEvent Silent EventReply
     ∷ []
 
 -- an id's row
@@ -54,6 +54,8 @@ unfoldable pub sizeFits : SizeRule → List ℕ → Bool
 sizeFits (Exactly n) d = eqb (length d) n
 sizeFits SizeField d = leb 16 (length d) && eqb (length d) (16 + load 8 d 8)
 sizeFits Entries d = leb 8 (length d)
+-- of EVENT_REPLY: that it is the awaited event's is asked with the rest of its rule, where every miss closes, too
+sizeFits ByEvent d = leb 16 (length d)
 sizeFits Unruled d = true
 
 -- the last column, "Reply data"

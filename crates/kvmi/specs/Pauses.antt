@@ -6,7 +6,7 @@ use lib.ListN.{getD}
 use lib.Dec.{eqb}
 use Rattle.kvmi.specs.declared.Settings.{Settings}
 use Rattle.kvmi.specs.declared.Signal.{Signal}
-use Rattle.kvmi.specs.declared.Signal.the-variants.{Quiet, Kick, Crash}
+use Rattle.kvmi.specs.declared.Signal.the-variants.{Quiet, Kick, Crash, Resume}
 use Rattle.kvmi.specs.Bits.{bit}
 use Rattle.kvmi.specs.Answer.{Paper}
 use Rattle.kvmi.specs.Tables.{vcpuAt}
@@ -18,6 +18,7 @@ abbrev pub kicks : ℕ → Signal → ℕ
 kicks vcpu Quiet = 0
 kicks vcpu (Kick wait v) = bit (eqb v vcpu)
 kicks vcpu (Crash v) = 0
+kicks vcpu (Resume v action value) = 0
 
 -- by a call's answer
 unfoldable pub accepted : ℕ → Paper → ℕ
@@ -27,7 +28,7 @@ accepted vcpu a = kicks vcpu (a .signal)
 unfoldable pub sent : ℕ → Call → Paper → List ℕ → ℕ
 sent vcpu (message msg out guest) a wrote = 0
 sent vcpu (ready v) a wrote = 0
-sent vcpu (enter v block out) a wrote = bit (eqb v vcpu && (not (eqb (a .count) 0) && eqb (getD wrote 12 0) 2))
+sent vcpu (enter v block event own out) a wrote = bit (eqb v vcpu && (not (eqb (a .count) 0) && eqb (getD wrote 12 0) 2))
 sent vcpu (writeImage out) a wrote = 0
 
 -- the pauses that a vCPU has queued

@@ -4,7 +4,7 @@ use mathlib.Core.List.{List, [], _∷_}
 use mathlib.Core.Bool.{Bool, true, false, cond, not, _&&_, _||_}
 use mathlib.Core.Option.{Option, none, some}
 use lib.IntN.{ℤ}
-use lib.ListN.{getD, drop}
+use lib.ListN.{length, getD, drop}
 use lib.Dec.{leb, eqb}
 use Rattle.kvmi.specs.declared.Settings.{Settings}
 use Rattle.kvmi.specs.declared.ReplyMode.{ReplyMode}
@@ -20,6 +20,8 @@ use Rattle.kvmi.specs.Codes.{EPERM, ENOENT, EAGAIN, EBUSY, EINVAL, EOPNO
 use Rattle.kvmi.specs.Settings.{allowsCommand, allowsEvent, canSinglestep, uncatchable, heldByHost}
 use Rattle.kvmi.specs.Tables.{isCr, isMsr, vcpuAt}
 use Rattle.kvmi.specs.Model.{Awaited, Model, awaitedBy}
+use Rattle.kvmi.specs.declared.EventRow.{EventRow}
+use Rattle.kvmi.specs.Event.{eventRowOf, takesAction, newValue}
 use Rattle.kvmi.specs.Message.{layoutOf, sizeFits, carriesData, namesVcpu, vcpuOf, commandOf, enables, isNow, hasFlag, actionOf, repliedEvent, switchesAt, eventOf, registerOf, gpaOf, sizeOf, countOf, countFits, viewOf, Entry, entriesOf, firstPadding, takesEvent}
 
 -- the event that a vCPU awaits a reply to, 0 for none, and its seq
@@ -134,15 +136,20 @@ commandVerdict s f id d =
     (cond (isAbsent f id d) (Fails ENOENT)
     (cond (losesErrors s id d) Closes (Does (changeOf id d))))))))
 
--- ---- "An EVENT_REPLY closes unless padding is zero, the vCPU awaits one, seq and event match, and the action is 0 continue or 2 crash"
+-- ---- "An EVENT_REPLY closes unless padding is zero, the vCPU awaits one, seq and event match, and the action is 0 continue or 2 crash"; and W1: "Replies
+-- carry 24 data bytes for CR and MSR [..], and 16 otherwise", "Retry is taken for BREAKPOINT and DESCRIPTOR only", "a wrong reply closes"
 unfoldable pub isAwaited : Facts → ℕ → ℕ → Bool
 isAwaited f seq event = not (eqb (f .awaited) 0) && eqb (f .seq) seq && eqb (f .awaited) event
 
--- "Once taken, it is awaited no more. A crash is signalled"
+-- its size and its action are those of the awaited event's row
+unfoldable pub replyFits : EventRow → List ℕ → Bool
+replyFits r d = eqb (length d) (r .reply) && takesAction r (actionOf d)
+
+-- "Once taken, it is awaited no more. A crash is signalled"; "Such a continue or retry, unlike a pause's, is signalled": a pause is event 2
 unfoldable pub eventReplyVerdict : Facts → ℕ → List ℕ → Verdict
 eventReplyVerdict f seq d =
-    cond (eqb (firstPadding 16 d) 0 && isAwaited f seq (repliedEvent d) && among (actionOf d) (0 ∷ 2 ∷ []))
-    (Does (EndWait (eqb (actionOf d) 2) (vcpuOf d)))
+    cond (eqb (firstPadding 16 d) 0 && isAwaited f seq (repliedEvent d) && replyFits (eventRowOf (f .awaited)) d)
+    (Does (EndWait (not (eqb (f .awaited) 2)) (vcpuOf d) (actionOf d) (newValue (eventRowOf (f .awaited)) d)))
     Closes
 
 -- ---- tests 2 to 6

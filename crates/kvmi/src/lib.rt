@@ -1,6 +1,7 @@
 // KVMI as the filter speaks it: the types that every layer shares. Ids, events, errors and actions have kvmi.rst's names.
 pub mod answers;
 pub mod bits;
+pub mod events;
 pub mod table;
 
 // How many pages a view has, 2^52.
@@ -39,6 +40,8 @@ pub enum Signal {
     Quiet,
     Kick { wait: bool, vcpu: u16 },
     Crash { vcpu: u16 },
+    // A vCPU goes on from an event that it was offered: 0 continue or 1 retry, and the register's new value or 0.
+    Resume { vcpu: u16, action: u32, value: u64 },
 }
 
 // The values of answer 0: how many bytes were written, and what the host is to do.
@@ -70,6 +73,8 @@ pub enum SizeRule {
     SizeField,
     // At least 8; that 16 follow for each entry that it counts is tested later.
     Entries,
+    // At least 16; that it is the size of the reply to the awaited event is tested later.
+    ByEvent,
     // Of an unknown id: no rule.
     Unruled,
 }
@@ -109,6 +114,28 @@ pub struct Layout {
     pub handler: Handler,
 }
 
+// The switch that an event asks for before it is sent: the VM's, the vCPU's, or the vCPU's and that of the register that its bytes name.
+pub enum EventSwitch {
+    // An entry is not offered it.
+    Unoffered,
+    // No event is offered.
+    NoEvent,
+    OfVm,
+    OfVcpu,
+    OfCr,
+    OfMsr,
+}
+
+// A row of the table of events: how many bytes it has of its own behind the state block, how many data bytes its reply has, and whether
+// that may be a retry and has a value.
+pub struct EventRow {
+    pub switch: EventSwitch,
+    pub retry: bool,
+    pub valued: bool,
+    pub own: usize,
+    pub reply: usize,
+}
+
 // What the tests of a message ask of the session: the reply mode, how many bytes of guest memory are lent, and what stands
 // for the vCPU that the message names: its ready mark, queued pauses, the event whose reply it awaits (0: none) and that event's seq.
 pub struct Facts {
@@ -132,7 +159,8 @@ pub enum Change {
     SetPages { view: u16, count: u16 },
     SetSinglestep { on: bool, vcpu: u16 },
     SetReplies { now: bool, mode: ReplyMode },
-    EndWait { crash: bool, vcpu: u16 },
+    // An event's reply is taken: whether its continue or retry is signalled, and what it says.
+    EndWait { resumes: bool, vcpu: u16, action: u32, value: u64 },
 }
 
 // What the tests say of a message: it closes the session, it fails with an error code, or it makes one change.

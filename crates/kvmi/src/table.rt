@@ -59,7 +59,7 @@ pub fn layout(id: u16) -> Layout
         14 => plain(16, Handler::VcpuControlSinglestep),
         15 => plain(8, Handler::VmControlCmdResponse),
         16 => row(
-            SizeRule::Exactly { bytes: 16 },
+            SizeRule::ByEvent,
             ReplyKind::Silent,
             Handler::EventReply,
         ),

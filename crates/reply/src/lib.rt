@@ -11,7 +11,7 @@ ghost use Rattle.wire.specs.Bytes.{le, store};
 ghost use Rattle.kvmi.specs.Codes.{isError};
 ghost use Rattle.kvmi.specs.Message.{layoutOf};
 ghost use Rattle.kvmi.specs.Model.{nextSeq};
-ghost use Rattle.kvmi.specs.Reply.{replyBytes, replyData, pauseEvent, commandErrorEvent};
+ghost use Rattle.kvmi.specs.Reply.{replyBytes, replyData, eventBytes, pauseEvent, commandErrorEvent};
 ghost use Rattle.kvmi.specs.Mode.{modeOfNumber};
 ghost use Rattle.reply.specs.Written.{Written, AnswerWritten};
 ghost use Rattle.reply.specs.Off.{offBytes, offSeq, KindWritten};
@@ -183,6 +183,21 @@ fn put_event(out: &mut [u8], size: usize, seq: u32, vcpu: u32, event: u8)
     wire::store16(out, 8, 544);
     wire::store16(out, 10, (vcpu % 65536) as u16);
     wire::store32(out, 12, event as u32);
+}
+
+// An event of a vCPU, with a state block and the event's own bytes behind it.
+pub fn event(out: &mut [u8], seq: u32, vcpu: u32, event: u8, state: &[u8], own: &[u8])
+    ensures { λ _. ⌜ now (out .exit) ≡ store (now (out .entry)) 0 (eventBytes seq vcpu event (now (state .entry)) (now (own .entry))) ⌝ }
+{
+    let n = state.len();
+    let more = own.len();
+    if more <= out.len() {
+        if n + 16 <= out.len() - more {
+            put_event(out, n + more + 8, seq, vcpu, event);
+            wire::copy(out, 16, state);
+            wire::copy(out, n + 16, own);
+        }
+    }
 }
 
 // The pause event of a vCPU with a state block.

@@ -178,6 +178,7 @@ pub fn size_fits(rule: SizeRule, d: &[u8]) -> bool
             (n - 16) as u64 == wire::load64(d, 8)
         }
         SizeRule::Entries => 8 <= n,
+        SizeRule::ByEvent => 16 <= n,
         SizeRule::Unruled => true,
     }
 }

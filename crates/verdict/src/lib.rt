@@ -167,7 +167,7 @@ pub fn judge(a: Asked, vcpus: &[u64], id: u16, seq: u32, d: &[u8]) -> Verdict
         }
         Handler::EventReply => {
             if passes(a, id, row, d) {
-                return event_reply::judge_reply(facts_of(a, vcpus, d), seq, &d[..16]);
+                return event_reply::judge_reply(facts_of(a, vcpus, d), seq, d);
             }
         }
         Handler::Unknown => {}

@@ -1,0 +1,101 @@
+-- "W1. The other events": which events an entry is offered, the bytes that each has of its own, the switches that it asks for, and the reply that it takes.
+use Prim.Native.Nat.{ℕ}
+use mathlib.Core.List.{List, [], _∷_}
+use mathlib.Core.Bool.{Bool, true, false, cond, _&&_, _||_}
+use lib.ListN.{length, getD}
+use lib.Dec.{eqb}
+use Rattle.wire.specs.Bytes.{load}
+use Rattle.kvmi.specs.declared.EventSwitch.{EventSwitch}
+use Rattle.kvmi.specs.declared.EventSwitch.the-variants.{Unoffered, NoEvent, OfVm, OfVcpu, OfCr, OfMsr}
+use Rattle.kvmi.specs.declared.EventRow.{EventRow}
+use Rattle.kvmi.specs.Bits.{among}
+use Rattle.kvmi.specs.Tables.{Tables, vmEventOn, eventOn, crOn, msrOn}
+
+-- ---- the table of events
+-- its own bytes ("the bytes after the first 544"), its reply's data bytes, "retry is taken", its reply has a value, the switch that it asks for
+abbrev pub eventRow : ℕ → ℕ → Bool → Bool → EventSwitch → EventRow
+eventRow own reply retry valued switch = record { switch = switch; retry = retry; valued = valued; own = own; reply = reply }
+
+-- an event that an entry is not offered, and that takes no reply
+abbrev pub unoffered : EventRow
+unoffered = eventRow 0 0 false false Unoffered
+
+-- events 0 to 14. "Replies carry 24 data bytes for CR and MSR, the new value last, and 16 otherwise."; "Retry is taken for BREAKPOINT and DESCRIPTOR only."
+abbrev pub events : List EventRow
+events =
+    -- "or 0 for none with no bytes"
+    eventRow 0 0 false false NoEvent
+    -- UNHOOK
+    ∷ unoffered
+    -- PAUSE_VCPU: it comes from the queue
+    ∷ eventRow 0 16 false false Unoffered
+    -- HYPERCALL
+    ∷ eventRow 0 16 false false OfVcpu
+    -- BREAKPOINT: gpa u64, insn_len u8, padding
+    ∷ eventRow 16 16 true false OfVcpu
+    -- CR: cr u16, padding, old_value u64, new_value u64
+    ∷ eventRow 24 24 false true OfCr
+    -- TRAP
+    ∷ unoffered
+    -- XSETBV
+    ∷ eventRow 0 16 false false OfVcpu
+    -- DESCRIPTOR: descriptor u8, write u8, padding
+    ∷ eventRow 8 16 true false OfVcpu
+    -- MSR: msr u32, padding, old_value u64, new_value u64
+    ∷ eventRow 24 24 false true OfMsr
+    -- PF
+    ∷ unoffered
+    -- SINGLESTEP: failed u8, padding; "The singlestep block goes with the event."
+    ∷ eventRow 8 16 false false OfVcpu
+    -- CREATE_VCPU: message 5's
+    ∷ eventRow 0 16 false false OfVm
+    -- CMD_ERROR
+    ∷ unoffered
+    -- CPUID: function u32, index u32, insn_length u8, padding
+    ∷ eventRow 16 16 false false OfVcpu
+    ∷ []
+
+-- an event's row
+unfoldable pub eventRowOf : ℕ → EventRow
+eventRowOf event = getD events event unoffered
+
+-- ---- an offer at a vCPU's entry
+abbrev pub isOffered : EventSwitch → Bool
+isOffered Unoffered = false
+isOffered NoEvent = true
+isOffered OfVm = true
+isOffered OfVcpu = true
+isOffered OfCr = true
+isOffered OfMsr = true
+
+-- "another number, or lent event bytes of the wrong length, switched on or off, is answer 5"
+unfoldable pub offerFits : ℕ → List ℕ → Bool
+offerFits event own = isOffered (eventRowOf event .switch) && eqb (length own) (eventRowOf event .own)
+
+-- "the register its bytes name"
+abbrev pub crNamed : List ℕ → ℕ
+crNamed own = load 2 own 0
+
+abbrev pub msrNamed : List ℕ → ℕ
+msrNamed own = load 4 own 0
+
+-- "it is sent exactly if its switch is on, and for CR and MSR also that of the register its bytes name"
+unfoldable pub asksFor : Tables → ℕ → ℕ → List ℕ → EventSwitch → Bool
+asksFor t vcpu event own Unoffered = false
+asksFor t vcpu event own NoEvent = false
+asksFor t vcpu event own OfVm = vmEventOn t event
+asksFor t vcpu event own OfVcpu = eventOn t vcpu event
+asksFor t vcpu event own OfCr = eventOn t vcpu event && crOn t vcpu (crNamed own)
+asksFor t vcpu event own OfMsr = eventOn t vcpu event && msrOn t vcpu (msrNamed own)
+
+unfoldable pub isAskedFor : Tables → ℕ → ℕ → List ℕ → Bool
+isAskedFor t vcpu event own = asksFor t vcpu event own (eventRowOf event .switch)
+
+-- ---- its reply
+-- "the action is 0 continue or 2 crash"; 1 is retry
+abbrev pub takesAction : EventRow → ℕ → Bool
+takesAction r action = among action (0 ∷ 2 ∷ []) || eqb action 1 && r .retry
+
+-- "the new value last": behind the first 16 bytes; "new value or 0"
+abbrev pub newValue : EventRow → List ℕ → ℕ
+newValue r d = cond (r .valued) (load 8 d 16) 0
