@@ -90,8 +90,8 @@ readyGiven s vcpu = given (readyOf (state s [] []) (min vcpu 65535))
 unfoldable pub messageGiven : Session → List ℕ → List ℕ → List ℕ → List ℕ → List ℕ → Given
 messageGiven s vcpus pages msg out guest = given (messageOf (state s vcpus pages) msg out guest)
 
-unfoldable pub enterGiven : Session → List ℕ → ℕ → List ℕ → List ℕ → Given
-enterGiven s vcpus vcpu block out = given (enterOf (state s vcpus []) (min vcpu 65535) block out)
+unfoldable pub enterGiven : Session → List ℕ → ℕ → List ℕ → ℕ → List ℕ → List ℕ → Given
+enterGiven s vcpus vcpu block event own out = given (enterOf (state s vcpus []) (min vcpu 65535) block event own out)
 
 unfoldable pub sizeGiven : Session → List ℕ → List ℕ → ℕ
 sizeGiven s vcpus pages = length (image (statedTables (state s vcpus pages)))
