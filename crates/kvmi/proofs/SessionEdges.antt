@@ -62,7 +62,7 @@ pausedAt seq = withSeq (onVcpu (fresh two) 0 (λ v. withPauses (withReady v true
 
 -- vCPU 0 has sent a pause event with seq 0
 abbrev pub sent : List Call
-sent = ready 0 ∷ pause 0 ∷ enter 0 registers (lent 552) ∷ []
+sent = ready 0 ∷ pause 0 ∷ enter 0 registers 0 [] (lent 576) ∷ []
 
 -- a reply to it that closes
 abbrev pub wrong : ℕ → List ℕ → Edge
@@ -71,45 +71,45 @@ wrong seq d = afresh two (sent ++ (sendAs seq 16 d ∷ [])) closing
 abbrev pub eventEdges : List Edge
 eventEdges =
     -- no pause is queued; the vCPU need not be ready
-    afresh two (enter 1 registers (lent 552) ∷ []) (gave (handled 0 Quiet) [] (lent 552) freshImage quiet)
+    afresh two (enter 1 registers 0 [] (lent 576) ∷ []) (gave (handled 0 Quiet) [] (lent 576) freshImage quiet)
     -- one of three pauses; the output behind the event
-    ∷ afresh two (ready 0 ∷ pause 0 ∷ pause 0 ∷ pause 0 ∷ enter 0 registers (lent 553) ∷ [])
-    (gave (handled 552 Quiet) (pauseBytes 0 0) (lent 553) (vm ++ vc 0 1 0 0 2 ++ idle 1 ++ en 3) (beside On 1 (awaits 0 ∷ none ∷ [])))
+    ∷ afresh two (ready 0 ∷ pause 0 ∷ pause 0 ∷ pause 0 ∷ enter 0 registers 0 [] (lent 577) ∷ [])
+    (gave (handled 552 Quiet) (pauseBytes 0 0) (lent 577) (vm ++ vc 0 1 0 0 2 ++ idle 1 ++ en 3) (beside On 1 (awaits 0 ∷ none ∷ [])))
     -- of vCPU 1; pauses and switches of vCPU 0 stay
-    ∷ afresh two (ready 0 ∷ ready 1 ∷ controlCr 0 3 1 ∷ pause 0 ∷ pause 1 ∷ enter 1 registers (lent 552) ∷ [])
-    (gave (handled 552 Quiet) (pauseBytes 0 1) (lent 552) (vm ++ vc 0 1 2 0 1 ++ vc 1 1 0 0 0 ++ en 3) (beside On 1 (none ∷ awaits 0 ∷ [])))
+    ∷ afresh two (ready 0 ∷ ready 1 ∷ controlCr 0 3 1 ∷ pause 0 ∷ pause 1 ∷ enter 1 registers 0 [] (lent 576) ∷ [])
+    (gave (handled 552 Quiet) (pauseBytes 0 1) (lent 576) (vm ++ vc 0 1 2 0 1 ++ vc 1 1 0 0 0 ++ en 3) (beside On 1 (none ∷ awaits 0 ∷ [])))
     -- with replies off too
-    ∷ afresh two (ready 0 ∷ pause 0 ∷ responses 0 1 0 ∷ enter 0 registers (lent 552) ∷ [])
-    (gave (handled 552 Quiet) (pauseBytes 0 0) (lent 552) readyImage (beside Off 1 (awaits 0 ∷ none ∷ [])))
+    ∷ afresh two (ready 0 ∷ pause 0 ∷ responses 0 1 0 ∷ enter 0 registers 0 [] (lent 576) ∷ [])
+    (gave (handled 552 Quiet) (pauseBytes 0 0) (lent 576) readyImage (beside Off 1 (awaits 0 ∷ none ∷ [])))
     -- the next event has the next seq, be it a pause or an error
-    ∷ afresh two (ready 1 ∷ pause 1 ∷ sent ++ (enter 1 registers (lent 552) ∷ []))
-    (gave (handled 552 Quiet) (pauseBytes 1 1) (lent 552) (vm ++ vc 0 1 0 0 0 ++ vc 1 1 0 0 0 ++ en 3) (beside On 2 (awaits 0 ∷ awaits 1 ∷ [])))
+    ∷ afresh two (ready 1 ∷ pause 1 ∷ sent ++ (enter 1 registers 0 [] (lent 576) ∷ []))
+    (gave (handled 552 Quiet) (pauseBytes 1 1) (lent 576) (vm ++ vc 0 1 0 0 0 ++ vc 1 1 0 0 0 ++ en 3) (beside On 2 (awaits 0 ∷ awaits 1 ∷ [])))
     ∷ afresh two (sent ++ (responses 0 1 1 ∷ send 2 (naming 0) ∷ [])) (told (handled 568 Quiet) (failBytes 1 c22 2) readyImage (beside ErrorsOnly 2 (awaits 0 ∷ none ∷ [])))
-    ∷ afresh two (responses 0 1 1 ∷ send 2 (naming 0) ∷ sent) (gave (handled 552 Quiet) (pauseBytes 1 0) (lent 552) readyImage (beside ErrorsOnly 2 (awaits 1 ∷ none ∷ [])))
+    ∷ afresh two (responses 0 1 1 ∷ send 2 (naming 0) ∷ sent) (gave (handled 552 Quiet) (pauseBytes 1 0) (lent 576) readyImage (beside ErrorsOnly 2 (awaits 1 ∷ none ∷ [])))
     -- refused in the order 4, 5, 3, 6
-    ∷ afresh two (enter 2 [] [] ∷ []) (gave (plain 4) [] [] freshImage quiet)
-    ∷ afresh two (enter 3 registers (lent 552) ∷ []) (gave (plain 4) [] (lent 552) freshImage quiet)
-    ∷ afresh two (sent ++ (enter 0 (drop 1 registers) (lent 551) ∷ [])) (gave (plain 5) [] (lent 551) readyImage (beside On 1 (awaits 0 ∷ none ∷ [])))
-    ∷ afresh two (enter 0 (0 ∷ registers) (lent 552) ∷ []) (gave (plain 5) [] (lent 552) freshImage quiet)
-    ∷ afresh two (sent ++ (enter 0 registers (lent 551) ∷ [])) (gave (plain 3) [] (lent 551) readyImage (beside On 1 (awaits 0 ∷ none ∷ [])))
-    ∷ afresh two (enter 0 registers (lent 551) ∷ []) (gave (plain 3) [] (lent 551) freshImage quiet)
-    ∷ afresh two (sent ++ (enter 0 registers (lent 552) ∷ [])) (gave (plain 6) [] (lent 552) readyImage (beside On 1 (awaits 0 ∷ none ∷ [])))
-    ∷ afresh two (sent ++ (pause 0 ∷ enter 0 registers (lent 552) ∷ [])) (gave (plain 6) [] (lent 552) (vm ++ vc 0 1 0 0 1 ++ idle 1 ++ en 3) (beside On 1 (awaits 0 ∷ none ∷ [])))
+    ∷ afresh two (enter 2 [] 0 [] [] ∷ []) (gave (plain 4) [] [] freshImage quiet)
+    ∷ afresh two (enter 3 registers 0 [] (lent 576) ∷ []) (gave (plain 4) [] (lent 576) freshImage quiet)
+    ∷ afresh two (sent ++ (enter 0 (drop 1 registers) 0 [] (lent 575) ∷ [])) (gave (plain 5) [] (lent 575) readyImage (beside On 1 (awaits 0 ∷ none ∷ [])))
+    ∷ afresh two (enter 0 (0 ∷ registers) 0 [] (lent 576) ∷ []) (gave (plain 5) [] (lent 576) freshImage quiet)
+    ∷ afresh two (sent ++ (enter 0 registers 0 [] (lent 575) ∷ [])) (gave (plain 3) [] (lent 575) readyImage (beside On 1 (awaits 0 ∷ none ∷ [])))
+    ∷ afresh two (enter 0 registers 0 [] (lent 575) ∷ []) (gave (plain 3) [] (lent 575) freshImage quiet)
+    ∷ afresh two (sent ++ (enter 0 registers 0 [] (lent 576) ∷ [])) (gave (plain 6) [] (lent 576) readyImage (beside On 1 (awaits 0 ∷ none ∷ [])))
+    ∷ afresh two (sent ++ (pause 0 ∷ enter 0 registers 0 [] (lent 576) ∷ [])) (gave (plain 6) [] (lent 576) (vm ++ vc 0 1 0 0 1 ++ idle 1 ++ en 3) (beside On 1 (awaits 0 ∷ none ∷ [])))
     -- the other vCPU does not wait
-    ∷ afresh two (sent ++ (enter 1 registers (lent 552) ∷ [])) (gave (handled 0 Quiet) [] (lent 552) readyImage (beside On 1 (awaits 0 ∷ none ∷ [])))
+    ∷ afresh two (sent ++ (enter 1 registers 0 [] (lent 576) ∷ [])) (gave (handled 0 Quiet) [] (lent 576) readyImage (beside On 1 (awaits 0 ∷ none ∷ [])))
     -- a reply is taken once, with action 0 or 2, and in any reply mode; no command need be allowed
     ∷ afresh two (sent ++ (eventReply 0 0 0 2 ∷ [])) (told (handled 0 Quiet) [] readyImage (beside On 1 nobody))
     ∷ afresh two (sent ++ (eventReply 0 0 2 2 ∷ [])) (told (handled 0 (Crash 0)) [] readyImage (beside On 1 nobody))
     ∷ afresh two (sent ++ (responses 0 1 1 ∷ eventReply 0 0 2 2 ∷ [])) (told (handled 0 (Crash 0)) [] readyImage (beside ErrorsOnly 1 nobody))
     ∷ afresh two (sent ++ (eventReply 0 0 0 2 ∷ eventReply 0 0 0 2 ∷ [])) closing
-    ∷ started (commanding 0) (fromBytes (vm ++ idle 0 ++ vc 1 1 0 0 1 ++ en 3)) (enter 1 registers (lent 552) ∷ eventReply 0 1 2 2 ∷ []) (told (handled 0 (Crash 1)) [] (vm ++ idle 0 ++ vc 1 1 0 0 0 ++ en 3) (beside On 1 nobody))
+    ∷ started (commanding 0) (fromBytes (vm ++ idle 0 ++ vc 1 1 0 0 1 ++ en 3)) (enter 1 registers 0 [] (lent 576) ∷ eventReply 0 1 2 2 ∷ []) (told (handled 0 (Crash 1)) [] (vm ++ idle 0 ++ vc 1 1 0 0 0 ++ en 3) (beside On 1 nobody))
     -- of two that are awaited, the one that is meant
-    ∷ afresh two (ready 1 ∷ pause 1 ∷ sent ++ (enter 1 registers (lent 552) ∷ eventReply 1 1 0 2 ∷ []))
+    ∷ afresh two (ready 1 ∷ pause 1 ∷ sent ++ (enter 1 registers 0 [] (lent 576) ∷ eventReply 1 1 0 2 ∷ []))
     (told (handled 0 Quiet) [] (vm ++ vc 0 1 0 0 0 ++ vc 1 1 0 0 0 ++ en 3) (beside On 2 (awaits 0 ∷ none ∷ [])))
-    ∷ afresh two (ready 1 ∷ pause 1 ∷ sent ++ (enter 1 registers (lent 552) ∷ eventReply 0 1 0 2 ∷ [])) closing
+    ∷ afresh two (ready 1 ∷ pause 1 ∷ sent ++ (enter 1 registers 0 [] (lent 576) ∷ eventReply 0 1 0 2 ∷ [])) closing
     -- after it the vCPU enters again
-    ∷ afresh two (ready 0 ∷ pause 0 ∷ sent ++ (eventReply 0 0 0 2 ∷ enter 0 registers (lent 552) ∷ []))
-    (gave (handled 552 Quiet) (pauseBytes 1 0) (lent 552) readyImage (beside On 2 (awaits 1 ∷ none ∷ [])))
+    ∷ afresh two (ready 0 ∷ pause 0 ∷ sent ++ (eventReply 0 0 0 2 ∷ enter 0 registers 0 [] (lent 576) ∷ []))
+    (gave (handled 552 Quiet) (pauseBytes 1 0) (lent 576) readyImage (beside On 2 (awaits 1 ∷ none ∷ [])))
     -- another seq, in its first and in its last byte; another event; action 1 and 3; another vCPU, and ones not below the count
     ∷ wrong 1 (answerData 0 0 2)
     ∷ wrong 0x1000000 (answerData 0 0 2)
@@ -132,8 +132,8 @@ eventEdges =
     ∷ afresh two (eventReply 0 0 0 1 ∷ []) closing
     ∷ afresh two (eventReply 0 0 0 0 ∷ []) closing
     -- the seq goes from 4,294,967,295 to 0
-    ∷ started two (standing (pausedAt 0xFFFFFFFF)) (enter 0 registers (lent 552) ∷ []) (gave (handled 552 Quiet) (pauseBytes 0xFFFFFFFF 0) (lent 552) readyImage (beside On 0 (awaits 0xFFFFFFFF ∷ none ∷ [])))
-    ∷ started two (standing (pausedAt 0xFFFFFFFE)) (enter 0 registers (lent 552) ∷ []) (gave (handled 552 Quiet) (pauseBytes 0xFFFFFFFE 0) (lent 552) readyImage (beside On 0xFFFFFFFF (awaits 0xFFFFFFFE ∷ none ∷ [])))
+    ∷ started two (standing (pausedAt 0xFFFFFFFF)) (enter 0 registers 0 [] (lent 576) ∷ []) (gave (handled 552 Quiet) (pauseBytes 0xFFFFFFFF 0) (lent 576) readyImage (beside On 0 (awaits 0xFFFFFFFF ∷ none ∷ [])))
+    ∷ started two (standing (pausedAt 0xFFFFFFFE)) (enter 0 registers 0 [] (lent 576) ∷ []) (gave (handled 552 Quiet) (pauseBytes 0xFFFFFFFE 0) (lent 576) readyImage (beside On 0xFFFFFFFF (awaits 0xFFFFFFFE ∷ none ∷ [])))
     ∷ []
 
 -- ---- each call changes its own and nothing else
@@ -168,7 +168,7 @@ ownEdges =
     ∷ onFull (singlestep 0 0) (answered 14 c0 (fullImage 0x1000 (vc 0 1 5 0x4218 3) records))
     -- a pause more and one less; the reply mode; a ready mark
     ∷ onFull (pause 0) (told (handled 16 (Kick true 0)) (reply 9 c0) (fullImage 0x1000 (vc 0 3 5 0x4218 4) records) quiet)
-    ∷ onFull (enter 0 registers (lent 552)) (gave (handled 552 Quiet) (pauseBytes 0 0) (lent 552) (fullImage 0x1000 (vc 0 3 5 0x4218 2) records) (beside On 1 (awaits 0 ∷ none ∷ [])))
+    ∷ onFull (enter 0 registers 0 [] (lent 576)) (gave (handled 552 Quiet) (pauseBytes 0 0) (lent 576) (fullImage 0x1000 (vc 0 3 5 0x4218 2) records) (beside On 1 (awaits 0 ∷ none ∷ [])))
     ∷ onFull (responses 0 0 1) (told (handled 16 Quiet) (reply 15 c0) (fullImage 0x1000 fullSession records) (beside ErrorsOnly 0 nobody))
     ∷ onFull (ready 0) (gave (handled 0 Quiet) [] [] (fullImage 0x1000 fullSession records) quiet)
     -- its 78 bytes
@@ -227,7 +227,7 @@ callEdges =
     ∷ afresh two (writeImage (lent 35) ∷ []) (gave (handled 34 Quiet) freshImage (lent 35) freshImage quiet)
     ∷ afresh two (sent ++ (writeImage (lent 34) ∷ [])) (gave (plain 10) [] (lent 34) readyImage (beside On 1 (awaits 0 ∷ none ∷ [])))
     ∷ afresh two (sent ++ (writeImage (lent 33) ∷ [])) (gave (plain 10) [] (lent 33) readyImage (beside On 1 (awaits 0 ∷ none ∷ [])))
-    ∷ afresh two (ready 1 ∷ pause 1 ∷ enter 1 registers (lent 552) ∷ writeImage (lent 34) ∷ []) (gave (plain 10) [] (lent 34) (vm ++ idle 0 ++ vc 1 1 0 0 0 ++ en 3) (beside On 1 (none ∷ awaits 0 ∷ [])))
+    ∷ afresh two (ready 1 ∷ pause 1 ∷ enter 1 registers 0 [] (lent 576) ∷ writeImage (lent 34) ∷ []) (gave (plain 10) [] (lent 34) (vm ++ idle 0 ++ vc 1 1 0 0 0 ++ en 3) (beside On 1 (none ∷ awaits 0 ∷ [])))
     ∷ afresh two (sent ++ (eventReply 0 0 0 2 ∷ writeImage (lent 34) ∷ [])) (gave (handled 34 Quiet) readyImage (lent 34) readyImage (beside On 1 nobody))
     -- a message with 4,111 bytes of output, whole or not; with more than 4,112
     ∷ afresh two (message (messageBytes 5 8 (eventData 12 1)) (lent 4111) page ∷ []) (left (plain 3) (lent 4111) page freshImage quiet)
@@ -240,8 +240,8 @@ callEdges =
     ∷ afresh two (busyThenClosed ++ (send 7 (physical 0 1 ++ (1 ∷ [])) ∷ [])) (told (plain 2) [] freshImage shut)
     ∷ afresh two (busyThenClosed ++ (ready 0 ∷ [])) (gave (plain 2) [] [] freshImage shut)
     ∷ afresh two (busyThenClosed ++ (ready 2 ∷ [])) (gave (plain 2) [] [] freshImage shut)
-    ∷ afresh two (busyThenClosed ++ (enter 0 registers (lent 552) ∷ [])) (gave (plain 2) [] (lent 552) freshImage shut)
-    ∷ afresh two (busyThenClosed ++ (enter 2 [] (lent 5) ∷ [])) (gave (plain 2) [] (lent 5) freshImage shut)
+    ∷ afresh two (busyThenClosed ++ (enter 0 registers 0 [] (lent 576) ∷ [])) (gave (plain 2) [] (lent 576) freshImage shut)
+    ∷ afresh two (busyThenClosed ++ (enter 2 [] 0 [] (lent 5) ∷ [])) (gave (plain 2) [] (lent 5) freshImage shut)
     ∷ afresh two (busyThenClosed ++ (writeImage (lent 34) ∷ [])) (gave (plain 2) [] (lent 34) freshImage shut)
     ∷ afresh two (busyThenClosed ++ (writeImage (lent 5) ∷ [])) (gave (plain 2) [] (lent 5) freshImage shut)
     -- settings in and out of range, in both ways to begin; 7 comes before 8

@@ -31,16 +31,15 @@ pub fn row(event: u64) -> EventRow
     match event {
         0 => row_of(0, 0, false, false, EventSwitch::NoEvent),
         2 => plain(0, EventSwitch::Unoffered),
-        3 | 7 => plain(0, EventSwitch::OfVcpu),
+        3 => plain(0, EventSwitch::OfVcpu),
         4 => row_of(16, 16, true, false, EventSwitch::OfVcpu),
         5 => row_of(24, 24, false, true, EventSwitch::OfCr),
+        7 => plain(0, EventSwitch::OfVcpu),
         8 => row_of(8, 16, true, false, EventSwitch::OfVcpu),
         9 => row_of(24, 24, false, true, EventSwitch::OfMsr),
         11 => plain(8, EventSwitch::OfVcpu),
         12 => plain(0, EventSwitch::OfVm),
         14 => plain(16, EventSwitch::OfVcpu),
-        1 | 6 | 10 | 13 | 15..=18446744073709551615 => {
-            row_of(0, 0, false, false, EventSwitch::Unoffered)
-        }
+        _ => row_of(0, 0, false, false, EventSwitch::Unoffered),
     }
 }

@@ -150,17 +150,51 @@ pub struct Facts {
 // What a message that passes all tests changes. The fields are in the order that stands at `Signal`.
 pub enum Change {
     Nothing,
-    SetVmEvent { on: bool, event: u16 },
-    WritePhysical { gpa: u64 },
-    QueuePause { wait: bool, vcpu: u16 },
-    SetVcpuEvent { on: bool, vcpu: u16, event: u32 },
-    SetCr { on: bool, vcpu: u16, cr: u32 },
-    SetMsr { on: bool, vcpu: u16, msr: u32 },
-    SetPages { view: u16, count: u16 },
-    SetSinglestep { on: bool, vcpu: u16 },
-    SetReplies { now: bool, mode: ReplyMode },
+    SetVmEvent {
+        on: bool,
+        event: u16,
+    },
+    WritePhysical {
+        gpa: u64,
+    },
+    QueuePause {
+        wait: bool,
+        vcpu: u16,
+    },
+    SetVcpuEvent {
+        on: bool,
+        vcpu: u16,
+        event: u32,
+    },
+    SetCr {
+        on: bool,
+        vcpu: u16,
+        cr: u32,
+    },
+    SetMsr {
+        on: bool,
+        vcpu: u16,
+        msr: u32,
+    },
+    SetPages {
+        view: u16,
+        count: u16,
+    },
+    SetSinglestep {
+        on: bool,
+        vcpu: u16,
+    },
+    SetReplies {
+        now: bool,
+        mode: ReplyMode,
+    },
     // An event's reply is taken: whether its continue or retry is signalled, and what it says.
-    EndWait { resumes: bool, vcpu: u16, action: u32, value: u64 },
+    EndWait {
+        resumes: bool,
+        vcpu: u16,
+        action: u32,
+        value: u64,
+    },
 }
 
 // What the tests say of a message: it closes the session, it fails with an error code, or it makes one change.

@@ -58,11 +58,7 @@ pub fn layout(id: u16) -> Layout
         ),
         14 => plain(16, Handler::VcpuControlSinglestep),
         15 => plain(8, Handler::VmControlCmdResponse),
-        16 => row(
-            SizeRule::ByEvent,
-            ReplyKind::Silent,
-            Handler::EventReply,
-        ),
+        16 => row(SizeRule::ByEvent, ReplyKind::Silent, Handler::EventReply),
         0 | 17..=65535 => row(SizeRule::Unruled, ReplyKind::CodeOnly, Handler::Unknown),
     }
 }
