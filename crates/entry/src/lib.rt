@@ -12,7 +12,6 @@ ghost use lib.ListN.{length};
 ghost use Rattle.kvmi.specs.Event.{offerFits};
 ghost use Rattle.session.specs.State.{state};
 ghost use Rattle.session.specs.Calls.{told};
-ghost use Rattle.store.specs.Words.{field, PAUSES};
 ghost use Rattle.entry.specs.Entry.{isAskedForOf, crBitOn, awaitingWords, Went, sendingOf, unqueueingOf, enteredOf, enterOf};
 
 // The least output that an entry is given: the bytes of a CR or an MSR event.
@@ -98,16 +97,10 @@ fn send(
 }
 
 // A queued pause goes out, if there is one.
-fn unqueue(
-    vcpus: &mut [u64],
-    vcpu: u16,
-    queued: u64,
-    seq: u32,
-    block: &[u8],
-    out: &mut [u8],
-) -> Answered
-    ensures { λ r. ⌜ (queued ≡ field (now (vcpus .entry)) vcpu PAUSES → Went (now (vcpus .exit)) (now (out .entry)) (now (out .exit)) r (unqueueingOf (now (vcpus .entry)) vcpu seq (now (block .entry)))) ⌝ }
+fn unqueue(vcpus: &mut [u64], vcpu: u16, seq: u32, block: &[u8], out: &mut [u8]) -> Answered
+    ensures { λ r. ⌜ Went (now (vcpus .exit)) (now (out .entry)) (now (out .exit)) r (unqueueingOf (now (vcpus .entry)) vcpu seq (now (block .entry))) ⌝ }
 {
+    let queued = store::words::read_field(vcpus, vcpu, store::words::PAUSES);
     if queued == 0 {
         return Answered {
             count: 0,
@@ -136,8 +129,8 @@ fn enter_open(
     requires { ⌜ length (now own) ≤ 65535 ⌝ }
     ensures { λ r. ⌜ ((p : List ℕ) → told r (now (vcpus .exit)) p (now (out .exit)) [] ≡ enteredOf (state s (now (vcpus .entry)) p) vcpu (now (block .entry)) event (now (own .entry)) (now (out .entry))) ⌝ }
 {
-    let pending = store::words::read_pending(vcpus, vcpu);
-    if pending.awaited != 0 {
+    let awaited = store::words::read_field(vcpus, vcpu, store::words::AWAITED);
+    if awaited != 0 {
         return Done {
             answer: Answer::Waiting,
             session: s,
@@ -147,7 +140,7 @@ fn enter_open(
     let went = if is_asked_for(s.tool.events, vcpus, vcpu, event, own) {
         send(vcpus, vcpu, seq, block, event, own, out)
     } else {
-        unqueue(vcpus, vcpu, pending.pauses, seq, block, out)
+        unqueue(vcpus, vcpu, seq, block, out)
     };
     Done {
         answer: kvmi::answers::wrote(went.count),

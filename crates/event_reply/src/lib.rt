@@ -4,7 +4,6 @@ use kvmi::EventRow;
 use kvmi::Facts;
 use kvmi::Verdict;
 ghost use mathlib.Core.Path.{_≡_};
-ghost use Rattle.kvmi.specs.Message.{actionOf};
 ghost use Rattle.kvmi.specs.Event.{newValue};
 ghost use Rattle.kvmi.specs.Verdict.{isAwaited, replyFits, eventReplyVerdict};
 
@@ -17,9 +16,10 @@ fn is_awaited(facts: Facts, seq: u32, event: u8) -> bool
 }
 
 // Whether a reply has the size of the awaited event's, and an action that it takes.
-fn reply_fits(row: EventRow, d: &[u8], action: u8) -> bool
-    ensures { λ r. ⌜ (action ≡ actionOf (now (d .entry)) → r ≡ replyFits row (now (d .entry))) ⌝ }
+fn reply_fits(row: EventRow, d: &[u8]) -> bool
+    ensures { λ r. ⌜ r ≡ replyFits row (now (d .entry)) ⌝ }
 {
+    let action = wire::byte(d, 8);
     let takes = (action == 0) | (action == 2) | (action == 1) & row.retry;
     (d.len() == row.reply) & takes
 }
@@ -38,7 +38,7 @@ pub fn judge_reply(facts: Facts, seq: u32, d: &[u8]) -> Verdict
     let action = wire::byte(d, 8);
     let row = kvmi::events::row(facts.awaited);
     let clean = padding::of_event_reply(d) == 0;
-    if clean & is_awaited(facts, seq, wire::byte(d, 9)) & reply_fits(row, d, action) {
+    if clean & is_awaited(facts, seq, wire::byte(d, 9)) & reply_fits(row, d) {
         let change = Change::EndWait {
             vcpu: wire::load16(d, 0),
             resumes: facts.awaited != 2,

@@ -44,10 +44,11 @@ pub enum Signal {
     Resume { vcpu: u16, action: u32, value: u64 },
 }
 
-// The values of answer 0: how many bytes were written, and what the host is to do.
+// The values of answer 0: what the host is to do, and how many bytes were written. The count stands last: a store of its own width ends
+// each answer with values, so that the compiler keeps answers in registers.
 pub struct Values {
-    pub count: usize,
     pub signal: Signal,
+    pub count: usize,
 }
 
 // What a host call answers.
