@@ -156,6 +156,17 @@ command-error-bytes seq code commandSeq commandId h = whole (replicate 536 0) (l
 pub written : {s out b bytes : List ℕ} {n r : ℕ} → Placed s out 0 n b → b ≡ bytes → r ≡ n → Written s out r bytes
 written p e h = record { count = h ∙ sym (p .size) ∙ ap length e; there = p .there ∙ ap (store _ 0) e }
 
+-- an event's front, its state block and its own bytes, one behind the other
+pub event-there : (s o1 o2 o3 : List ℕ) (size seq vcpu event : ℕ) (state own : List ℕ) → o1 ≡ store s 0 (eventFront size seq vcpu event)
+    → o2 ≡ store o1 16 state → o3 ≡ store o2 (16 + length state) own → 16 + (length state + length own) ≤ length s → size ≡ length state + length own + 8
+    → o3 ≡ store s 0 (eventBytes seq vcpu event state own)
+event-there s o1 o2 o3 size seq vcpu event state own h1 h2 h3 inside e =
+    let front = eventFront size seq vcpu event in
+    let p1 = placed {s = s} {out = o1} {at = 0} front (length-front size seq vcpu event) h1 in
+    let p2 = more {s = s} {out = o1} {at = 0} {next = o2} {b = front} state p1 refl h2 (omega arith) in
+    let p3 = more {s = s} {out = o2} {at = 0} {next = o3} {b = front ++ state} own p2 refl (rw zero-add h3) (omega arith) in
+    written p3 (append-assoc front state own ∙ event-bytes size seq vcpu event state own e) refl .there
+
 -- what does not fit is not written
 pub unwritten : (s bytes : List ℕ) (r : ℕ) → r ≡ length bytes → length s < r → Written s s r bytes
 unwritten s bytes r e h = record { count = e; there = sym (store-past s 0 bytes (omega arith)) }

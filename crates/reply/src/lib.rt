@@ -195,7 +195,7 @@ pub fn event(out: &mut [u8], seq: u32, vcpu: u32, event: u8, state: &[u8], own: 
         if n + 16 <= out.len() - more {
             put_event(out, n + more + 8, seq, vcpu, event);
             wire::copy(out, 16, state);
-            wire::copy(out, n + 16, own);
+            wire::copy(out, 16 + n, own);
         }
     }
 }
