@@ -37,4 +37,4 @@ change-keeps st guest d (SetMsr on vcpu msr) = refl
 change-keeps st guest d (SetPages view count) = refl
 change-keeps st guest d (SetSinglestep on vcpu) = refl
 change-keeps st guest d (SetReplies now mode) = refl
-change-keeps st guest d (EndWait crash vcpu) = refl
+change-keeps st guest d (EndWait resumes vcpu action value) = refl

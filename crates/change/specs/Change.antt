@@ -47,4 +47,4 @@ change st guest d (SetPages view count) =
 change st guest d (SetSinglestep on vcpu) = changed (withField st vcpu SINGLESTEP (bit on)) guest
 change st guest d (SetReplies now mode) =
     changed (state (withTool (st .session) (withToolMode (st .session .tool) (numberOfMode mode))) (st .vcpus) (st .pages)) guest
-change st guest d (EndWait crash vcpu) = changed (withField (withField st vcpu AWAITED 0) vcpu AWAITED-SEQ 0) guest
+change st guest d (EndWait resumes vcpu action value) = changed (withField (withField st vcpu AWAITED 0) vcpu AWAITED-SEQ 0) guest

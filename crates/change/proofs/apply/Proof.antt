@@ -111,8 +111,8 @@ end-wait-requires c κs = search needs
 still-requires-2 : tie.Need-still-requires-2
 still-requires-2 c κs = search needs
 
-quiet-requires-9 : tie.Need-quiet-requires-9
-quiet-requires-9 c κs = search needs
+reply-signal-requires : tie.Need-reply-signal-requires
+reply-signal-requires c κs = search needs
 
 returns-2 : tie.Need-returns-2
 unfolding change
@@ -180,14 +180,7 @@ same-length-8 c = search needs
 
 returns-12 : tie.Need-returns-12
 unfolding change endedWait
-returns-12 c = simp (c .before .before .before .before .before .before .before .c10 .given .1, c .before .if2 .taken, c .still2 .ensures, c .before .before .before .before .end-wait .ensures)
-
-same-length-9 : tie.Need-same-length-9
-same-length-9 c = search needs
-
-returns-13 : tie.Need-returns-13
-unfolding change endedWait
-returns-13 c = simp (c .before .before .before .before .before .before .before .c10 .given .1, c .before .if2 .left, c .quiet9 .ensures, c .before .before .before .before .end-wait .ensures)
+returns-12 c = simp (c .before .before .before .before .before .before .before .c10 .given .1, c .still2 .ensures, c .before .reply-signal .ensures, c .before .before .before .before .end-wait .ensures)
 
 pub apply-spec : {M : Type 1} → statement M
 apply-spec =
@@ -226,8 +219,8 @@ apply-spec =
     returns
     enum-known-c-10
     end-wait-requires
+    reply-signal-requires
     still-requires-2
-    quiet-requires-9
     returns-2
     returns-3
     same-length
@@ -246,6 +239,4 @@ apply-spec =
     returns-10
     returns-11
     same-length-8
-    returns-12
-    same-length-9
-    returns-13)
+    returns-12)
