@@ -1,6 +1,6 @@
 -- Pauses queued at the start plus pauses accepted equals pause events sent plus pauses queued, for each vCPU. Assumes nothing.
 use mathlib.Core.Path.{_≡_, refl, sym, ap, _∙_}
-use Prim.Native.Nat.{ℕ, zero, suc, _+_, _-_, _≤_, _<_}
+use Prim.Native.Nat.{ℕ, zero, suc, _+_, _-_, _%_, _≤_, _<_}
 use native.Mathlib.Nat.{add-zero, zero-add}
 use native.Mathlib.Omega.{arith}
 use mathlib.Core.List.{List, [], _∷_, _++_}
@@ -15,6 +15,8 @@ use Rattle.wire.specs.Header.{headerOf}
 use Rattle.wire.specs.declared.Header.{Header}
 use Rattle.wire.specs.declared.Header.the-variants.{Whole, Broken}
 use Rattle.kvmi.specs.declared.Settings.{Settings}
+use Rattle.kvmi.specs.declared.Signal.{Signal}
+use Rattle.kvmi.specs.declared.Signal.the-variants.{Quiet, Crash, Resume}
 use Rattle.kvmi.specs.declared.Change.{Change}
 use Rattle.kvmi.specs.declared.Change.the-variants.{Nothing, SetVmEvent, WritePhysical, QueuePause, SetVcpuEvent, SetCr, SetMsr, SetPages, SetSinglestep, SetReplies, EndWait}
 use Rattle.kvmi.specs.declared.Verdict.{Verdict}
@@ -24,17 +26,18 @@ use Rattle.kvmi.specs.Tables.{Vcpu, Tables, resting, vcpuAt, setVcpu, withReady
 use Rattle.kvmi.specs.Model.{Model, onVcpu, awaitedBy, isSome}
 use Rattle.kvmi.specs.Message.{namesVcpu, vcpuOf, enables}
 use Rattle.kvmi.specs.Verdict.{factsOf, changeOf, verdict}
-use Rattle.kvmi.specs.Change.{Applied, apply, signalOf, crashing}
-use Rattle.wire.specs.Bytes.{le}
+use Rattle.kvmi.specs.Change.{Applied, apply, signalOf, replySignal}
 use Rattle.kvmi.specs.Settings.{inRange}
-use Rattle.kvmi.specs.Reply.{messageBytes, eventBytes, pauseEvent}
+use Rattle.kvmi.specs.Event.{offerFits, isAskedFor}
+use Rattle.kvmi.specs.Reply.{eventBytes, pauseEvent}
 use Rattle.kvmi.specs.Valid.{Valid}
 use Rattle.kvmi.specs.Image.{image}
-use Rattle.kvmi.specs.Call.{Call, message, ready, enter, writeImage, Step, answering, judged, headed, unchanged, messageStep, readyStep, pausing, enterStep, awaitsAny, imageStep, step, move, after}
+use Rattle.kvmi.specs.Call.{Call, message, ready, enter, writeImage, Step, answering, judged, headed, unchanged, messageStep, readyStep, sending, pausing, unqueueing, entering, enterStep, awaitsAny, imageStep, step, move, after}
 use Rattle.kvmi.specs.Answer.{plain}
 use Rattle.kvmi.specs.Pauses.{kicks, accepted, sent, queued, acceptedIn, sentIn}
 use Rattle.laws.proofs.Bool.{test, clash}
-use Rattle.laws.proofs.Verdicts.{pick, Passed, verdict-cases, sound-of}
+use Rattle.laws.proofs.Verdicts.{pick, Passed, ending, verdict-cases, sound-of}
+use Rattle.laws.proofs.Events.{asked-small, asked-no-pause, event-number, event-long}
 use Rattle.laws.proofs.Same.{count-is}
 use Rattle.laws.proofs.Steps.{step-kept}
 
@@ -59,16 +62,6 @@ queue-kept t i v x e =
     same : (b : Bool) → eqb i v ≡ b → cond b (x .pauses) (vcpuAt t v .pauses) ≡ vcpuAt t v .pauses
     same true q = e ∙ ap (λ (k : ℕ). vcpuAt t k .pauses) (eqb-true i v q)
     same false q = refl
-
--- a pause event has bytes
-event-long : (seq v : ℕ) (block : List ℕ) → eqb (length (pauseEvent seq v block)) 0 ≡ false
-unfolding pauseEvent eventBytes messageBytes le
-event-long seq v block = ne-eqb (length (pauseEvent seq v block)) 0 (λ e. omega arith)
-
--- and is event 2
-event-two : (seq v : ℕ) (block rest : List ℕ) → eqb (getD (pauseEvent seq v block ++ rest) 12 0) 2 ≡ true
-unfolding pauseEvent eventBytes messageBytes le
-event-two seq v block rest = refl
 
 none-sent : (t : Bool) → bit (t && false) ≡ 0
 none-sent true = refl
@@ -106,10 +99,15 @@ module _ (s : Settings) (vcpu : ℕ) where
       (λ _. pick (Even m guest d) (eqb id 14) _ _ (λ _. keep _ refl)
       (λ _. pick (Even m guest d) (eqb id 15) _ _ (λ _. add-zero _) (λ _. add-zero _)))))))))
 
-  end-even : (m : Model) (guest d : List ℕ) (v : ℕ) (crash : Bool) → Even m guest d (EndWait crash v)
+  -- the reply to an event kicks no vCPU
+  no-kick : (resumes : Bool) (v action value : ℕ) → kicks vcpu (replySignal resumes v action value) ≡ 0
+  no-kick resumes v action value =
+      pick (λ (g : Signal). kicks vcpu g ≡ 0) (eqb action 2) _ _ (λ _. refl)
+      (λ _. pick (λ (g : Signal). kicks vcpu g ≡ 0) resumes (Resume v action value) Quiet (λ _. refl) (λ _. refl))
+
+  end-even : (m : Model) (guest d : List ℕ) (resumes : Bool) (v action value : ℕ) → Even m guest d (EndWait resumes v action value)
   unfolding apply queued
-  end-even m guest d v true = add-zero _
-  end-even m guest d v false = add-zero _
+  end-even m guest d resumes v action value = ap (λ (k : ℕ). queued vcpu m + k) (no-kick resumes v action value) ∙ add-zero _
 
   -- each call
   still : (m : Model) (c : Call) (k : ℕ) (out guest : List ℕ) → sent vcpu c (plain k) out ≡ 0 → Balanced vcpu m c (unchanged k m out guest)
@@ -135,7 +133,7 @@ module _ (s : Settings) (vcpu : ℕ) where
           let d = drop 8 msg in
           verdict-cases (λ v. Balanced vcpu m (message msg out guest) (judged s m id seq d out guest v)) s (factsOf m (length guest) (vcpuOf d)) id seq d
           (λ q. absurd (true≢false q)) (λ code _ _. add-zero _ ∙ sym (zero-add _)) (λ p _. change-even m guest d a id p ∙ sym (zero-add _))
-          (λ _ _. end-even m guest d (vcpuOf d) (eqb (getD d 8 0) 2) ∙ sym (zero-add _))
+          (λ _ _. end-even m guest d _ (vcpuOf d) _ _ ∙ sym (zero-add _))
 
   ready-balanced : (m : Model) (v : ℕ) → Balanced vcpu m (ready v) (readyStep s m v)
   unfolding readyStep accepted sent queued
@@ -152,28 +150,42 @@ module _ (s : Settings) (vcpu : ℕ) where
       (λ _. pick (Balanced vcpu m (writeImage out)) (awaitsAny (m .awaited)) _ _ (λ _. b 10)
       (λ _. pick (Balanced vcpu m (writeImage out)) (ltb (length out) (length (image (m .tables)))) _ _ (λ _. b 3) (λ _ _. add-zero _ ∙ sym (zero-add _))))
 
-  enter-balanced : (m : Model) (v : ℕ) (block out : List ℕ) → Valid s (m .tables) → Balanced vcpu m (enter v block out) (enterStep s m v block out)
-  unfolding enterStep pausing accepted sent queued
-  enter-balanced m v block out a =
+  enter-balanced : (m : Model) (v : ℕ) (block : List ℕ) (event : ℕ) (own out : List ℕ) → Valid s (m .tables)
+      → Balanced vcpu m (enter v block event own out) (enterStep s m v block event own out)
+  unfolding enterStep entering sending unqueueing pausing pauseEvent accepted sent queued
+  enter-balanced m v block event own out a =
       pick B (m .closed) _ _ (λ _. b 2)
       (λ _. pick B (leb (s .vcpus) v) _ _ (λ _. b 4)
-      (λ few. pick B (not (eqb (length block) 536)) _ _ (λ _. b 5)
-      (λ whole. pick B (ltb (length out) 552) _ _ (λ _. b 3)
+      (λ few. pick B (not (eqb (length block) 536 && offerFits event own)) _ _ (λ _. b 5)
+      (λ _. pick B (ltb (length out) 576) _ _ (λ _. b 3)
       (λ _. pick B (isSome (awaitedBy m v)) _ _ (λ _. b 6)
-      (λ _. pick B (leb 1 (vcpuAt (m .tables) v .pauses)) _ _ (λ one _. pauses few one) (λ _ _. rest (eqb v vcpu)))))))
+      (λ _. pick B (isAskedFor (m .tables) v event own) _ _ (λ asked _. offered asked)
+      (λ _. pick B (leb 1 (vcpuAt (m .tables) v .pauses)) _ _ (λ one _. pauses few one) (λ _ _. rest)))))))
     where
       B : Step → Type 0
-      B = Balanced vcpu m (enter v block out)
+      B = Balanced vcpu m (enter v block event own out)
 
-      b : (k : ℕ) → Balanced vcpu m (enter v block out) (unchanged k m out [])
-      b k = still m (enter v block out) k out [] (none-sent (eqb v vcpu))
+      b : (k : ℕ) → Balanced vcpu m (enter v block event own out) (unchanged k m out [])
+      b k = still m (enter v block event own out) k out [] (none-sent (eqb v vcpu))
 
-      rest : (t : Bool) → vcpuAt (m .tables) vcpu .pauses + 0 ≡ bit (t && false) + vcpuAt (m .tables) vcpu .pauses
-      rest true = add-zero _ ∙ sym (zero-add _)
-      rest false = add-zero _ ∙ sym (zero-add _)
+      rest : vcpuAt (m .tables) vcpu .pauses + 0 ≡ bit (eqb v vcpu && false) + vcpuAt (m .tables) vcpu .pauses
+      rest = rw (none-sent (eqb v vcpu)) (add-zero _ ∙ sym (zero-add _))
+
+      -- the pause events among what is written, in terms of its bytes
+      wrote : List ℕ → ℕ
+      wrote l = bit (eqb v vcpu && (not (eqb (length l) 0) && eqb (getD (l ++ drop (length l) out) 12 0) 2))
+
+      -- an offered event is not event 2
+      offered : isAskedFor (m .tables) v event own ≡ true → vcpuAt (m .tables) vcpu .pauses + 0 ≡ wrote (eventBytes (m .seq) v event block own) + vcpuAt (m .tables) vcpu .pauses
+      offered asked =
+          let small = asked-small (m .tables) v event own asked in
+          let l = eventBytes (m .seq) v event block own in
+          let same : event % 256 ≡ event = omega arith in
+          let other : eqb (getD (l ++ drop (length l) out) 12 0) 2 ≡ false = rw (event-number (m .seq) v event block own (drop (length l) out), same) (asked-no-pause (m .tables) v event own asked) in
+          rw (event-long (m .seq) v event block own, other) rest
 
       pauses : leb (s .vcpus) v ≡ false → leb 1 (vcpuAt (m .tables) v .pauses) ≡ true
-          → vcpuAt (m .tables) vcpu .pauses + 0 ≡ bit (eqb v vcpu && (not (eqb (length (pauseEvent (m .seq) v block)) 0) && eqb (getD (pauseEvent (m .seq) v block ++ drop (length (pauseEvent (m .seq) v block)) out) 12 0) 2))
+          → vcpuAt (m .tables) vcpu .pauses + 0 ≡ wrote (pauseEvent (m .seq) v block)
           + vcpuAt (setVcpu (m .tables) v (withPauses (vcpuAt (m .tables) v) (vcpuAt (m .tables) v .pauses - 1))) vcpu .pauses
       pauses few one =
           let t = m .tables in
@@ -183,14 +195,14 @@ module _ (s : Settings) (vcpu : ℕ) where
           let some-queued = leb-true 1 p one in
           test (eqb v vcpu)
           (λ e. let same : p ≡ vcpuAt t vcpu .pauses = ap (λ (k : ℕ). vcpuAt t k .pauses) (eqb-true v vcpu e) in
-          rw (q, e, event-long (m .seq) v block, event-two (m .seq) v block (drop (length (pauseEvent (m .seq) v block)) out)) (omega arith))
+          rw (q, e, event-long (m .seq) v 2 block [], event-number (m .seq) v 2 block [] (drop (length (pauseEvent (m .seq) v block)) out)) (omega arith))
           (λ e. rw (q, e) (add-zero _ ∙ sym (zero-add _)))
 
   pub step-balanced : (m : Model) (c : Call) → Valid s (m .tables) → Balanced vcpu m c (step s m c)
   unfolding step
   step-balanced m (message msg out guest) a = message-balanced m msg out guest a
   step-balanced m (ready v) a = ready-balanced m v
-  step-balanced m (enter v block out) a = enter-balanced m v block out a
+  step-balanced m (enter v block event own out) a = enter-balanced m v block event own out a
   step-balanced m (writeImage out) a = image-balanced m out
 
 -- ---- a closed session stays closed
@@ -202,7 +214,7 @@ closed-stays s m (c ∷ cs) h = closed-stays s (step s m c .model) cs (one c)
     one : (c : Call) → step s m c .model .closed ≡ true
     one (message msg out guest) = rw h
     one (ready v) = rw h
-    one (enter v block out) = rw h
+    one (enter v block event own out) = rw h
     one (writeImage out) = rw h
 
 -- pauses queued at the start plus pauses accepted equals pause events sent plus pauses queued, over any calls after which the session is open; the

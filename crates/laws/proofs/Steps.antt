@@ -26,11 +26,12 @@ use Rattle.kvmi.specs.Tables.{Vcpu, Msr, Page, Tables, msrKey, pageKey, resting
 use Rattle.kvmi.specs.Model.{Model, fresh, begun, onVcpu, awaitedBy, isSome}
 use Rattle.kvmi.specs.Message.{namesVcpu, vcpuOf, enables, eventOf, registerOf, countOf, countFits, viewOf, Entry, entryOf, entriesOf, isVmEvent, isVcpuEvent, takesEvent}
 use Rattle.kvmi.specs.declared.Facts.{Facts}
+use Rattle.kvmi.specs.Event.{offerFits, isAskedFor}
 use Rattle.kvmi.specs.Verdict.{factsOf, isAccess, isInvalid, isUnready, isDenied, isUnsupported, isBusy, changeOf, modeOf, verdict}
 use Rattle.kvmi.specs.Limits.{pageLimit}
 use Rattle.kvmi.specs.Change.{Run, pageOf, isSkipped, setPage, takeEntry, takeEntries, setMsr, Applied, apply}
 use Rattle.kvmi.specs.Image.{vmForm, msForm, paForm, vmMay, mayEnable, paMay, image, Loaded, loaded, loadImage}
-use Rattle.kvmi.specs.Call.{Began, anew, fromImage, Call, message, ready, enter, writeImage, Step, answering, judged, headed, messageStep, readyStep, pausing, enterStep, awaitsAny, imageStep, step, move, after}
+use Rattle.kvmi.specs.Call.{Began, anew, fromImage, Call, message, ready, enter, writeImage, Step, answering, judged, headed, messageStep, readyStep, sending, pausing, unqueueing, entering, enterStep, awaitsAny, imageStep, step, move, after}
 use Rattle.laws.proofs.Bool.{and-l, and-r, and-i, or-l, or-r, either, test, clash, every-head, every-tail, every-and}
 use Rattle.laws.proofs.Bits.{bits-put}
 use Rattle.laws.proofs.Ascending.{rising-put, rising-forget, length-put, length-put-found, length-put-new, length-forget, every-put, every-forget}
@@ -246,18 +247,19 @@ module _ (s : Settings) (ok : So (inRange s)) where
       (λ _. pick Kept (leb (s .vcpus) vcpu) _ _ (λ _. a)
       (λ _. vcpu-valid s (m .tables) vcpu _ (ready-good s (vcpuAt (m .tables) vcpu) (vcpu-good s (m .tables) vcpu a)) (λ _. refl) a))
 
-  pub enter-kept : (m : Model) (vcpu : ℕ) (block out : List ℕ) → Valid s (m .tables) → Kept (enterStep s m vcpu block out)
-  unfolding enterStep pausing
-  enter-kept m vcpu block out a =
+  pub enter-kept : (m : Model) (vcpu : ℕ) (block : List ℕ) (event : ℕ) (own out : List ℕ) → Valid s (m .tables) → Kept (enterStep s m vcpu block event own out)
+  unfolding enterStep entering sending unqueueing pausing
+  enter-kept m vcpu block event own out a =
       pick Kept (m .closed) _ _ (λ _. a)
       (λ _. pick Kept (leb (s .vcpus) vcpu) _ _ (λ _. a)
-      (λ _. pick Kept (not (eqb (length block) 536)) _ _ (λ _. a)
-      (λ _. pick Kept (ltb (length out) 552) _ _ (λ _. a)
+      (λ _. pick Kept (not (eqb (length block) 536 && offerFits event own)) _ _ (λ _. a)
+      (λ _. pick Kept (ltb (length out) 576) _ _ (λ _. a)
       (λ _. pick Kept (isSome (awaitedBy m vcpu)) _ _ (λ _. a)
+      (λ _. pick Kept (isAskedFor (m .tables) vcpu event own) _ _ (λ _. a)
       (λ _. pick Kept (leb 1 (vcpuAt (m .tables) vcpu .pauses)) _ _
       (λ e. let u = unpaused-good s (vcpuAt (m .tables) vcpu) (leb-true 1 (vcpuAt (m .tables) vcpu .pauses) e) (vcpu-good s (m .tables) vcpu a) in
       vcpu-valid s (m .tables) vcpu _ (u .0) (λ _. u .1) a)
-      (λ _. a))))))
+      (λ _. a)))))))
 
   pub image-kept : (m : Model) (out : List ℕ) → Valid s (m .tables) → Kept (imageStep m out)
   unfolding imageStep
@@ -268,7 +270,7 @@ module _ (s : Settings) (ok : So (inRange s)) where
   unfolding step
   step-kept m (message msg out guest) a = message-kept m msg out guest a
   step-kept m (ready vcpu) a = ready-kept m vcpu a
-  step-kept m (enter vcpu block out) a = enter-kept m vcpu block out a
+  step-kept m (enter vcpu block event own out) a = enter-kept m vcpu block event own out a
   step-kept m (writeImage out) a = image-kept m out a
 
   pub after-kept : (m : Model) (cs : List Call) → Valid s (m .tables) → Valid s (after s m cs .tables)

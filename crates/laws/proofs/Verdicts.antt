@@ -21,7 +21,8 @@ use Rattle.kvmi.specs.Settings.{allowsCommand, allowsEvent}
 use Rattle.kvmi.specs.Tables.{isCr, isMsr}
 use Rattle.kvmi.specs.Message.{layoutOf, sizeFits, carriesData, namesVcpu, vcpuOf, switchesAt, actionOf, repliedEvent, eventOf, registerOf, gpaOf, sizeOf, countOf, countFits, viewOf, Entry, entriesOf, firstPadding, takesEvent}
 use Rattle.kvmi.specs.declared.Facts.{Facts}
-use Rattle.kvmi.specs.Verdict.{repliesOn, isAccess, inOnePage, isInvalid, isUnready, isDenied, isUnsupported, isBusy, isAbsent, changeOf, losesErrors, commandVerdict, isAwaited, eventReplyVerdict, refuse, verdict}
+use Rattle.kvmi.specs.Event.{eventRowOf, newValue}
+use Rattle.kvmi.specs.Verdict.{repliesOn, isAccess, inOnePage, isInvalid, isUnready, isDenied, isUnsupported, isBusy, isAbsent, changeOf, losesErrors, commandVerdict, isAwaited, replyFits, eventReplyVerdict, refuse, verdict}
 use Rattle.laws.proofs.Bool.{and-l, and-r}
 
 pub or-false-l : (a b : Bool) → (a || b) ≡ false → a ≡ false
@@ -68,11 +69,15 @@ pub record Replied (s : Settings) (f : Facts) (id seq : ℕ) (d : List ℕ) : Ty
   pub reply : id ≡ 16
   pub padding : eqb (firstPadding 16 d) 0 ≡ true
   pub awaited : isAwaited f seq (repliedEvent d) ≡ true
-  pub action : among (actionOf d) (0 ∷ 2 ∷ []) ≡ true
+  pub fits : replyFits (eventRowOf (f .awaited)) d ≡ true
+
+-- what it does
+abbrev pub ending : Facts → List ℕ → Change
+ending f d = EndWait (not (eqb (f .awaited) 2)) (vcpuOf d) (actionOf d) (newValue (eventRowOf (f .awaited)) d)
 
 -- a message closes, fails, does its change, or ends a vCPU's wait
 pub verdict-cases : (P : Verdict → Type 0) (s : Settings) (f : Facts) (id seq : ℕ) (d : List ℕ) → P Closes → ((code : ℤ) → isError code ≡ true → P (Fails code))
-    → (Passed s f id d → P (Does (changeOf id d))) → (Replied s f id seq d → P (Does (EndWait (eqb (actionOf d) 2) (vcpuOf d)))) → P (verdict s f id seq d)
+    → (Passed s f id d → P (Does (changeOf id d))) → (Replied s f id seq d → P (Does (ending f d))) → P (verdict s f id seq d)
 unfolding verdict commandVerdict eventReplyVerdict
 verdict-cases P s f id seq d closes fails does ends =
     let refused : (code : ℤ) → isError code ≡ true → P (refuse (f .mode) code) = λ code e. pick P (repliesOn (f .mode)) (Fails code) Closes (λ _. fails code e) (λ _. closes) in
@@ -83,14 +88,14 @@ verdict-cases P s f id seq d closes fails does ends =
     (λ size. let admitted : Admitted s f id d
     = record { known = not-false _ known; permitted = not-false _ permitted; answerable = answerable; size = not-false (sizeFits (layoutOf id .size) d) size } in
     pick P (eqb id 16) _ _
-    (λ e. pick P (eqb (firstPadding 16 d) 0 && isAwaited f seq (repliedEvent d) && among (actionOf d) (0 ∷ 2 ∷ [])) _ _
+    (λ e. pick P (eqb (firstPadding 16 d) 0 && isAwaited f seq (repliedEvent d) && replyFits (eventRowOf (f .awaited)) d) _ _
     (λ h. ends
     (record {
       admitted = admitted;
       reply = eqb-true id 16 e;
       padding = search (and-l, and-r);
       awaited = search (and-l, and-r);
-      action = search (and-l, and-r);
+      fits = search (and-l, and-r);
     }))
     (λ _. closes))
     (λ command. pick P (eqb id 9 && not (allowsEvent s 2)) _ _ (λ _. closes)
