@@ -31,6 +31,9 @@ enum-told-2 c = search needs
 enum-told-3 : tie.Need-enum-told-3
 enum-told-3 c = search needs
 
+enum-told-4 : tie.Need-enum-told-4
+enum-told-4 c = search needs
+
 returns-2 : tie.Need-returns-2
 unfolding sizeFits
 returns-2 c = rw (c .before .rule .given .1)
@@ -50,6 +53,10 @@ returns-5 : tie.Need-returns-5
 unfolding sizeFits
 returns-5 c = rw (c .enum-told3 .given .1)
 
+returns-6 : tie.Need-returns-6
+unfolding sizeFits
+returns-6 c = rw (c .enum-told4 .given .1)
+
 pub size-fits-spec : {M : Type 1} → statement M
 size-fits-spec =
     tie.close
@@ -61,7 +68,9 @@ size-fits-spec =
     load64-requires
     enum-told-2
     enum-told-3
+    enum-told-4
     returns-2
     returns-3
     returns-4
-    returns-5)
+    returns-5
+    returns-6)
