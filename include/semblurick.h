@@ -14,9 +14,11 @@
  *         answer = semblurick_message(&guest, msg, msg_size, semblurick_output_of(out, sizeof out),
  *                                     semblurick_memory_of(memory, memory_size), &r);
  *         answer 0: the switches and pages that it names, by lookups, to hardware; where r.signal is a kick, get vCPU r.vcpu out
- *             of the guest, with r.wait set before anything is sent; send the first r.count bytes of out to the tool
- *         answer 1: the session is closed; take every guard off the guest, and end the connection
- *     before a vCPU enters the guest: semblurick_enter
+ *             of the guest, with r.wait set before anything is sent; where it is a resume, let vCPU r.vcpu go on; send the first
+ *             r.count bytes of out to the tool
+ *         answer 1: the session is closed; take every guard off the guest, let the vCPUs that wait go on, and end the connection
+ *     before a vCPU enters the guest: semblurick_enter; where it left it for what the tool may watch, a write to CR3 for one, before
+ *     that is carried out: semblurick_enter_event
  *     to hand the guest to a new host: semblurick_image_write here, semblurick_image_read there
  *
  * What the host owes, and all that it owes: every pointer is to valid memory of the stated size and alignment, not null even where
@@ -33,8 +35,8 @@
 /* Grows by one where names are added. Each section, or a name itself, says since which version it is there. A name that is there
  * stays, means what it meant, and what compiled with it compiles again, but that the semblurick_raw_ functions may get more
  * arguments. Structs may get more members, but for struct semblurick_result: compile with the header that came with the library.
- * Enums may get more values: a switch over one has a default. */
-#define SEMBLURICK_VERSION 1
+ * Enums may get more values: a switch over one has a default. Sizes may grow: buffers are made by their names. */
+#define SEMBLURICK_VERSION 2
 
 #include <stdbool.h>
 #include <stddef.h>
@@ -75,9 +77,9 @@ enum {
     SEMBLURICK_PAUSE_LIMIT = 8,       /* pauses that can be queued for a vCPU */
     SEMBLURICK_HEADER_BYTES = 8,      /* a message's header */
     SEMBLURICK_MESSAGE_MAX = 65543,   /* the longest message that a header can state: 8 + 65,535 bytes */
-    SEMBLURICK_EVENT_MAX = 568,       /* the longest event, header included: a CMD_ERROR */
+    SEMBLURICK_EVENT_MAX = 576,       /* the longest event, header included: that of a CR or an MSR (in version 1: 568) */
     SEMBLURICK_MESSAGE_OUT = 4112,    /* the least output for a message */
-    SEMBLURICK_ENTRY_OUT = 552,       /* the least output for an entry: a pause event */
+    SEMBLURICK_ENTRY_OUT = 576,       /* the least output for an entry, whatever it offers (in version 1: 552) */
     SEMBLURICK_STATE_BYTES = 536,     /* a vCPU's register block */
     SEMBLURICK_IMAGE_MAX = 2111662,   /* the longest image: 14 + 10 * 16 + 8 * 262,144 + 14 * 1,024 bytes */
     SEMBLURICK_VCPU_WORDS = 4352,
@@ -89,12 +91,13 @@ enum {
 /* Every call is answered with one of these. From 2 on they are refusals: nothing changes in session, output or guest memory, but
  * that semblurick_fresh and semblurick_image_read then leave a closed session. */
 SEMBLURICK_U32_ENUM(semblurick_answer) {
-    SEMBLURICK_HANDLED = 0,        /* result: count, and signal with vcpu and wait */
+    SEMBLURICK_HANDLED = 0,        /* result: count, and signal with vcpu, and wait or action and value */
     SEMBLURICK_CLOSING = 1,        /* the message broke a rule that closes the session; nothing was written, no event is awaited */
     SEMBLURICK_CLOSED = 2,         /* the session was closed */
     SEMBLURICK_SHORT_OUT = 3,      /* the output is too small */
     SEMBLURICK_BAD_VCPU = 4,       /* the vCPU is not below the count */
-    SEMBLURICK_BAD_STATE = 5,      /* the register block is not 536 bytes */
+    SEMBLURICK_BAD_STATE = 5,      /* the register block is not 536 bytes; since 2 also: no such event can be offered, or its own
+                                      bytes have another length, whether it is switched on or off */
     SEMBLURICK_WAITING = 6,        /* that vCPU's event reply is awaited */
     SEMBLURICK_BAD_SETTINGS = 7,   /* a count is out of its range */
     SEMBLURICK_BAD_FORM = 8,       /* the image breaks a rule; result: offset */
@@ -108,7 +111,8 @@ SEMBLURICK_ASSERT(sizeof(enum semblurick_answer) == 4);
 enum semblurick_signal {
     SEMBLURICK_NONE = 0,
     SEMBLURICK_KICK = 1,  /* get vcpu out of the guest: a pause is queued for it. With wait set, it is out before anything more is sent */
-    SEMBLURICK_CRASH = 2  /* the tool asks that vcpu, and so the guest, be crashed; the session stays open */
+    SEMBLURICK_CRASH = 2, /* the tool asks that vcpu, and so the guest, be crashed; the session stays open */
+    SEMBLURICK_RESUME = 3 /* since 2: vcpu goes on from its event, by action and value (semblurick_enter_event); from a pause: none */
 };
 
 /* The values of an answer; what an answer has none of is 0. Every call that takes a result writes all of it. Its size is final:
@@ -119,7 +123,9 @@ struct semblurick_result {
     uint64_t signal;  /* enum semblurick_signal */
     uint64_t vcpu;    /* of the signal */
     uint64_t wait;    /* of a kick: 1 or 0 */
-    uint64_t reserved[7];
+    uint64_t action;  /* since 2, of a resume: 0 continue, 1 retry (enum kvmi_action) */
+    uint64_t value;   /* since 2, of a resume from a CR or an MSR event: what the register is to hold; from another: 0 */
+    uint64_t reserved[5];
 };
 SEMBLURICK_ASSERT(sizeof(struct semblurick_result) == 96);
 
@@ -240,8 +246,9 @@ SEMBLURICK_CHECKED enum semblurick_answer semblurick_raw_message(struct sembluri
                                                                  uint8_t *out, size_t out_size, uint8_t *memory, size_t memory_size,
                                                                  struct semblurick_result *result);
 SEMBLURICK_CHECKED enum semblurick_answer semblurick_raw_enter(struct semblurick_session *session, struct semblurick_vcpus *vcpus,
-                                                               uint32_t vcpu, const uint8_t *state, size_t state_size, uint8_t *out,
-                                                               size_t out_size, struct semblurick_result *result);
+                                                               uint32_t vcpu, const uint8_t *state, size_t state_size, uint32_t event,
+                                                               const uint8_t *own, size_t own_size, uint8_t *out, size_t out_size,
+                                                               struct semblurick_result *result);
 SEMBLURICK_CHECKED enum semblurick_answer semblurick_raw_image_read(struct semblurick_session *session,
                                                                     struct semblurick_vcpus *vcpus, struct semblurick_pages *pages,
                                                                     const uint8_t *image, size_t image_size,
@@ -312,8 +319,40 @@ SEMBLURICK_CHECKED static inline enum semblurick_answer semblurick_message(struc
 SEMBLURICK_CHECKED static inline enum semblurick_answer semblurick_enter(struct semblurick *guest, uint32_t vcpu, const void *state,
                                                                          size_t state_size, struct semblurick_output out,
                                                                          struct semblurick_result *result) {
-    return semblurick_raw_enter(&guest->session, &guest->vcpus, vcpu, SEMBLURICK_CAST(const uint8_t *, state), state_size, out.bytes,
-                                out.size, result);
+    const uint8_t *block = SEMBLURICK_CAST(const uint8_t *, state);
+    return semblurick_raw_enter(&guest->session, &guest->vcpus, vcpu, block, state_size, 0, block, 0, out.bytes, out.size, result);
+}
+
+/* Since 2. The same for a vCPU that left the guest for what the tool may watch, before the host carries that out: offers it as an
+ * event, by its number and by the own bytes that it has behind the register block. They go out as they are lent; `own` may be null
+ * where own_size is 0.
+ *
+ *     KVMI_EVENT_..    own bytes                          once the tool continues, the host
+ *     3 HYPERCALL      none                               lets the hypercall return
+ *     4 BREAKPOINT     struct kvmi_event_breakpoint, 16   injects the exception, which the guest handles
+ *     5 CR             struct kvmi_event_cr, 24           loads result->value into the register
+ *     7 XSETBV         none                               carries it out
+ *     8 DESCRIPTOR     struct kvmi_event_descriptor, 8    carries it out
+ *     9 MSR            struct kvmi_event_msr, 24          loads result->value into the register
+ *     11 SINGLESTEP    struct kvmi_event_singlestep, 8    lets the vCPU run on
+ *     12 CREATE_VCPU   none                               lets the new vCPU run, ready or not
+ *     14 CPUID         struct kvmi_event_cpuid, 16        carries it out
+ *
+ * The event is written exactly if its switch is on: the vCPU's, of CREATE_VCPU the VM's, and of CR and MSR also that of the register
+ * which the own bytes name. It is to be sent to the tool, and the vCPU waits until semblurick_message signals SEMBLURICK_RESUME: it
+ * then goes on as the table says, or, to retry, does nothing of it, and calls semblurick_enter. A BREAKPOINT and a DESCRIPTOR may be
+ * retried. An event that is switched off is passed over: the host carries out at once what it was about, as if there were no tool.
+ * A queued pause then goes instead; else result->count is 0. semblurick_awaited tells which event was written, and so does byte 12 of
+ * the output (struct kvmi_event). Where the session closes, no signal tells the vCPUs that wait: they go on as if their events had been
+ * passed over. Number 0 offers nothing and has no own bytes; any other number, and own bytes of another size, are answered 5, switched
+ * on or off. Answers 2, 4, 5, 3, 6, tested in this order, or 0. */
+SEMBLURICK_CHECKED static inline enum semblurick_answer semblurick_enter_event(struct semblurick *guest, uint32_t vcpu,
+                                                                               const void *state, size_t state_size, uint32_t event,
+                                                                               const void *own, size_t own_size,
+                                                                               struct semblurick_output out,
+                                                                               struct semblurick_result *result) {
+    return semblurick_raw_enter(&guest->session, &guest->vcpus, vcpu, SEMBLURICK_CAST(const uint8_t *, state), state_size, event,
+                                SEMBLURICK_CAST(const uint8_t *, own_size ? own : state), own_size, out.bytes, out.size, result);
 }
 
 /* How many bytes the image of a session has, closed or busy as it may be; at most SEMBLURICK_IMAGE_MAX. */
@@ -443,7 +482,7 @@ static inline const char *semblurick_answer_text(uint32_t answer) {
     case SEMBLURICK_CLOSED: return "closed";
     case SEMBLURICK_SHORT_OUT: return "short output";
     case SEMBLURICK_BAD_VCPU: return "bad vCPU";
-    case SEMBLURICK_BAD_STATE: return "bad state block";
+    case SEMBLURICK_BAD_STATE: return "bad state block or event";
     case SEMBLURICK_WAITING: return "waiting";
     case SEMBLURICK_BAD_SETTINGS: return "bad settings";
     case SEMBLURICK_BAD_FORM: return "bad form";
@@ -460,6 +499,7 @@ static inline const char *semblurick_signal_text(uint64_t signal) {
     case SEMBLURICK_NONE: return "none";
     case SEMBLURICK_KICK: return "kick";
     case SEMBLURICK_CRASH: return "crash";
+    case SEMBLURICK_RESUME: return "resume";
     default: return "unknown signal";
     }
 }
@@ -573,7 +613,8 @@ enum kvmi_event_id {
     KVMI_EVENT_CPUID = 14
 };
 
-/* Of an event reply. A pause event takes the first and the last; another action closes the session. */
+/* Of an event reply. Every event takes the first and the last, BREAKPOINT and DESCRIPTOR the second too; another action closes the
+ * session. */
 enum kvmi_action { KVMI_EVENT_ACTION_CONTINUE = 0, KVMI_EVENT_ACTION_RETRY = 1, KVMI_EVENT_ACTION_CRASH = 2 };
 
 enum kvmi_page_access { KVMI_PAGE_ACCESS_R = 1, KVMI_PAGE_ACCESS_W = 2, KVMI_PAGE_ACCESS_X = 4 };
@@ -754,14 +795,22 @@ struct kvmi_vm_control_cmd_response {
 };
 SEMBLURICK_ASSERT(sizeof(struct kvmi_vm_control_cmd_response) == 8 && offsetof(struct kvmi_vm_control_cmd_response, flags) == 2);
 
-/* 16 KVMI_EVENT_REPLY, behind struct kvmi_vcpu_hdr; the header has the event's seq. It gets no reply. */
+/* 16 KVMI_EVENT_REPLY, behind struct kvmi_vcpu_hdr; the header has the event's seq. It gets no reply. To a CR and to an MSR event, their
+ * struct follows, whatever the action is (since 2). */
 struct kvmi_event_reply {
     uint8_t action;  /* enum kvmi_action */
     uint8_t event;   /* enum kvmi_event_id */
     uint16_t padding1;
     uint32_t padding2;
 };
+struct kvmi_event_cr_reply {
+    uint64_t new_val;  /* what the register is to hold */
+};
+struct kvmi_event_msr_reply {
+    uint64_t new_val;
+};
 SEMBLURICK_ASSERT(sizeof(struct kvmi_event_reply) == 8 && offsetof(struct kvmi_event_reply, padding2) == 4);
+SEMBLURICK_ASSERT(sizeof(struct kvmi_event_cr_reply) == 8 && sizeof(struct kvmi_event_msr_reply) == 8);
 
 /* 17 KVMI_EVENT, to the tool: the register block by its parts; of regs and sregs, see enum semblurick_state. */
 struct kvmi_event_arch {
@@ -804,8 +853,49 @@ struct kvmi_event_cmd_error {
     uint16_t padding[3];
 };
 SEMBLURICK_ASSERT(sizeof(struct kvmi_event_cmd_error) == 16 && offsetof(struct kvmi_event_cmd_error, msg_id) == 8);
-SEMBLURICK_ASSERT(sizeof(struct kvmi_msg_hdr) + sizeof(struct kvmi_event) + sizeof(struct kvmi_event_cmd_error) == SEMBLURICK_EVENT_MAX);
-SEMBLURICK_ASSERT(sizeof(struct kvmi_msg_hdr) + sizeof(struct kvmi_event) == SEMBLURICK_ENTRY_OUT);
+
+/* The own bytes of the events that a host offers (since 2). HYPERCALL, XSETBV and CREATE_VCPU have none, nor has PAUSE_VCPU. */
+struct kvmi_event_breakpoint {
+    uint64_t gpa;  /* of the breakpoint instruction */
+    uint8_t insn_len;
+    uint8_t padding[7];
+};
+struct kvmi_event_cr {
+    uint16_t cr;  /* 0, 3 or 4; no other has a switch */
+    uint16_t padding[3];
+    uint64_t old_value;
+    uint64_t new_value;
+};
+struct kvmi_event_descriptor {
+    uint8_t descriptor;  /* IDTR, GDTR, LDTR or TR, by a number that host and tool agree on */
+    uint8_t write;       /* 1: it is written; 0: it is read */
+    uint8_t padding[6];
+};
+struct kvmi_event_msr {
+    uint32_t msr;  /* 0 to 0x1FFF, or 0xC0000000 to 0xC0001FFF; no other has a switch */
+    uint32_t padding;
+    uint64_t old_value;
+    uint64_t new_value;
+};
+struct kvmi_event_singlestep {
+    uint8_t failed;
+    uint8_t padding[7];
+};
+struct kvmi_event_cpuid {
+    uint32_t function;  /* eax */
+    uint32_t index;     /* ecx */
+    uint8_t insn_length;
+    uint8_t padding1[3];
+    uint32_t padding2;
+};
+SEMBLURICK_ASSERT(sizeof(struct kvmi_event_breakpoint) == 16 && offsetof(struct kvmi_event_breakpoint, insn_len) == 8);
+SEMBLURICK_ASSERT(sizeof(struct kvmi_event_cr) == 24 && offsetof(struct kvmi_event_cr, old_value) == 8);
+SEMBLURICK_ASSERT(sizeof(struct kvmi_event_descriptor) == 8 && offsetof(struct kvmi_event_descriptor, write) == 1);
+SEMBLURICK_ASSERT(sizeof(struct kvmi_event_msr) == 24 && offsetof(struct kvmi_event_msr, old_value) == 8);
+SEMBLURICK_ASSERT(sizeof(struct kvmi_event_singlestep) == 8);
+SEMBLURICK_ASSERT(sizeof(struct kvmi_event_cpuid) == 16 && offsetof(struct kvmi_event_cpuid, insn_length) == 8);
+SEMBLURICK_ASSERT(sizeof(struct kvmi_msg_hdr) + sizeof(struct kvmi_event) + sizeof(struct kvmi_event_cr) == SEMBLURICK_EVENT_MAX);
+SEMBLURICK_ASSERT(SEMBLURICK_ENTRY_OUT == 0 + SEMBLURICK_EVENT_MAX);
 #endif
 
 #ifdef __cplusplus

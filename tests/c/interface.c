@@ -11,8 +11,9 @@ size_t second_unit(void); /* second.c's own copy of the inline calls */
 static unsigned checks, failed;
 #define CHECK(fact) (checks++, (fact) ? (void)0 : (void)(failed++, printf("%s:%d: not so: %s\n", __FILE__, __LINE__, #fact)))
 
-static struct semblurick guest, other;
+static struct semblurick guest, other, before;
 static uint8_t out[SEMBLURICK_MESSAGE_OUT], memory[2 * SEMBLURICK_PAGE_BYTES], image[SEMBLURICK_IMAGE_MAX], nowhere[1];
+static uint8_t state[SEMBLURICK_STATE_BYTES], own[25]; /* a register block, and an event's own bytes */
 static struct semblurick_result r;
 
 /* ---- messages */
@@ -127,12 +128,17 @@ static void begin_pause(uint16_t vcpu, uint8_t wait) {
     begin(KVMI_VCPU_PAUSE, 9), add_vcpu(vcpu), add(&p, sizeof p);
 }
 
-static enum semblurick_answer answer_event(uint16_t vcpu, uint32_t seq, uint8_t action) {
+/* with `size` bytes of a new value behind it */
+static enum semblurick_answer answer_event(uint16_t vcpu, uint32_t seq, uint8_t action, uint8_t event, uint64_t value, size_t size) {
     struct kvmi_event_reply e;
     memset(&e, 0, sizeof e);
-    e.action = action, e.event = KVMI_EVENT_PAUSE_VCPU;
-    begin(KVMI_EVENT_REPLY, seq), add_vcpu(vcpu), add(&e, sizeof e);
+    e.action = action, e.event = event;
+    begin(KVMI_EVENT_REPLY, seq), add_vcpu(vcpu), add(&e, sizeof e), add(&value, size);
     return send();
+}
+
+static enum semblurick_answer answer_pause(uint16_t vcpu, uint32_t seq, uint8_t action) {
+    return answer_event(vcpu, seq, action, KVMI_EVENT_PAUSE_VCPU, 0, 0);
 }
 
 static bool rest_is_zero(void) {
@@ -142,7 +148,7 @@ static bool rest_is_zero(void) {
 }
 
 static bool is_zero(const struct semblurick_result *x) {
-    static const struct semblurick_result zero = {0, 0, 0, 0, 0, {0}};
+    static const struct semblurick_result zero = {0, 0, 0, 0, 0, 0, 0, {0}};
     return !memcmp(x, &zero, sizeof zero);
 }
 
@@ -162,7 +168,7 @@ static void settings(void) {
     CHECK(s.vcpus == 1 && s.views == 1 && s.commands == 0 && s.events == 0 && s.tsc_speed == 0 && s.singlestep == 0 && s.vmfunc == 0);
     CHECK(s.eptp == 0 && s.ve == 0 && s.spp == 0 && s.descriptors == 0 && s.breakpoints_taken == 0);
     CHECK(SEMBLURICK_BIT(KVMI_VM_GET_INFO) == 16 && SEMBLURICK_BIT(31) == 0x80000000 && SEMBLURICK_ALL == 0xFFFFFFFF);
-    CHECK(SEMBLURICK_VERSION == 1);
+    CHECK(SEMBLURICK_VERSION == 2);
 
     /* memory of zeros is a closed session */
     CHECK(!semblurick_is_open(&guest) && semblurick_ready(&guest, 0) == SEMBLURICK_CLOSED);
@@ -279,7 +285,6 @@ static void pages(void) {
 }
 
 static void pauses(void) {
-    static uint8_t state[SEMBLURICK_STATE_BYTES];
     struct kvmi_msg_hdr header;
     struct kvmi_event event;
     const struct semblurick_output o = semblurick_output_of(out, sizeof out);
@@ -305,9 +310,157 @@ static void pauses(void) {
     CHECK(semblurick_pauses(&guest, 1) == 7 && semblurick_awaited(&guest, 1) == KVMI_EVENT_PAUSE_VCPU && semblurick_awaited(&guest, 0) == 0);
     CHECK(semblurick_enter(&guest, 1, state, sizeof state, o, &r) == SEMBLURICK_WAITING && is_zero(&r));
     CHECK(semblurick_image_write(&guest, semblurick_output_of(image, sizeof image), &r) == SEMBLURICK_BUSY);
-    CHECK(answer_event(1, 0, KVMI_EVENT_ACTION_CONTINUE) == SEMBLURICK_HANDLED && is_zero(&r) && semblurick_awaited(&guest, 1) == 0);
+    CHECK(answer_pause(1, 0, KVMI_EVENT_ACTION_CONTINUE) == SEMBLURICK_HANDLED && is_zero(&r) && semblurick_awaited(&guest, 1) == 0);
     CHECK(semblurick_enter(&guest, 1, state, sizeof state, o, &r) == SEMBLURICK_HANDLED && r.count == 552);
-    CHECK(answer_event(1, 1, KVMI_EVENT_ACTION_CRASH) == SEMBLURICK_HANDLED && r.signal == SEMBLURICK_CRASH && r.vcpu == 1 && semblurick_is_open(&guest));
+    CHECK(answer_pause(1, 1, KVMI_EVENT_ACTION_CRASH) == SEMBLURICK_HANDLED && r.signal == SEMBLURICK_CRASH && r.vcpu == 1 && semblurick_is_open(&guest));
+}
+
+/* ---- events that the host offers */
+
+/* An entry with `size` own bytes and `room` bytes of output. Past the count the output is untouched. */
+static enum semblurick_answer offer(uint32_t vcpu, uint32_t event, size_t size, size_t room) {
+    memset(out, 0xC3, sizeof out);
+    memset(&r, 0xAA, sizeof r);
+    enum semblurick_answer answer = semblurick_enter_event(&guest, vcpu, state, sizeof state, event, size ? own : NULL, size, semblurick_output_of(out, room), &r);
+    size_t past = r.count;
+    while (past < sizeof out && out[past] == 0xC3) past++;
+    CHECK(past == sizeof out);
+    return answer;
+}
+
+/* What was written is this event, with the own bytes. */
+static bool is_event(uint16_t vcpu, uint8_t event, size_t size) {
+    struct kvmi_msg_hdr header;
+    struct kvmi_event e;
+    memcpy(&header, out, sizeof header);
+    memcpy(&e, out + sizeof header, sizeof e);
+    return r.count == 552 + size && r.signal == SEMBLURICK_NONE && header.id == KVMI_EVENT && header.size == 544 + size &&
+           header.seq + 1 == guest.session.seq && e.size == 544 && e.vcpu == vcpu && e.event == event && !memcmp(e.padding, "\0\0", 3) &&
+           !memcmp(&e.arch, state, sizeof state) && !memcmp(out + 552, own, size) && semblurick_awaited(&guest, vcpu) == event;
+}
+
+static bool is_resume(uint64_t vcpu, uint64_t action, uint64_t value) {
+    return r.count == 0 && r.offset == 0 && r.signal == SEMBLURICK_RESUME && r.vcpu == vcpu && r.wait == 0 && r.action == action && r.value == value && rest_is_zero();
+}
+
+/* A reply that closes; the session is then as it was before. */
+static bool closes(uint8_t action, uint8_t event, size_t size) {
+    memcpy(&before, &guest, sizeof guest);
+    bool closed = answer_event(0, guest.session.seq - 1, action, event, 7, size) == SEMBLURICK_CLOSING && is_zero(&r) && !semblurick_awaited(&guest, 0);
+    memcpy(&guest, &before, sizeof guest);
+    return closed;
+}
+
+/* Switched on or off on vCPU 0, with CR3 and LSTAR. */
+static bool set(uint16_t event, uint8_t enable) {
+    if (event == KVMI_EVENT_CREATE_VCPU) return vm_event(event, enable) == 0;
+    if (event == KVMI_EVENT_CR) CHECK(cr(0, 3, enable) == 0);
+    if (event == KVMI_EVENT_MSR) CHECK(msr(0, 0xC0000082, enable) == 0);
+    return vcpu_event(0, event, enable) == 0;
+}
+
+static void events(void) {
+    static const struct {
+        uint8_t event;
+        bool retries;
+        size_t size, value; /* of the own bytes, and of the reply's new value */
+    } rows[] = {
+        {KVMI_EVENT_HYPERCALL, false, 0, 0},
+        {KVMI_EVENT_BREAKPOINT, true, sizeof(struct kvmi_event_breakpoint), 0},
+        {KVMI_EVENT_CR, false, sizeof(struct kvmi_event_cr), sizeof(struct kvmi_event_cr_reply)},
+        {KVMI_EVENT_XSETBV, false, 0, 0},
+        {KVMI_EVENT_DESCRIPTOR, true, sizeof(struct kvmi_event_descriptor), 0},
+        {KVMI_EVENT_MSR, false, sizeof(struct kvmi_event_msr), sizeof(struct kvmi_event_msr_reply)},
+        {KVMI_EVENT_SINGLESTEP, false, sizeof(struct kvmi_event_singlestep), 0},
+        {KVMI_EVENT_CREATE_VCPU, false, 0, 0},
+        {KVMI_EVENT_CPUID, false, sizeof(struct kvmi_event_cpuid), 0},
+    };
+    const uint64_t value = 0x0123456789ABCDEF;
+    for (size_t i = 0; i < sizeof state; i++) state[i] = (uint8_t)(i * 5 + 3);
+
+    for (size_t i = 0; i < sizeof rows / sizeof rows[0]; i++) {
+        const uint8_t e = rows[i].event;
+        const size_t size = rows[i].size;
+        for (size_t j = 0; j < sizeof own; j++) own[j] = (uint8_t)(0xF0 - j); /* the paddings, too, go out as they are lent */
+        if (e == KVMI_EVENT_CR) memcpy(own, "\3", 2);
+        if (e == KVMI_EVENT_MSR) memcpy(own, "\x82\0\0\xC0", 4);
+
+        /* off: it is passed over, and nothing changes */
+        CHECK(set(e, 0));
+        memcpy(&before, &guest, sizeof guest);
+        CHECK(offer(0, e, size, SEMBLURICK_ENTRY_OUT) == SEMBLURICK_HANDLED && is_zero(&r) && !memcmp(&before, &guest, sizeof guest));
+        CHECK(offer(0, e, size + 1, sizeof out) == SEMBLURICK_BAD_STATE && is_zero(&r));
+
+        /* on: it goes out, and its reply is awaited */
+        CHECK(set(e, 1));
+        CHECK(offer(0, e, size + 1, sizeof out) == SEMBLURICK_BAD_STATE && (size == 0 || offer(0, e, size - 1, sizeof out) == SEMBLURICK_BAD_STATE) && is_zero(&r));
+        CHECK(offer(0, e, size, SEMBLURICK_ENTRY_OUT - 1) == SEMBLURICK_SHORT_OUT && is_zero(&r) && semblurick_awaited(&guest, 0) == 0);
+        CHECK(offer(0, e, size, SEMBLURICK_ENTRY_OUT) == SEMBLURICK_HANDLED && is_event(0, e, size) && rest_is_zero());
+        CHECK(offer(0, e, size, sizeof out) == SEMBLURICK_WAITING && offer(0, 0, 0, sizeof out) == SEMBLURICK_WAITING && is_zero(&r));
+        CHECK(offer(0, e, size + 1, 0) == SEMBLURICK_BAD_STATE && offer(0, e, size, 0) == SEMBLURICK_SHORT_OUT && semblurick_awaited(&guest, 0) == e);
+        CHECK(semblurick_image_write(&guest, semblurick_output_of(image, sizeof image), &r) == SEMBLURICK_BUSY);
+
+        /* what closes: another size, another event, an action that it has not */
+        CHECK(closes(KVMI_EVENT_ACTION_CONTINUE, e, 8 - rows[i].value) && closes(KVMI_EVENT_ACTION_CRASH, e, 8 - rows[i].value));
+        CHECK(closes(KVMI_EVENT_ACTION_CONTINUE, KVMI_EVENT_PAUSE_VCPU, rows[i].value) && closes(3, e, rows[i].value));
+
+        /* it may be switched off meanwhile */
+        CHECK(set(e, 0));
+        CHECK(answer_event(0, guest.session.seq - 1, KVMI_EVENT_ACTION_CONTINUE, e, value, rows[i].value) == SEMBLURICK_HANDLED);
+        CHECK(is_resume(0, KVMI_EVENT_ACTION_CONTINUE, rows[i].value ? value : 0) && semblurick_awaited(&guest, 0) == 0);
+        CHECK(set(e, 1) && offer(0, e, size, sizeof out) == SEMBLURICK_HANDLED && is_event(0, e, size));
+        if (rows[i].retries) {
+            CHECK(answer_event(0, guest.session.seq - 1, KVMI_EVENT_ACTION_RETRY, e, 0, 0) == SEMBLURICK_HANDLED && is_resume(0, KVMI_EVENT_ACTION_RETRY, 0));
+            CHECK(offer(0, e, size, sizeof out) == SEMBLURICK_HANDLED && is_event(0, e, size));
+        } else {
+            CHECK(closes(KVMI_EVENT_ACTION_RETRY, e, rows[i].value));
+        }
+        CHECK(answer_event(0, guest.session.seq - 1, KVMI_EVENT_ACTION_CRASH, e, value, rows[i].value) == SEMBLURICK_HANDLED);
+        CHECK(r.signal == SEMBLURICK_CRASH && r.vcpu == 0 && r.wait == 0 && r.action == 0 && r.value == 0 && rest_is_zero() && semblurick_is_open(&guest));
+        CHECK(e == KVMI_EVENT_CREATE_VCPU || set(e, 0));
+    }
+
+    /* what can't be offered is refused after a bad vCPU is, and before a short output is */
+    const uint32_t refused[] = {1, 2, 6, 10, 13, 15, 16, 17, 32 + 3, 64 + 3, 256 + 3, 0x10003, 0x80000003, UINT32_MAX};
+    for (size_t i = 0; i < sizeof refused / sizeof refused[0]; i++) {
+        CHECK(offer(0, refused[i], 0, sizeof out) == SEMBLURICK_BAD_STATE && offer(0, refused[i], 24, 0) == SEMBLURICK_BAD_STATE && is_zero(&r));
+        CHECK(offer(3, refused[i], 0, 0) == SEMBLURICK_BAD_VCPU);
+    }
+    CHECK(offer(0, 0, 1, sizeof out) == SEMBLURICK_BAD_STATE && offer(0, 0, 0, SEMBLURICK_ENTRY_OUT - 1) == SEMBLURICK_SHORT_OUT);
+    CHECK(semblurick_enter_event(&guest, 0, state, 535, KVMI_EVENT_XSETBV, NULL, 0, semblurick_output_of(out, 0), &r) == SEMBLURICK_BAD_STATE);
+
+    /* the register's switch counts beside the event's; a register that has none is passed over */
+    struct kvmi_event_cr c;
+    struct kvmi_event_msr m;
+    memset(&c, 0, sizeof c), memset(&m, 0, sizeof m);
+    CHECK(set(KVMI_EVENT_CR, 1) && set(KVMI_EVENT_MSR, 1));
+    const uint16_t crs[] = {0, 1, 2, 4, 8, 256 + 3, 0xFFFF};
+    for (size_t i = 0; i < sizeof crs / sizeof crs[0]; i++) {
+        c.cr = crs[i], memcpy(own, &c, sizeof c);
+        CHECK(offer(0, KVMI_EVENT_CR, sizeof c, sizeof out) == SEMBLURICK_HANDLED && is_zero(&r) && semblurick_awaited(&guest, 0) == 0);
+    }
+    const uint32_t msrs[] = {0x82, 0xC0000081, 0x80000082, 0x2000, 0xC0002082, UINT32_MAX};
+    for (size_t i = 0; i < sizeof msrs / sizeof msrs[0]; i++) {
+        m.msr = msrs[i], memcpy(own, &m, sizeof m);
+        CHECK(offer(0, KVMI_EVENT_MSR, sizeof m, sizeof out) == SEMBLURICK_HANDLED && is_zero(&r) && semblurick_awaited(&guest, 0) == 0);
+    }
+    c.cr = 3, c.old_value = 1, c.new_value = 2, memcpy(own, &c, sizeof c);
+    CHECK(vcpu_event(0, KVMI_EVENT_CR, 0) == 0 && offer(0, KVMI_EVENT_CR, sizeof c, sizeof out) == SEMBLURICK_HANDLED && is_zero(&r));
+    CHECK(set(KVMI_EVENT_CR, 0) && set(KVMI_EVENT_MSR, 0));
+
+    /* an event goes before a pause, which stays queued; a pause goes instead of one that is passed over, and is not resumed */
+    CHECK(semblurick_pauses(&guest, 1) == 6 && vcpu_event(1, KVMI_EVENT_CR, 1) == 0 && semblurick_cr(&guest, 1, 3));
+    CHECK(offer(1, KVMI_EVENT_CR, sizeof c, sizeof out) == SEMBLURICK_HANDLED && is_event(1, KVMI_EVENT_CR, sizeof c) && semblurick_pauses(&guest, 1) == 6);
+    CHECK(!memcmp(out, "\x11\0\x38\2", 4) && !memcmp(out + 8, "\x20\2\1\0\5\0\0", 8));
+    CHECK(!memcmp(out + 552, "\3\0\0\0\0\0\0\0\1\0\0\0\0\0\0\0\2\0\0\0\0\0\0", 24));
+    CHECK(answer_event(1, guest.session.seq - 1, KVMI_EVENT_ACTION_CONTINUE, KVMI_EVENT_CR, 9, 8) == SEMBLURICK_HANDLED && is_resume(1, 0, 9));
+    CHECK(vcpu_event(1, KVMI_EVENT_CR, 0) == 0);
+    CHECK(offer(1, KVMI_EVENT_CR, sizeof c, sizeof out) == SEMBLURICK_HANDLED && is_event(1, KVMI_EVENT_PAUSE_VCPU, 0) && semblurick_pauses(&guest, 1) == 5);
+    CHECK(answer_pause(1, guest.session.seq - 1, KVMI_EVENT_ACTION_CONTINUE) == SEMBLURICK_HANDLED && is_zero(&r));
+
+    /* a new vCPU need not be ready */
+    CHECK(!semblurick_is_ready(&guest, 2) && offer(2, KVMI_EVENT_CREATE_VCPU, 0, sizeof out) == SEMBLURICK_HANDLED && is_event(2, KVMI_EVENT_CREATE_VCPU, 0));
+    CHECK(answer_event(2, guest.session.seq - 1, KVMI_EVENT_ACTION_CONTINUE, KVMI_EVENT_CREATE_VCPU, 0, 0) == SEMBLURICK_HANDLED && is_resume(2, 0, 0));
 }
 
 static void errors_as_events(void) {
@@ -320,7 +473,7 @@ static void errors_as_events(void) {
     begin(KVMI_VM_CONTROL_CMD_RESPONSE, 50), add(&c, sizeof c);
     CHECK(send() == SEMBLURICK_HANDLED && r.count == 0);
     begin_pause(2, 0);
-    CHECK(send() == SEMBLURICK_HANDLED && r.count == SEMBLURICK_EVENT_MAX);
+    CHECK(send() == SEMBLURICK_HANDLED && r.count == sizeof header + sizeof event + sizeof error);
     memcpy(&header, out, sizeof header);
     memcpy(&event, out + sizeof header, sizeof event);
     memcpy(&error, out + sizeof header + sizeof event, sizeof error);
@@ -372,6 +525,7 @@ static void closing(void) {
     CHECK(send() == SEMBLURICK_CLOSED && semblurick_ready(&guest, 0) == SEMBLURICK_CLOSED);
     CHECK(semblurick_image_write(&guest, semblurick_output_of(image, sizeof image), &r) == SEMBLURICK_CLOSED);
     CHECK(semblurick_enter(&guest, 0, nowhere, 0, semblurick_output_of(out, sizeof out), &r) == SEMBLURICK_CLOSED);
+    CHECK(offer(99, 99, 1, 0) == SEMBLURICK_CLOSED && is_zero(&r));
 }
 
 static void lists(void) {
@@ -393,7 +547,6 @@ static void parts(void) {
     static struct semblurick_session session;
     static struct semblurick_vcpus vcpus;
     static struct semblurick_pages page_words;
-    static const uint8_t state[SEMBLURICK_STATE_BYTES] = {0};
     uint64_t numbers[3];
     session.settings = settings_of(1, 1);
     CHECK(semblurick_raw_fresh(&session, &vcpus, &page_words, &r) == SEMBLURICK_HANDLED && semblurick_raw_is_open(&session) == 1);
@@ -404,7 +557,7 @@ static void parts(void) {
     CHECK(semblurick_raw_image_size(&session, &vcpus, &page_words) == 24);
     CHECK(semblurick_raw_image_write(&session, &vcpus, &page_words, image, 24, &r) == SEMBLURICK_HANDLED);
     CHECK(semblurick_raw_image_read(&session, &vcpus, &page_words, image, 24, &r) == SEMBLURICK_HANDLED);
-    CHECK(semblurick_raw_enter(&session, &vcpus, 0, state, sizeof state, out, sizeof out, &r) == SEMBLURICK_HANDLED && r.count == 552);
+    CHECK(semblurick_raw_enter(&session, &vcpus, 0, state, sizeof state, KVMI_EVENT_HYPERCALL, nowhere, 0, out, sizeof out, &r) == SEMBLURICK_HANDLED && r.count == 552);
     CHECK(semblurick_raw_awaited(&session, &vcpus, 0) == 2 && semblurick_raw_page_count(&session) == 0 && semblurick_raw_access(&session, &page_words, 0, 1) == 7);
     CHECK(!semblurick_raw_vm_event(&session, 1) && !semblurick_raw_vcpu_event(&session, &vcpus, 0, 5) && !semblurick_raw_cr(&session, &vcpus, 0, 3));
     CHECK(!semblurick_raw_msr(&session, &vcpus, 0, 1) && !semblurick_raw_singlestep(&session, &vcpus, 0));
@@ -470,12 +623,13 @@ static void numbers(void) {
 }
 
 static void texts(void) {
-    static const char *const answers[] = {"handled", "closing", "closed", "short output", "bad vCPU", "bad state block", "waiting", "bad settings",
-        "bad form", "forbidden", "busy", "unknown answer", "unknown answer", "unknown answer", "not applicable", "unknown answer"};
+    static const char *const answers[] = {"handled", "closing", "closed", "short output", "bad vCPU", "bad state block or event", "waiting",
+        "bad settings", "bad form", "forbidden", "busy", "unknown answer", "unknown answer", "unknown answer", "not applicable", "unknown answer"};
     for (uint32_t i = 0; i < 16; i++) CHECK(!strcmp(semblurick_answer_text(i), answers[i]));
     CHECK(!strcmp(semblurick_answer_text(SEMBLURICK_BUSY), "busy") && !strcmp(semblurick_answer_text(UINT32_MAX), "unknown answer"));
     CHECK(!strcmp(semblurick_signal_text(SEMBLURICK_NONE), "none") && !strcmp(semblurick_signal_text(SEMBLURICK_KICK), "kick"));
-    CHECK(!strcmp(semblurick_signal_text(SEMBLURICK_CRASH), "crash") && !strcmp(semblurick_signal_text(UINT64_MAX), "unknown signal"));
+    CHECK(!strcmp(semblurick_signal_text(SEMBLURICK_CRASH), "crash") && !strcmp(semblurick_signal_text(SEMBLURICK_RESUME), "resume"));
+    CHECK(!strcmp(semblurick_signal_text(4), "unknown signal") && !strcmp(semblurick_signal_text(UINT64_MAX), "unknown signal"));
     const int32_t errors[] = {-KVMI_EPERM, -KVMI_ENOENT, -KVMI_EAGAIN, -KVMI_ENOMEM, -KVMI_EBUSY, -KVMI_EINVAL, -KVMI_EOPNOTSUPP, -KVMI_ENOSYS};
     static const char *const names[] = {"EPERM:", "ENOENT:", "EAGAIN:", "ENOMEM:", "EBUSY:", "EINVAL:", "EOPNOTSUPP:", "ENOSYS:"};
     for (int i = 0; i < 8; i++) CHECK(!strncmp(semblurick_error_text(errors[i]), names[i], strlen(names[i])));
@@ -494,6 +648,7 @@ int main(void) {
     switches();
     pages();
     pauses();
+    events();
     errors_as_events();
     images(&s);
     closing();

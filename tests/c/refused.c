@@ -1,4 +1,4 @@
-/* What the compiler has to refuse with -Werror=unused-result, for each CASE from 1 to 12; CASE 0 is taken. */
+/* What the compiler has to refuse with -Werror=unused-result, for each CASE from 1 to 13; CASE 0 is taken. */
 #include "semblurick.h"
 
 void use(struct semblurick *guest, uint8_t *bytes, size_t size, struct semblurick_vcpu *list, struct semblurick_result *r);
@@ -18,21 +18,23 @@ void use(struct semblurick *guest, uint8_t *bytes, size_t size, struct sembluric
 #elif CASE == 4
     semblurick_enter(guest, 0, bytes, size, out, r);
 #elif CASE == 5
-    semblurick_image_write(guest, out, r);
+    semblurick_enter_event(guest, 0, bytes, size, 3, bytes, 0, out, r);
 #elif CASE == 6
-    semblurick_image_read(guest, &s, bytes, size, r);
+    semblurick_image_write(guest, out, r);
 #elif CASE == 7
-    semblurick_list_ready(list, 1, 0);
+    semblurick_image_read(guest, &s, bytes, size, r);
 #elif CASE == 8
-    semblurick_list_cr(list, 1, 0, 3, 1);
+    semblurick_list_ready(list, 1, 0);
 #elif CASE == 9
+    semblurick_list_cr(list, 1, 0, 3, 1);
+#elif CASE == 10
     semblurick_raw_ready(&guest->session, 0, r);
     /* output and guest memory are exchanged, or memory stands where an output should */
-#elif CASE == 10
-    if (semblurick_message(guest, bytes, size, memory, out, r)) return;
 #elif CASE == 11
-    if (semblurick_image_write(guest, memory, r)) return;
+    if (semblurick_message(guest, bytes, size, memory, out, r)) return;
 #elif CASE == 12
+    if (semblurick_image_write(guest, memory, r)) return;
+#elif CASE == 13
     if (semblurick_message(guest, bytes, size, bytes, size, bytes, size, r)) return;
 #endif
 }
