@@ -4,7 +4,8 @@ use crate::show::{self, Hex};
 use crate::{Action, Errno, Event, STATE_BYTES};
 use core::fmt;
 
-/// The bytes of a CMD_ERROR event.
+/// The bytes of a CMD_ERROR event, the only event that a message writes. Of those that entries write, BREAKPOINT and CPUID have as
+/// many.
 const COMMAND_ERROR: usize = 568;
 
 /// What the host is to do beside sending the bytes.
@@ -26,11 +27,13 @@ pub enum Signal {
         /// Which one.
         vcpu: u32,
     },
-    /// A vCPU goes on from the event that it was offered.
+    /// A vCPU goes on from the event that it waits with, which [`Session::enter_event`](crate::Session::enter_event) wrote; from a
+    /// pause it goes on without a signal.
     Resume {
         /// Which one.
         vcpu: u32,
-        /// To continue, or to run the instruction again.
+        /// [`Action::Continue`]: what the event was about is carried out. [`Action::Retry`]: it is not, and the vCPU enters the guest
+        /// again.
         action: Action,
         /// Of a CR or an MSR event, what the register is to hold; else 0.
         value: u64,
@@ -44,7 +47,10 @@ impl fmt::Display for Signal {
             Signal::Kick { vcpu, wait: true } => write!(f, "kick vCPU {vcpu} and wait"),
             Signal::Kick { vcpu, wait: false } => write!(f, "kick vCPU {vcpu}"),
             Signal::Crash { vcpu } => write!(f, "crash vCPU {vcpu}"),
-            Signal::Resume { vcpu, action, value } => write!(f, "resume vCPU {vcpu}, {action}, value {value:#x}"),
+            Signal::Resume { vcpu, action, value } => {
+                let action = if *action == Action::Retry { "retry" } else { "continue" };
+                write!(f, "resume vCPU {vcpu}: {action}, value {value:#x}")
+            }
         }
     }
 }
@@ -152,7 +158,7 @@ impl Entry<'_> {
         self.bytes.is_empty()
     }
 
-    /// The event that was written, whose reply the vCPU awaits.
+    /// The event that was written, whose reply the vCPU awaits: the one that was offered, or a pause.
     #[must_use]
     pub fn event(&self) -> Option<Event> {
         show::event(self.bytes)
@@ -189,7 +195,8 @@ pub enum Refusal {
     ShortOut,
     /// The vCPU is not below the count.
     BadVcpu,
-    /// The register block is not [`STATE_BYTES`] bytes.
+    /// The register block is not [`STATE_BYTES`] bytes; or no such event can be offered, or its own bytes have another length, whether
+    /// it is switched on or off.
     BadState,
     /// That vCPU's event reply is awaited.
     Waiting,
@@ -254,7 +261,9 @@ impl fmt::Display for Refusal {
             Refusal::Closed => f.write_str("the session is closed"),
             Refusal::ShortOut => f.write_str("the output is too small"),
             Refusal::BadVcpu => f.write_str("no such vCPU"),
-            Refusal::BadState => write!(f, "the register block is not {STATE_BYTES} bytes"),
+            Refusal::BadState => {
+                write!(f, "the register block is not {STATE_BYTES} bytes, or no event of that number and length can be offered")
+            }
             Refusal::Waiting => f.write_str("this vCPU's event reply is awaited"),
             Refusal::BadSettings => f.write_str("the settings have a count out of its range"),
             Refusal::BadForm { offset } => write!(f, "the image breaks a rule at byte {offset}"),

@@ -38,6 +38,8 @@
 //! # Ok::<(), semblurick::Refusal>(())
 //! ```
 //!
+//! What the guest does and the tool may watch, a write to CR3 for one, the host offers as an event: [`Session::enter_event`].
+//!
 //! # Building
 //! `build.rs` links `libsemblurick.a` or `libhost.a` from the folder that `SEMBLURICK_LIB_DIR` names, or `libhost.a` from the
 //! repository's `target/staticlib`.
@@ -56,6 +58,7 @@ mod answer;
 mod ffi;
 mod lookup;
 mod names;
+pub mod own;
 mod session;
 mod settings;
 mod show;
@@ -78,11 +81,11 @@ pub const PAGE_BYTES: usize = 4096;
 pub const HEADER_BYTES: usize = 8;
 /// The bytes of the longest message that a header can state.
 pub const MESSAGE_MAX: usize = HEADER_BYTES + u16::MAX as usize;
-/// The bytes of the longest event, header included.
+/// The bytes of the longest event, header included: that of a CR or an MSR.
 pub const EVENT_MAX: usize = 576;
 /// The least output for [`Session::message`].
 pub const MESSAGE_OUT: usize = 4112;
-/// The least output for [`Session::enter`].
+/// The least output for [`Session::enter`] and [`Session::enter_event`], whatever they write.
 pub const ENTRY_OUT: usize = 576;
 /// The bytes of a vCPU's register block.
 pub const STATE_BYTES: usize = 536;
@@ -113,7 +116,8 @@ const _: () = {
 /// ```compile_fail,E0004
 /// fn follow(signal: semblurick::Signal) {
 ///     match signal {
-///         semblurick::Signal::None | semblurick::Signal::Kick { .. } | semblurick::Signal::Crash { .. } => {}
+///         semblurick::Signal::None | semblurick::Signal::Kick { .. } => {}
+///         semblurick::Signal::Crash { .. } | semblurick::Signal::Resume { .. } => {}
 ///     }
 /// }
 /// ```
@@ -131,11 +135,19 @@ const _: () = {
 ///     Ok(())
 /// }
 /// ```
+/// ```compile_fail
+/// #![deny(unused_must_use)]
+/// fn offer(session: &mut semblurick::Session, out: &mut [u8]) -> Result<(), semblurick::Refusal> {
+///     session.enter_event(0, &[], semblurick::Event::Xsetbv, &[], out)?;
+///     Ok(())
+/// }
+/// ```
 /// ```
 /// #![deny(unused_must_use)]
 /// fn take(session: &mut semblurick::Session, out: &mut [u8]) -> Result<(), semblurick::Refusal> {
 ///     _ = session.message(&[], out, &mut [])?;
 ///     _ = session.enter(0, &[], out)?;
+///     _ = session.enter_event(0, &[], semblurick::Event::Xsetbv, &[], out)?;
 ///     Ok(())
 /// }
 /// ```

@@ -96,7 +96,7 @@ numbered! {
     }
 }
 
-/// Its number on the wire: what the lookups of events take.
+/// Its number on the wire: what the lookups of events and [`Session::enter_event`](crate::Session::enter_event) take.
 impl From<Event> for u32 {
     #[inline]
     fn from(event: Event) -> u32 {
@@ -105,7 +105,8 @@ impl From<Event> for u32 {
 }
 
 numbered! {
-    /// What a tool's reply to an event says of the vCPU.
+    /// What a tool's reply to an event says of the vCPU. Every event can be continued or crashed; a breakpoint and a descriptor
+    /// event can also be retried.
     Action: u8 {
         Continue = 0 => "KVMI_EVENT_ACTION_CONTINUE",
         Retry = 1 => "KVMI_EVENT_ACTION_RETRY",

@@ -249,7 +249,49 @@ impl Session {
         self.enter_event(vcpu, state, 0u32, &[], out)
     }
 
-    /// [`enter`](Session::enter) with an event that the vCPU met, offered by its number, and the bytes behind its state block.
+    /// [`enter`](Session::enter) for a vCPU that left the guest for what the tool may watch, before the host carries that out: offers
+    /// it as an event, an [`Event`](crate::Event) or its number, with its [own bytes](crate::own).
+    ///
+    /// The event is written exactly if its switch is on: the vCPU's, of `KVMI_EVENT_CREATE_VCPU` the VM's, and of a CR and an MSR also
+    /// that of the register which the own bytes name. The vCPU then waits until a message's answer signals [`Signal::Resume`]. An
+    /// event that is switched off is passed over: the host carries out at once what it was about, as if there were no tool, and a
+    /// queued pause goes instead. [`Entry::event`] tells which. Where the session closes no signal comes, and a vCPU that waits goes
+    /// on as if its event had been passed over.
+    ///
+    /// ```
+    /// use semblurick::{own, Action, Event, Session, Settings, Signal, ENTRY_OUT, MESSAGE_OUT, STATE_BYTES};
+    ///
+    /// let mut session = Session::fresh(&Settings::allowing_all(1))?;
+    /// session.ready(0)?;
+    /// let (mut out, mut event) = ([0; MESSAGE_OUT], [0; ENTRY_OUT]);
+    /// let (state, write) = ([0; STATE_BYTES], own::Cr { cr: 3, old_value: 0x1000, new_value: 0x2000 }.bytes());
+    ///
+    /// // the guest writes CR3, and nobody watches it: the host carries the write out
+    /// assert_eq!(session.enter_event(0, &state, Event::Cr, &write, &mut event)?.event(), None);
+    ///
+    /// // KVMI_VCPU_CONTROL_EVENTS and KVMI_VCPU_CONTROL_CR: CR events on, and CR3
+    /// let events = [10, 0, 16, 0, 0, 0, 0, 0, 0, 0, 0, 0, 0, 0, 0, 0, 5, 0, 1, 0, 0, 0, 0, 0];
+    /// let cr3 = [11, 0, 16, 0, 0, 0, 0, 0, 0, 0, 0, 0, 0, 0, 0, 0, 1, 0, 0, 0, 3, 0, 0, 0];
+    /// assert!(session.message(&events, &mut out, &mut [])?.error().is_none());
+    /// assert!(session.message(&cr3, &mut out, &mut [])?.error().is_none());
+    ///
+    /// // again: now the bytes go to the tool, and the vCPU waits
+    /// assert_eq!(session.enter_event(0, &state, Event::Cr, &write, &mut event)?.event(), Some(Event::Cr));
+    ///
+    /// // KVMI_EVENT_REPLY: continue, to event 5 with seq 0, and 0x3000 is what CR3 is to hold
+    /// let reply = [16, 0, 24, 0, 0, 0, 0, 0, 0, 0, 0, 0, 0, 0, 0, 0, 0, 5, 0, 0, 0, 0, 0, 0, 0, 0x30, 0, 0, 0, 0, 0, 0];
+    /// let signal = session.message(&reply, &mut out, &mut [])?.signal();
+    /// assert_eq!(signal, Signal::Resume { vcpu: 0, action: Action::Continue, value: 0x3000 });
+    ///
+    /// // the vCPU enters the guest, offering nothing
+    /// assert!(session.enter(0, &state, &mut event)?.may_run());
+    /// # Ok::<(), semblurick::Refusal>(())
+    /// ```
+    ///
+    /// # Errors
+    /// As [`enter`](Session::enter), in the same order; [`Refusal::BadState`] also where no such event can be offered, or its own bytes
+    /// have another length, whether it is switched on or off. Events 3, 4, 5, 7, 8, 9, 11, 12 and 14 can be offered, and 0, with no
+    /// bytes, for none.
     #[inline]
     pub fn enter_event<'a>(
         &mut self,

@@ -1,7 +1,7 @@
 //! What a support engineer reads.
 use semblurick::{
-    Answer, Command, CommandSet, Errno, Event, EventSet, Refusal, Session, Settings, Signal, ENTRY_OUT, MESSAGE_OUT,
-    STATE_BYTES,
+    own, Action, Answer, Command, CommandSet, Errno, Event, EventSet, Refusal, Session, Settings, Signal, ENTRY_OUT,
+    MESSAGE_OUT, STATE_BYTES,
 };
 
 fn on_vcpu(id: u16, seq: u32, vcpu: u16, data: [u8; 8]) -> Vec<u8> {
@@ -95,6 +95,49 @@ fn answers_say_what_happened() {
 }
 
 #[test]
+fn an_offered_event_says_what_it_is() {
+    let mut session = Session::fresh(&Settings::allowing_all(2)).unwrap();
+    session.ready(1).unwrap();
+    let mut out = [0; ENTRY_OUT];
+    let write = own::Cr { cr: 0, old_value: 0x8005_0033, new_value: 0x33 }.bytes();
+    let entry = session.enter_event(1, &[0; STATE_BYTES], Event::Cr, &write, &mut out).unwrap();
+    assert_eq!((entry.event(), entry.to_string()), (None, "may run, no bytes".to_owned()));
+
+    assert_eq!(said(&mut session, &on_vcpu(10, 1, 1, [5, 0, 1, 0, 0, 0, 0, 0])).0, "done, 16 bytes, no signal");
+    assert_eq!(said(&mut session, &on_vcpu(11, 2, 1, [1, 0, 0, 0, 0, 0, 0, 0])).0, "done, 16 bytes, no signal");
+    let entry = session.enter_event(1, &[0; STATE_BYTES], Event::Cr, &write, &mut out).unwrap();
+    assert_eq!((entry.may_run(), entry.event()), (false, Some(Event::Cr)));
+    assert_eq!(entry.to_string(), "KVMI_EVENT_CR, 576 bytes");
+    let shown = format!("{entry:?}");
+    let begins =
+        "Entry { id: KVMI_EVENT, seq: 0, event: KVMI_EVENT_CR, vcpu: 1, bytes: [11 00 38 02 00 00 00 00 20 02 01 00 05 00";
+    assert!(shown.starts_with(begins) && shown.ends_with(" 00 and 544 more] }"), "{shown}");
+    assert!(format!("{session:?}").contains("awaits_reply_to: KVMI_EVENT_CR, seq: 0"), "{session:?}");
+
+    let mut reply = on_vcpu(16, 0, 1, [0, 5, 0, 0, 0, 0, 0, 0]);
+    reply.extend(0x8005_0033u64.to_le_bytes());
+    reply[2] = 24;
+    says(
+        &mut session,
+        &reply,
+        "taken, no bytes, resume vCPU 1: continue, value 0x80050033",
+        "Ok(Handled { bytes: [], signal: Resume { vcpu: 1, action: KVMI_EVENT_ACTION_CONTINUE, value: 2147811379 } })",
+    );
+    let retry = Signal::Resume { vcpu: 15, action: Action::Retry, value: 0 };
+    assert_eq!(retry.to_string(), "resume vCPU 15: retry, value 0x0");
+
+    // a breakpoint's event has as many bytes as a CMD_ERROR event, and is none
+    assert_eq!(said(&mut session, &on_vcpu(10, 3, 1, [4, 0, 1, 0, 0, 0, 0, 0])).0, "done, 16 bytes, no signal");
+    let int3 = own::Breakpoint { gpa: 0x1234, insn_len: 1 }.bytes();
+    let entry = session.enter_event(1, &[0; STATE_BYTES], Event::Breakpoint, &int3, &mut out).unwrap();
+    assert_eq!(entry.to_string(), "KVMI_EVENT_BREAKPOINT, 568 bytes");
+
+    let refused = session.enter_event(1, &[0; STATE_BYTES], Event::Pf, &[0; 24], &mut out).unwrap_err();
+    let text = "the register block is not 536 bytes, or no event of that number and length can be offered";
+    assert_eq!((refused, refused.to_string()), (Refusal::BadState, text.to_owned()));
+}
+
+#[test]
 fn a_session_reads_as_names() {
     let mut session = Session::fresh(&Settings::allowing_all(2)).unwrap();
     session.ready(1).unwrap();
@@ -135,6 +178,8 @@ fn numbers_and_names() {
     for error in Errno::ALL {
         assert_eq!(Errno::from_number(error.number()), Some(*error));
     }
+    assert_eq!([0, 1, 2].map(Action::from_number), [Action::Continue, Action::Retry, Action::Crash].map(Some));
+    assert_eq!((Action::from_number(3), Action::ALL.len()), (None, 3));
     assert_eq!(Command::from_number(0), None);
     assert_eq!(Event::from_number(15), None);
     let set: EventSet = [Event::Cr, Event::Msr].into_iter().collect();

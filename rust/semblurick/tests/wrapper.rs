@@ -1,7 +1,8 @@
-//! The wrapper's own promises: settings by name, lookups, the list form, in place and on threads.
+//! The wrapper's own promises: settings by name, lookups, events that are offered, the list form, in place and on threads.
 use semblurick::{
-    vcpu_list, Access, Answer, Command, CommandSet, Entry, Errno, Event, EventSet, Features, Page, Pages, Refusal, Session,
-    Settings, Signal, Vcpu, IMAGE_MAX, MAX_VCPUS, MAX_VIEWS, MESSAGE_OUT, PAGE_LIMIT, PAUSE_LIMIT, STATE_BYTES,
+    own, vcpu_list, Access, Action, Answer, Command, CommandSet, Entry, Errno, Event, EventSet, Features, Page, Pages, Refusal,
+    Session, Settings, Signal, Vcpu, ENTRY_OUT, EVENT_MAX, IMAGE_MAX, MAX_VCPUS, MAX_VIEWS, MESSAGE_OUT, PAGE_LIMIT,
+    PAUSE_LIMIT, STATE_BYTES,
 };
 use std::error::Error;
 use std::mem::{size_of, MaybeUninit};
@@ -169,6 +170,140 @@ fn lookups() {
         assert_eq!((session.page_count(), session.page_at(0), session.access(1, 5)), (0, None, Access::RWX));
         assert_eq!(session.pages().next(), None);
     }
+}
+
+/// The reply to an event, with these bytes behind the action and the event.
+fn reply(vcpu: u16, seq: u32, action: Action, event: Event, more: &[u8]) -> Vec<u8> {
+    let data = [&vcpu.to_le_bytes()[..], &[0; 6], &[action.number(), event.number() as u8, 0, 0, 0, 0, 0, 0], more].concat();
+    [&[16, 0][..], &(data.len() as u16).to_le_bytes(), &seq.to_le_bytes(), &data].concat()
+}
+
+/// The events that can be offered, with own bytes, and whether they can be retried and have a value.
+fn offered() -> [(Event, Vec<u8>, bool, bool); 9] {
+    let (old_value, new_value) = (0x1122_3344_5566_7788, 0x99AA_BBCC_DDEE_FF00);
+    [
+        (Event::Hypercall, vec![], false, false),
+        (Event::Breakpoint, own::Breakpoint { gpa: old_value, insn_len: 1 }.bytes().into(), true, false),
+        (Event::Cr, own::Cr { cr: 4, old_value, new_value }.bytes().into(), false, true),
+        (Event::Xsetbv, vec![], false, false),
+        (Event::Descriptor, own::Descriptor { descriptor: 2, write: true }.bytes().into(), true, false),
+        (Event::Msr, own::Msr { msr: 0xC000_0082, old_value, new_value }.bytes().into(), false, true),
+        (Event::Singlestep, own::Singlestep { failed: true }.bytes().into(), false, false),
+        (Event::CreateVcpu, vec![], false, false),
+        (Event::Cpuid, own::Cpuid { function: 1, index: 2, insn_length: 2 }.bytes().into(), false, false),
+    ]
+}
+
+#[test]
+fn own_bytes() {
+    let sizes = offered().map(|(event, own, ..)| (event.number(), own.len()));
+    assert_eq!(sizes, [(3, 0), (4, 16), (5, 24), (7, 0), (8, 8), (9, 24), (11, 8), (12, 0), (14, 16)]);
+    let most = own::Breakpoint { gpa: u64::MAX, insn_len: 255 };
+    assert_eq!(most.bytes(), [255, 255, 255, 255, 255, 255, 255, 255, 255, 0, 0, 0, 0, 0, 0, 0]);
+    let most = own::Cr { cr: u16::MAX, old_value: u64::MAX, new_value: u64::MAX };
+    assert_eq!(most.bytes(), [[255, 255, 0, 0, 0, 0, 0, 0], [255; 8], [255; 8]].concat()[..]);
+    let most = own::Msr { msr: u32::MAX, old_value: u64::MAX, new_value: u64::MAX };
+    assert_eq!(most.bytes(), [[255, 255, 255, 255, 0, 0, 0, 0], [255; 8], [255; 8]].concat()[..]);
+    assert_eq!(own::Descriptor { descriptor: 255, write: false }.bytes(), [255, 0, 0, 0, 0, 0, 0, 0]);
+    let most = own::Cpuid { function: u32::MAX, index: u32::MAX, insn_length: 255 };
+    assert_eq!(most.bytes(), [255, 255, 255, 255, 255, 255, 255, 255, 255, 0, 0, 0, 0, 0, 0, 0]);
+    assert_eq!(own::Singlestep::default().bytes(), [0; 8]);
+}
+
+#[test]
+fn events_that_are_offered() {
+    let mut session = Session::fresh(&Settings::allowing_all(2)).unwrap();
+    session.ready(1).unwrap();
+    send(&mut session, &[on_vcpu(11, 1, [1, 0, 0, 0, 4, 0, 0, 0]), on_vcpu(12, 1, [1, 0, 0, 0, 0x82, 0, 0, 0xC0])]);
+    let state: Vec<u8> = (0..STATE_BYTES).map(|i| i as u8).collect();
+    let (mut out, mut event_out) = ([0; MESSAGE_OUT], [0; ENTRY_OUT]);
+    let mut seq = 0;
+    for (event, own, retried, valued) in offered() {
+        // passed over, and then, with a pause that is queued, the pause instead
+        let entry = session.enter_event(1, &state, event, &own, &mut event_out).unwrap();
+        assert_eq!((entry.may_run(), session.awaited(1)), (true, None), "{event}");
+        send(&mut session, &[on_vcpu(9, 1, [0; 8])]);
+        let entry = session.enter_event(1, &state, event, &own, &mut event_out).unwrap();
+        assert_eq!((entry.event(), entry.bytes.len()), (Some(Event::PauseVcpu), 552), "{event}");
+        let pause = reply(1, seq, Action::Continue, Event::PauseVcpu, &[]);
+        let answer = session.message(&pause, &mut out, &mut []).unwrap();
+        assert_eq!((answer.signal(), answer.bytes()), (Signal::None, &[][..]));
+        seq += 1;
+
+        // switched on: it goes before a pause
+        send(&mut session, &[on_vcpu(9, 1, [0; 8])]);
+        let number = event.number() as u8;
+        send(
+            &mut session,
+            &[match event {
+                Event::CreateVcpu => message(5, &[number, 0, 1, 0, 0, 0, 0, 0]),
+                _ => on_vcpu(10, 1, [number, 0, 1, 0, 0, 0, 0, 0]),
+            }],
+        );
+        let value = if valued { 0x0102_0304_0506_0708 } else { 0 };
+        let more = if valued { &0x0102_0304_0506_0708u64.to_le_bytes()[..] } else { &[] };
+        let resumes = [Some(Action::Continue), retried.then_some(Action::Retry)];
+        for action in resumes.into_iter().flatten().chain([Action::Crash]) {
+            let entry = session.enter_event(1, &state, u32::from(event), &own, &mut event_out).unwrap();
+            assert_eq!((entry.event(), entry.bytes.len()), (Some(event), 552 + own.len()));
+            assert_eq!(entry.bytes[4..8], u32::to_le_bytes(seq));
+            assert_eq!(entry.bytes[16..], [&state[..], &own].concat());
+            assert_eq!((session.awaited(1), session.pauses(1)), (Some(event), 1));
+            assert_eq!(session.enter(1, &state, &mut event_out), Err(Refusal::Waiting));
+            assert_eq!(session.write_image(&mut out), Err(Refusal::Busy));
+            let answer = session.message(&reply(1, seq, action, event, more), &mut out, &mut []).unwrap();
+            let signal = match action {
+                Action::Crash => Signal::Crash { vcpu: 1 },
+                _ => Signal::Resume { vcpu: 1, action, value },
+            };
+            assert_eq!((answer.signal(), answer.bytes(), session.awaited(1)), (signal, &[][..], None), "{event} {action}");
+            seq += 1;
+        }
+        // one that it has not, and a reply of another size, close
+        let wrong = if valued { &[][..] } else { &[0; 8] };
+        for (action, more) in [(Action::Retry, more), (Action::Continue, wrong)] {
+            if action == Action::Continue || !retried {
+                let mut session = session.clone();
+                assert!(!session.enter_event(1, &state, event, &own, &mut event_out).unwrap().may_run());
+                assert!(session.message(&reply(1, seq, action, event, more), &mut out, &mut []).unwrap().is_closing());
+                assert_eq!((session.is_closed(), session.awaited(1)), (true, None));
+            }
+        }
+        assert!(session.enter(1, &state, &mut event_out).unwrap().event() == Some(Event::PauseVcpu));
+        send(&mut session, &[reply(1, seq, Action::Continue, Event::PauseVcpu, &[])]);
+        seq += 1;
+    }
+    assert_eq!(ENTRY_OUT, EVENT_MAX);
+}
+
+#[test]
+fn refused_offers() {
+    let mut session = Session::fresh(&Settings::allowing_all(1)).unwrap();
+    session.ready(0).unwrap();
+    let (state, mut out) = ([0; STATE_BYTES], [0; ENTRY_OUT]);
+    let numbers = (0u32..70).chain([1 << 8, 1 << 16, 1 << 16 | 5, 1 << 31 | 3, u32::MAX]);
+    for number in numbers {
+        let taken = offered().into_iter().find(|(event, ..)| u32::from(*event) == number).map(|(_, own, ..)| own.len());
+        let taken = if number == 0 { Some(0) } else { taken };
+        for size in 0..40 {
+            let own = vec![0xFF; size];
+            let fits = taken == Some(size);
+            let entry = session.enter_event(0, &state, number, &own, &mut out);
+            assert_eq!(entry.err(), (!fits).then_some(Refusal::BadState), "event {number}, {size} bytes");
+            let entry = session.enter_event(0, &state, number, &own, &mut out[..ENTRY_OUT - 1]);
+            assert_eq!(entry.err(), Some(if fits { Refusal::ShortOut } else { Refusal::BadState }));
+            assert_eq!(session.enter_event(1, &state, number, &own, &mut []).err(), Some(Refusal::BadVcpu));
+            assert_eq!(session.enter_event(0, &state[1..], number, &own, &mut out).err(), Some(Refusal::BadState));
+        }
+    }
+    // for the VM, and before the vCPU is ready
+    let mut session = Session::fresh(&Settings::allowing_all(1)).unwrap();
+    send(&mut session, &[message(5, &[12, 0, 1, 0, 0, 0, 0, 0])]);
+    assert_eq!(session.enter_event(0, &state, Event::CreateVcpu, &[], &mut out).unwrap().event(), Some(Event::CreateVcpu));
+    assert_eq!(session.enter_event(0, &state, 2u32, &[], &mut out), Err(Refusal::BadState));
+    assert_eq!(session.enter_event(0, &state, Event::CreateVcpu, &[], &mut out), Err(Refusal::Waiting));
+    assert!(session.message(&[], &mut [0; MESSAGE_OUT], &mut []).unwrap().is_closing());
+    assert_eq!(session.enter_event(9, &[], 2u32, &[1], &mut []), Err(Refusal::Closed));
 }
 
 #[test]
