@@ -1,5 +1,5 @@
 /* A host in C: takes the messages that stand end to end in a file, answers them, programs what they switch, lets a kicked vCPU enter
- * the guest, and hands the session over by an image. Usage: host FILE */
+ * the guest, asks the tool about the guest's writes to CR3, and hands the session over by an image. Usage: host FILE */
 #include <stdio.h>
 #include <stdlib.h>
 #include <string.h>
@@ -21,6 +21,7 @@ struct hardware {
 
 static struct semblurick here, there;             /* this host's session, and the new host's */
 static struct hardware programmed, stated;        /* what stands in hardware, and what an image states */
+static uint64_t cr3[VCPUS], written[VCPUS];       /* what CR3 holds, and what the guest wrote last: another value while the tool is asked */
 static uint8_t msg[SEMBLURICK_MESSAGE_MAX], out[SEMBLURICK_MESSAGE_OUT], memory[4 * SEMBLURICK_PAGE_BYTES], image[2][SEMBLURICK_IMAGE_MAX];
 
 static void fail(const char *what, uint32_t answer) {
@@ -183,13 +184,38 @@ static void send_to_tool(uint64_t bytes) { (void)bytes; /* the first `bytes` byt
 /* The vCPU leaves the guest. With wait set this returns when it is out. */
 static void kick(uint64_t vcpu, bool wait) { (void)vcpu, (void)wait; }
 
+static const uint8_t state[SEMBLURICK_STATE_BYTES] = {0}; /* a vCPU's registers */
+
 /* The vCPU is about to enter the guest again: a queued pause is told now, and the vCPU waits for the tool's reply. */
 static void enter(uint32_t vcpu) {
-    static const uint8_t state[SEMBLURICK_STATE_BYTES] = {0}; /* its registers */
     struct semblurick_result r;
     uint32_t answer = semblurick_enter(&here, vcpu, state, sizeof state, semblurick_output_of(out, sizeof out), &r);
     printf("vCPU %u enters: answer %u, %llu bytes\n", vcpu, answer, (unsigned long long)r.count);
     send_to_tool(r.count);
+}
+
+static void set_cr3(uint32_t vcpu, uint64_t value) {
+    cr3[vcpu] = written[vcpu] = value;
+    printf("vCPU %u: CR3 is %#llx\n", vcpu, (unsigned long long)value);
+}
+
+/* The guest writes CR3. Where the tool watches it, it is asked first, and the vCPU waits; else the write is carried out. */
+static void write_cr3(uint32_t vcpu, uint64_t value) {
+    struct kvmi_event_cr event = {3, {0, 0, 0}, cr3[vcpu], value};
+    struct semblurick_result r;
+    uint32_t answer = semblurick_enter_event(&here, vcpu, state, sizeof state, KVMI_EVENT_CR, &event, sizeof event,
+                                             semblurick_output_of(out, sizeof out), &r);
+    printf("vCPU %u writes CR3: answer %u, %llu bytes\n", vcpu, answer, (unsigned long long)r.count);
+    send_to_tool(r.count);
+    written[vcpu] = value;
+    if (semblurick_awaited(&here, vcpu) != KVMI_EVENT_CR) set_cr3(vcpu, value); /* what was sent, if anything, is a pause */
+}
+
+/* What the guest does meanwhile: after two of the messages vCPU 0 writes CR3, unless it waits. */
+static void run_guest(uint16_t id) {
+    if (semblurick_awaited(&here, 0)) return;
+    if (id == KVMI_GET_VERSION) write_cr3(0, 0x1000);
+    if (id == KVMI_VCPU_CONTROL_CR) write_cr3(0, 0x2000);
 }
 
 static void take(size_t size) {
@@ -197,13 +223,18 @@ static void take(size_t size) {
     uint32_t answer = semblurick_message(&here, msg, size, semblurick_output_of(out, sizeof out),
                                          semblurick_memory_of(memory, sizeof memory), &r);
     printf("message %u: answer %u, %llu bytes\n", msg[0], answer, (unsigned long long)r.count);
-    if (answer == SEMBLURICK_CLOSING) program_all(&programmed, &here); /* everything is off */
+    if (answer == SEMBLURICK_CLOSING) {
+        program_all(&programmed, &here); /* everything is off */
+        for (uint32_t v = 0; v < VCPUS; v++)
+            if (written[v] != cr3[v]) set_cr3(v, written[v]); /* no reply comes any more */
+    }
     if (answer != SEMBLURICK_HANDLED) return;
     program(&programmed, &here, size);
     /* the reply says that it is done, and so it is: it goes out last, after the vCPU if the tool waits for that */
     if (r.signal == SEMBLURICK_KICK) kick(r.vcpu, r.wait != 0);
     send_to_tool(r.count);
-    if (r.signal == SEMBLURICK_KICK) enter((uint32_t)r.vcpu);
+    if (r.signal == SEMBLURICK_RESUME) set_cr3((uint32_t)r.vcpu, r.value); /* this host asks about nothing else */
+    if (r.signal == SEMBLURICK_KICK || r.signal == SEMBLURICK_RESUME) enter((uint32_t)r.vcpu);
     if (r.signal == SEMBLURICK_CRASH) printf("vCPU %llu is to be crashed\n", (unsigned long long)r.vcpu);
 }
 
@@ -226,6 +257,7 @@ int main(int argc, char **argv) {
         memcpy(&header, msg, sizeof header);
         if (n == sizeof header) n += fread(msg + n, 1, header.size, file);
         take(n); /* a cut one closes the session */
+        if (n >= sizeof header) run_guest(header.id);
     }
     fclose(file);
 

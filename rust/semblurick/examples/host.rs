@@ -1,6 +1,9 @@
 //! A host in Rust: takes the messages that stand end to end in a file, answers them, programs what they switch, lets a kicked vCPU
-//! enter the guest, and hands the session over by an image. Usage: host FILE
-use semblurick::{Access, Command, Event, Refusal, Session, Settings, Signal, MESSAGE_OUT, PAGE_BYTES, STATE_BYTES};
+//! enter the guest, asks the tool about the guest's writes to CR3, and hands the session over by an image. Usage: host FILE
+use semblurick::{
+    own, Access, Command, Entry, Event, Refusal, Session, Settings, Signal, ENTRY_OUT, HEADER_BYTES, MESSAGE_OUT, PAGE_BYTES,
+    STATE_BYTES,
+};
 use std::collections::{BTreeMap, BTreeSet};
 use std::{env, fs, process};
 
@@ -147,38 +150,99 @@ fn send_to_tool(_bytes: &[u8]) {}
 /// The vCPU leaves the guest. With `wait` this returns when it is out.
 fn kick(_vcpu: u32, _wait: bool) {}
 
-/// One message: what it switches stands in hardware, and a vCPU that the tool waits for is out, before the tool reads that it is done.
-fn take(session: &mut Session, hardware: &mut Hardware, message: &[u8], guest: &mut [u8]) -> Result<(), Refusal> {
-    let mut out = [0; MESSAGE_OUT];
-    let answer = match session.message(message, &mut out, guest) {
-        Ok(answer) => answer,
-        Err(refusal) => {
-            println!("message {}: answer {}, 0 bytes", message[0], refusal.number());
-            return Ok(());
+/// What became of an entry; the event goes to the tool, if there is one.
+fn send_event(what: &str, entry: Result<Entry<'_>, Refusal>) {
+    let (answer, bytes) = entry.map_or_else(|refusal| (refusal.number(), &[][..]), |entry| (0, entry.bytes));
+    println!("{what}: answer {answer}, {} bytes", bytes.len());
+    send_to_tool(bytes);
+}
+
+/// A vCPU's registers.
+const STATE: [u8; STATE_BYTES] = [0; STATE_BYTES];
+
+struct Host {
+    session: Session,
+    hardware: Hardware,
+    /// What CR3 of each vCPU holds, and what the guest wrote last: another value while the tool is asked.
+    cr3: [u64; VCPUS as usize],
+    written: [u64; VCPUS as usize],
+}
+
+impl Host {
+    /// One message: what it switches stands in hardware, and a vCPU that the tool waits for is out, before the tool reads that it is
+    /// done.
+    fn take(&mut self, message: &[u8], guest: &mut [u8]) {
+        let mut out = [0; MESSAGE_OUT];
+        let answer = match self.session.message(message, &mut out, guest) {
+            Ok(answer) => answer,
+            Err(refusal) => {
+                println!("message {}: answer {}, 0 bytes", message[0], refusal.number());
+                return;
+            }
+        };
+        println!("message {}: answer {}, {} bytes", message[0], answer.number(), answer.bytes().len());
+        if answer.is_closing() {
+            // everything is off, and no reply comes any more
+            self.hardware = Hardware::all(&self.session);
+            for (vcpu, written) in (0..).zip(self.written) {
+                if written != self.cr3[vcpu as usize] {
+                    self.set_cr3(vcpu, written);
+                }
+            }
+            return;
         }
-    };
-    println!("message {}: answer {}, {} bytes", message[0], answer.number(), answer.bytes().len());
-    if answer.is_closing() {
-        // everything is off
-        *hardware = Hardware::all(session);
-        return Ok(());
-    }
-    hardware.program(session, message);
-    if let Signal::Kick { vcpu, wait } = answer.signal() {
-        kick(vcpu, wait);
-    }
-    send_to_tool(answer.bytes());
-    match answer.signal() {
-        Signal::Kick { vcpu, .. } => {
-            // it is about to enter the guest again: a queued pause is told now, and the vCPU waits for the tool's reply
-            let entry = session.enter(vcpu, &[0; STATE_BYTES], &mut out)?;
-            println!("vCPU {vcpu} enters: answer 0, {} bytes", entry.bytes.len());
-            send_to_tool(entry.bytes);
+        self.hardware.program(&self.session, message);
+        if let Signal::Kick { vcpu, wait } = answer.signal() {
+            kick(vcpu, wait);
         }
-        Signal::Crash { vcpu } => println!("vCPU {vcpu} is to be crashed"),
-        _ => {}
+        send_to_tool(answer.bytes());
+        match answer.signal() {
+            Signal::Kick { vcpu, .. } => self.enter(vcpu),
+            Signal::Resume { vcpu, value, .. } => {
+                // this host asks about nothing else
+                self.set_cr3(vcpu, value);
+                self.enter(vcpu);
+            }
+            Signal::Crash { vcpu } => println!("vCPU {vcpu} is to be crashed"),
+            _ => {}
+        }
     }
-    Ok(())
+
+    /// The vCPU is about to enter the guest again: a queued pause is told now, and the vCPU waits for the tool's reply.
+    fn enter(&mut self, vcpu: u32) {
+        let mut out = [0; ENTRY_OUT];
+        send_event(&format!("vCPU {vcpu} enters"), self.session.enter(vcpu, &STATE, &mut out));
+    }
+
+    fn set_cr3(&mut self, vcpu: u32, value: u64) {
+        (self.cr3[vcpu as usize], self.written[vcpu as usize]) = (value, value);
+        println!("vCPU {vcpu}: CR3 is {value:#x}");
+    }
+
+    /// The guest writes CR3. Where the tool watches it, it is asked first, and the vCPU waits; else the write is carried out.
+    fn write_cr3(&mut self, vcpu: u32, value: u64) {
+        let mut out = [0; ENTRY_OUT];
+        let event = own::Cr { cr: 3, old_value: self.cr3[vcpu as usize], new_value: value };
+        let entry = self.session.enter_event(vcpu, &STATE, Event::Cr, &event.bytes(), &mut out);
+        send_event(&format!("vCPU {vcpu} writes CR3"), entry);
+        self.written[vcpu as usize] = value;
+        if self.session.awaited(vcpu) != Some(Event::Cr) {
+            // what was sent, if anything, is a pause
+            self.set_cr3(vcpu, value);
+        }
+    }
+
+    /// What the guest does meanwhile: after two of the messages vCPU 0 writes CR3, unless it waits.
+    fn run_guest(&mut self, message: &[u8]) {
+        if message.len() < HEADER_BYTES || self.session.awaited(0).is_some() {
+            return;
+        }
+        match Command::from_number(u16::from_le_bytes([message[0], message[1]])) {
+            Some(Command::GetVersion) => self.write_cr3(0, 0x1000),
+            Some(Command::VcpuControlCr) => self.write_cr3(0, 0x2000),
+            _ => {}
+        }
+    }
 }
 
 /// Whether the hardware is as an image states.
@@ -192,21 +256,22 @@ fn check(hardware: &Hardware, image: &[u8]) -> bool {
 
 fn run(stream: &[u8]) -> Result<bool, Refusal> {
     let settings = Settings::allowing_all(VCPUS);
-    let mut session = Session::fresh(&settings)?;
+    let session = Session::fresh(&settings)?;
+    let mut host = Host { session, hardware: Hardware::default(), cr3: Default::default(), written: Default::default() };
     for vcpu in 0..VCPUS {
-        session.ready(vcpu)?;
+        host.session.ready(vcpu)?;
     }
-    let mut hardware = Hardware::default();
     let mut guest = [0; 4 * PAGE_BYTES];
     let mut rest = stream;
     while !rest.is_empty() {
         let (message, after) = rest.split_at(next(rest));
-        take(&mut session, &mut hardware, message, &mut guest)?;
+        host.take(message, &mut guest);
+        host.run_guest(message);
         rest = after;
     }
-    let mut image = vec![0; session.image_size()];
-    println!("image: answer 0, {} bytes", session.write_image(&mut image)?);
-    if !check(&hardware, &image) {
+    let mut image = vec![0; host.session.image_size()];
+    println!("image: answer 0, {} bytes", host.session.write_image(&mut image)?);
+    if !check(&host.hardware, &image) {
         return Ok(false);
     }
 
