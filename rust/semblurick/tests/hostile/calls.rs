@@ -1,6 +1,6 @@
 //! Calls, each made twice.
 
-use crate::lent;
+use crate::lent::{self, Awaited};
 use crate::library::*;
 use crate::memory::{seen, Side, PAGE};
 use crate::random::Random;
@@ -20,6 +20,8 @@ pub const KINDS: [(&str, &[u64]); 9] = [
     ("list_ready", &[0, 4]),
     ("list_cr", &[0, 4, 14]),
 ];
+
+pub const SIGNALS: [&str; 5] = ["none", "kick", "crash", "resume to continue", "resume to retry"];
 
 pub const LOOKUPS: [&str; 12] = [
     "is_open",
@@ -43,10 +45,13 @@ pub struct Hostile {
     beginning: Side,
     pub calls: u64,
     pub answers: [[u64; 15]; 9],
+    /// By signal of a message.
+    pub signals: [u64; 5],
+    /// By event that was offered: passed over, written.
+    pub events: [[u64; 2]; 15],
     /// By lookup: nothing on, something on.
     pub lookups: [[u64; 2]; 12],
-    /// A vCPU that awaits a reply, and the event's seq.
-    awaited: Option<(u32, u32)>,
+    awaited: Option<Awaited>,
     /// Images that sessions wrote, with the settings under which they can be read.
     images: Vec<(Session, Vec<u8>)>,
     guest: Vec<u8>,
@@ -62,6 +67,8 @@ impl Hostile {
             beginning: Side::new(false),
             calls: 0,
             answers: [[0; 15]; 9],
+            signals: [0; 5],
+            events: [[0; 2]; 15],
             lookups: [[0; 2]; 12],
             awaited: None,
             images: Vec::new(),
@@ -147,9 +154,11 @@ impl Hostile {
         // SAFETY: any bits are numbers.
         let [first, second] = [&self.end, &self.beginning].map(|side| unsafe { side.result.cast::<[u64; 12]>().read() });
         assert_eq!(first, second, "the two results");
-        let [count, offset, signal, vcpu, wait, rest @ ..] = first;
-        assert_eq!(rest, [0; 7], "the reserved words");
-        assert!(signal <= 2 && wait <= 1 && (signal != 0 || (vcpu, wait) == (0, 0)), "{first:?}");
+        let [count, offset, signal, vcpu, wait, action, value, rest @ ..] = first;
+        assert_eq!(rest, [0; 5], "the reserved words");
+        assert!(signal <= 3 && wait <= 1 && action <= 1, "{first:?}");
+        assert!((signal != 0 || vcpu == 0) && (signal == 1 || wait == 0), "{first:?}");
+        assert!(signal == 3 || (action, value) == (0, 0), "{first:?}");
         if answer != 0 {
             assert_eq!((count, signal), (0, 0));
         }
@@ -198,6 +207,21 @@ impl Hostile {
         }
     }
 
+    /// Lends these bytes as an event's own.
+    fn lend_own(&mut self, bytes: &[u8]) {
+        for side in [&self.end, &self.beginning] {
+            // SAFETY: inside the room, which holds nothing else.
+            unsafe { copy_nonoverlapping(bytes.as_ptr(), side.own(bytes.len()), bytes.len()) };
+        }
+    }
+
+    fn same_own(&self, bytes: &[u8]) {
+        for side in [&self.end, &self.beginning] {
+            // SAFETY: the sides are only read.
+            assert!(unsafe { seen(side.own(bytes.len()), bytes.len()) } == bytes, "the own bytes changed");
+        }
+    }
+
     fn fresh(&mut self) {
         let reads = |answer| if answer == 7 { Reads::Tables } else { Reads::Nothing };
         self.told(0, reads, |s| unsafe { semblurick_raw_fresh(s.session, s.vcpus, s.pages, s.result).into() });
@@ -237,6 +261,15 @@ impl Hostile {
         if message.first() != Some(&7) || answer != 0 {
             assert!(ours == &self.guest[..guest], "guest memory changed");
         }
+        if answer == 0 {
+            let [_, _, signal, _, _, action, value, ..] = result;
+            self.signals[(signal + action) as usize] += 1;
+            if signal == 3 {
+                // what the reply says: its action, and its value, if it has one
+                let said = message.get(24..).map_or(0, |bytes| bytes.iter().rev().fold(0, |n, byte| n << 8 | u64::from(*byte)));
+                assert_eq!((message[0], action, value), (16, message[16].into(), said), "a resume");
+            }
+        }
         if answer == 1 || message.first() == Some(&16) {
             self.awaited = None;
         }
@@ -248,23 +281,60 @@ impl Hostile {
             _ => 536,
         };
         let out = match self.random.below(12) {
-            0 => self.random.pick(&[0, 1, 551]),
-            1 => 553 + self.random.below(20),
-            _ => 552,
+            0 => self.random.pick(&[0, 1, 552, 575]),
+            1 => 577 + self.random.below(20),
+            _ => 576,
         };
         let state = self.random.bytes(size);
+        let (event, own) = lent::offer(&mut self.random);
         self.lend_input(&state);
+        self.lend_own(&own);
         self.lend_out(out);
-        let (_, result) = self.told(3, refusal, |s| unsafe {
-            semblurick_raw_enter(s.session, s.vcpus, vcpu, s.input(size), size, s.out(out), out, s.result).into()
-        });
-        let written = self.same_out(out, result[0]);
-        let awaited = (!written.is_empty()).then(|| {
-            assert!(written.len() == 552 && written[16..] == state, "a pause event");
-            (vcpu, u32::from_le_bytes([written[4], written[5], written[6], written[7]]))
+        let is_on = self.is_on(vcpu, event, &own);
+        let (answer, result) = self.told(3, refusal, |s| unsafe {
+            let (block, bytes, to) = (s.input(size), s.own(own.len()), s.out(out));
+            semblurick_raw_enter(s.session, s.vcpus, vcpu, block, size, event, bytes, own.len(), to, out, s.result).into()
         });
         self.same_input(&state);
-        self.awaited = awaited.or(self.awaited);
+        self.same_own(&own);
+        // 2 and 4 come before 5, then 3, and then 6
+        let is_bad = size != 536 || lent::own_size(event) != Some(own.len());
+        assert!(matches!(answer, 2 | 4) || (answer == 5) == is_bad, "answer {answer} to event {event}, {} bytes", own.len());
+        assert!(matches!(answer, 2 | 4 | 5) || (answer == 3) == (out < 576), "answer {answer} with an output of {out} bytes");
+        let written = self.same_out(out, result[0]);
+        let sent = written.get(12).copied();
+        if let Some(sent) = sent {
+            let own = if u32::from(sent) == event { &own[..] } else { &[] };
+            let size = (544 + own.len() as u16).to_le_bytes();
+            assert!(u32::from(sent) == event || sent == 2, "event {sent} where {event} was offered");
+            assert_eq!(written[..4], [17, 0, size[0], size[1]], "an event's header");
+            // a session of any bits may have vCPUs that no event can name
+            let [low, high] = (vcpu.min(0xFFFF) as u16).to_le_bytes();
+            assert_eq!(written[8..16], [0x20, 2, low, high, sent, 0, 0, 0], "an event's beginning");
+            assert!(written[16..552] == state && written[552..] == *own, "an event's bytes");
+            let seq = u32::from_le_bytes([written[4], written[5], written[6], written[7]]);
+            self.awaited = Some(Awaited { vcpu, event: sent, seq });
+        }
+        if answer == 0 && event != 0 {
+            assert_eq!(sent.map(u32::from) == Some(event), is_on, "event {event} is written exactly if it is on");
+            self.events[event as usize][usize::from(is_on)] += 1;
+        }
+    }
+
+    /// Whether an event that is offered is switched on, as the lookups tell.
+    fn is_on(&self, vcpu: u32, event: u32, own: &[u8]) -> bool {
+        let (session, vcpus) = (self.end.session, self.end.vcpus);
+        let number = own.iter().take(if event == 5 { 2 } else { 4 }).rev().fold(0, |n, byte| n << 8 | u32::from(*byte));
+        // SAFETY: the session and its tables are only read.
+        unsafe {
+            let for_vcpu = semblurick_raw_vcpu_event(session, vcpus, vcpu, event) != 0;
+            match event {
+                12 => semblurick_raw_vm_event(session, event) != 0,
+                5 => for_vcpu && semblurick_raw_cr(session, vcpus, vcpu, number) != 0,
+                9 => for_vcpu && semblurick_raw_msr(session, vcpus, vcpu, number) != 0,
+                _ => for_vcpu,
+            }
+        }
     }
 
     fn image_size(&mut self) -> usize {
@@ -476,6 +546,10 @@ impl Hostile {
             0 | 1 => self.set_tables(|random, vcpus, pages| {
                 random.fill(vcpus);
                 random.fill(pages);
+                // where no reply is awaited, entries are not all answered 6
+                if random.percent(70) {
+                    vcpus.chunks_mut(VCPU_BYTES / 16).for_each(|words| words[AWAITED..AWAITED + 8].fill(0));
+                }
             }),
             2 => self.set_tables(|random, vcpus, pages| {
                 vcpus.fill(0);
@@ -522,7 +596,8 @@ impl Hostile {
 
     fn call(&mut self) {
         let vcpu = match self.awaited {
-            Some((vcpu, _)) if self.random.percent(20) => vcpu,
+            Some(awaited) if self.random.percent(20) => awaited.vcpu,
+            _ if self.random.percent(50) => self.random.below(self.session().vcpus.clamp(1, 16) as usize) as u32,
             _ => self.random.vcpu(),
         };
         match self.random.below(1000) {
@@ -573,3 +648,6 @@ pub fn refusal(answer: u64) -> Reads {
 
 /// What stands in an output before it is written.
 pub const BLANK: u8 = 0xC3;
+
+/// Where among the words of a vCPU the event stands whose reply is awaited.
+const AWAITED: usize = 4 * 8;

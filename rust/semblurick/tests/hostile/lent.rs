@@ -1,4 +1,4 @@
-//! What is lent: sessions, and messages.
+//! What is lent: sessions, messages, and events that are offered.
 
 use crate::library::Session;
 use crate::memory::PAGE;
@@ -27,8 +27,47 @@ pub fn session(random: &mut Random) -> Session {
     }
 }
 
+/// An event whose reply a vCPU awaits.
+#[derive(Clone, Copy)]
+pub struct Awaited {
+    pub vcpu: u32,
+    pub event: u8,
+    pub seq: u32,
+}
+
+/// How many own bytes an event has, if it can be offered.
+pub fn own_size(event: u32) -> Option<usize> {
+    match event {
+        0 | 3 | 7 | 12 => Some(0),
+        8 | 11 => Some(8),
+        4 | 14 => Some(16),
+        5 | 9 => Some(24),
+        _ => None,
+    }
+}
+
+/// An event that is offered, with own bytes: mostly as many as it has, and mostly of a register that has a switch.
+pub fn offer(random: &mut Random) -> (u32, Vec<u8>) {
+    let event = match random.below(12) {
+        0 => random.word() as u32 >> random.below(32),
+        1 => random.below(17) as u32 | random.pick(&[0, 1 << 5, 1 << 8, 1 << 16, 1 << 31]),
+        _ => random.pick(&[0, 0, 0, 0, 3, 4, 5, 5, 5, 7, 8, 9, 9, 9, 11, 12, 14]),
+    };
+    let size = match own_size(event) {
+        Some(size) if random.percent(90) => size,
+        _ => random.pick(&[0, 1, 7, 8, 9, 15, 16, 17, 23, 24, 25, 40, PAGE, 2 * PAGE]),
+    };
+    let mut own = random.bytes(size);
+    match (event, &mut own[..]) {
+        (5, [low, high, ..]) if random.percent(90) => (*low, *high) = (random.pick(&[0, 3, 4]), 0),
+        (9, [_, _, _, _, ..]) => own[..4].copy_from_slice(&random.msr().to_le_bytes()),
+        _ => {}
+    }
+    (event, own)
+}
+
 /// A message: any bytes, or the layout of one with fields that mostly fit.
-pub fn message(random: &mut Random, awaited: Option<(u32, u32)>) -> Vec<u8> {
+pub fn message(random: &mut Random, awaited: Option<Awaited>) -> Vec<u8> {
     if random.percent(10) {
         let size = random.pick(&[0, 1, 7, 8, 9, 16, 24, 40, 100]);
         return random.bytes(size);
@@ -36,7 +75,8 @@ pub fn message(random: &mut Random, awaited: Option<(u32, u32)>) -> Vec<u8> {
     let id = match random.below(20) {
         0 => random.pick(&[0, 17, 18, 256, 65535]),
         // EVENT_REPLY closes unless it is awaited
-        1 if awaited.is_some() || random.percent(10) => 16,
+        1 if random.percent(10) => 16,
+        1..7 if awaited.is_some() => 16,
         _ => 1 + random.below(15) as u16,
     };
     let mut data = Vec::new();
@@ -75,13 +115,19 @@ pub fn message(random: &mut Random, awaited: Option<(u32, u32)>) -> Vec<u8> {
             }
         }
         15 => data.extend([enable, random.below(2) as u8, random.below(2) as u8, 0, 0, 0, 0, 0]),
-        16 => data.extend([random.pick(&[0, 0, 2, 1]), 2, 0, 0, 0, 0, 0, 0]),
+        16 => {
+            let event = awaited.filter(|_| random.percent(95)).map_or(random.below(16) as u8, |awaited| awaited.event);
+            data.extend([random.pick(&[0, 0, 2, 1]), event, 0, 0, 0, 0, 0, 0]);
+            if matches!(event, 5 | 9) != random.percent(3) {
+                data.extend(random.bytes(8));
+            }
+        }
         _ => {}
     }
     let mut seq = random.word() as u32;
-    if let (16, Some((vcpu, known)), true) = (id, awaited, random.percent(90)) {
-        data[..2].copy_from_slice(&(vcpu as u16).to_le_bytes());
-        seq = known;
+    if let (16, Some(awaited), true) = (id, awaited, random.percent(90)) {
+        data[..2].copy_from_slice(&(awaited.vcpu as u16).to_le_bytes());
+        seq = awaited.seq;
     }
     let mut bytes = [&id.to_le_bytes()[..], &(data.len() as u16).to_le_bytes(), &seq.to_le_bytes(), &data].concat();
     if random.percent(4) {

@@ -1,4 +1,5 @@
-//! The library itself, lent memory of any bits: sessions and tables that no session ever had, messages and images that are none.
+//! The library itself, lent memory of any bits: sessions and tables that no session ever had, messages, events and images that are
+//! none.
 //!
 //! Every call is made twice, on equal copies: once with each buffer at the end of its pages, and once with each at their beginning, and
 //! next to each is a page that cannot be touched. Both times the answer and every byte are the same; a lookup changes nothing, nor
@@ -11,7 +12,7 @@ mod library;
 mod memory;
 mod random;
 
-use calls::{Hostile, KINDS, LOOKUPS};
+use calls::{Hostile, KINDS, LOOKUPS, SIGNALS};
 use library::{_exit, fork, signal, waitpid, write};
 use memory::{Room, PAGE};
 // the library comes with it
@@ -100,6 +101,15 @@ fn memory_of_any_bits() {
             println!("{count:>9}  {name}: answer {number}");
             assert!(count > 0, "{name}: answer {number} was not seen with seed {seed}");
         }
+    }
+    for (name, count) in SIGNALS.iter().zip(&hostile.signals) {
+        println!("{count:>9}  signal: {name}");
+        assert!(*count > 0, "no message had the signal {name} with seed {seed}");
+    }
+    for event in (1..15).filter(|event| lent::own_size(*event).is_some()) {
+        let [over, written] = hostile.events[event as usize];
+        println!("{over:>9}  event {event}: passed over\n{written:>9}  event {event}: written");
+        assert!(over > 0 && written > 0, "event {event} met only one of both with seed {seed}");
     }
     for (name, seen) in LOOKUPS.iter().zip(&hostile.lookups) {
         println!("{:>9}  lookup {name}: nothing on\n{:>9}  lookup {name}: something on", seen[0], seen[1]);

@@ -44,6 +44,7 @@ pub struct Side {
     pub result: Bytes,
     pub page: Bytes,
     pub input: Room,
+    pub own: Room,
     pub out: Room,
     pub guest: Room,
     pub list: Room,
@@ -60,6 +61,7 @@ impl Side {
             result: place(RESULT),
             page: place(24),
             input: Room::new(IMAGE_MAX + PAGE),
+            own: Room::new(2 * PAGE),
             out: Room::new(IMAGE_MAX + PAGE),
             guest: Room::new(5 * PAGE),
             list: Room::new(20 * RECORD),
@@ -68,6 +70,10 @@ impl Side {
 
     pub fn input(&self, bytes: usize) -> Bytes {
         self.input.place(self.at_end, bytes)
+    }
+
+    pub fn own(&self, bytes: usize) -> Bytes {
+        self.own.place(self.at_end, bytes)
     }
 
     pub fn out(&self, bytes: usize) -> Bytes {
