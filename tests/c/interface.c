@@ -397,7 +397,7 @@ static void events(void) {
         CHECK(offer(0, e, size, SEMBLURICK_ENTRY_OUT - 1) == SEMBLURICK_SHORT_OUT && is_zero(&r) && semblurick_awaited(&guest, 0) == 0);
         CHECK(offer(0, e, size, SEMBLURICK_ENTRY_OUT) == SEMBLURICK_HANDLED && is_event(0, e, size) && rest_is_zero());
         CHECK(offer(0, e, size, sizeof out) == SEMBLURICK_WAITING && offer(0, 0, 0, sizeof out) == SEMBLURICK_WAITING && is_zero(&r));
-        CHECK(offer(0, e, size + 1, 0) == SEMBLURICK_BAD_STATE && offer(0, e, size, 0) == SEMBLURICK_SHORT_OUT && semblurick_awaited(&guest, 0) == e);
+        CHECK(offer(0, e, size + 1, sizeof out) == SEMBLURICK_BAD_STATE && offer(0, e, size, 0) == SEMBLURICK_SHORT_OUT && semblurick_awaited(&guest, 0) == e);
         CHECK(semblurick_image_write(&guest, semblurick_output_of(image, sizeof image), &r) == SEMBLURICK_BUSY);
 
         /* what closes: another size, another event, an action that it has not */
