@@ -338,14 +338,17 @@ SEMBLURICK_CHECKED static inline enum semblurick_answer semblurick_enter(struct 
  *     12 CREATE_VCPU   none                               lets the new vCPU run, ready or not
  *     14 CPUID         struct kvmi_event_cpuid, 16        carries it out
  *
- * The event is written exactly if its switch is on: the vCPU's, of CREATE_VCPU the VM's, and of CR and MSR also that of the register
- * which the own bytes name. It is to be sent to the tool, and the vCPU waits until semblurick_message signals SEMBLURICK_RESUME: it
- * then goes on as the table says, or, to retry, does nothing of it, and calls semblurick_enter. A BREAKPOINT and a DESCRIPTOR may be
- * retried. An event that is switched off is passed over: the host carries out at once what it was about, as if there were no tool.
- * A queued pause then goes instead; else result->count is 0. semblurick_awaited tells which event was written, and so does byte 12 of
- * the output (struct kvmi_event). Where the session closes, no signal tells the vCPUs that wait: they go on as if their events had been
- * passed over. Number 0 offers nothing and has no own bytes; any other number, and own bytes of another size, are answered 5, switched
- * on or off. Answers 2, 4, 5, 3, 6, tested in this order, or 0. */
+ * An event is on where its switch is: the vCPU's, of CREATE_VCPU the VM's, and of CR and MSR also that of the register which the own
+ * bytes name. Exactly then it is written, to be sent to the tool, and the vCPU waits until semblurick_message signals
+ * SEMBLURICK_RESUME. It goes on as the table says, or, to retry a BREAKPOINT or a DESCRIPTOR, does nothing of it, and calls
+ * semblurick_enter. Where the session closes no signal comes: the vCPU goes on as if the event had been off.
+ *
+ * An event that is off is passed over: the host carries out at once what it was about, as if there were no tool. A queued pause goes
+ * instead; else result->count is 0. semblurick_awaited tells which event was written, and so does byte 12 of the output (struct
+ * kvmi_event).
+ *
+ * Number 0 offers nothing and has no own bytes. Any other number, and own bytes of another size, are answered 5, on or off. Answers
+ * 2, 4, 5, 3, 6, tested in this order, or 0. */
 SEMBLURICK_CHECKED static inline enum semblurick_answer semblurick_enter_event(struct semblurick *guest, uint32_t vcpu,
                                                                                const void *state, size_t state_size, uint32_t event,
                                                                                const void *own, size_t own_size,
