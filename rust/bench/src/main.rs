@@ -88,7 +88,7 @@ impl Filter for reference::Session {
     }
 
     fn enter(&mut self, vcpu: u32, state: &[u8], out: &mut [u8]) -> usize {
-        count(reference::Session::enter(self, vcpu as u16, state, out))
+        count(reference::Session::enter(self, vcpu as u16, state, 0, &[], out))
     }
 
     fn write_image(&self, out: &mut [u8]) -> usize {

@@ -2,9 +2,10 @@
 //!
 //! kvmi.rst (API version 1) gives the layouts; document 01 gives the numbers,
 //! the order of the tests, the host's answers and the table image, and decides
-//! where kvmi.rst is silent or contradicts itself. Comments quote or name the
-//! sentence of either that a rule stands for; `NOTES.md` lists the readings of
-//! sentences that are open.
+//! where kvmi.rst is silent or contradicts itself. Document 02 changes them: of
+//! its requests W1, the other events, is built. Comments quote or name the
+//! sentence that a rule stands for; `NOTES.md` lists the readings of sentences
+//! that are open.
 //!
 //! * [`Session::message`] takes one message of the tool,
 //! * [`Session::ready`] and [`Session::enter`] are the host's calls,
@@ -92,6 +93,21 @@ pub enum Signal {
     Crash {
         vcpu: u16,
     },
+    /// Another reply to an event that an entry offered: "resume(vCPU, action,
+    /// new value or 0)". The value is CR's or MSR's.
+    Resume {
+        vcpu: u16,
+        action: Action,
+        value: u64,
+    },
+}
+
+/// The action of an event reply: "0 continue or 2 crash (1 is retry)". A crash
+/// has a signal of its own.
+#[derive(Clone, Copy, Debug, PartialEq, Eq)]
+pub enum Action {
+    Continue,
+    Retry,
 }
 
 /// Document 01, "Host answers"; the number of each is named beside it.
@@ -107,7 +123,8 @@ pub enum Answer {
     ShortOut,
     /// 4: a host call names a vCPU not below the count.
     BadVcpu,
-    /// 5: the lent register block is not 536 bytes.
+    /// 5: the lent register block is not 536 bytes, no event with this number
+    /// is offered, or its own bytes are not as many as it has.
     BadState,
     /// 6: that vCPU's event reply is awaited.
     Waiting,

@@ -11,7 +11,6 @@
 //! said stands at rwx. "Closing makes all this fresh".
 
 use crate::standing::{cr_bit, Msr, Vcpu, RWX};
-use crate::wire::event;
 use crate::Session;
 
 /// A page below rwx.
@@ -71,10 +70,10 @@ impl Session {
         self.vcpu(vcpu).map_or(0, |vcpu| vcpu.pauses)
     }
 
-    /// The event whose reply a vCPU awaits: no other than the pause event does.
+    /// The event whose reply a vCPU awaits.
     pub fn awaited(&self, vcpu: u32) -> Option<u8> {
-        let seq = self.awaited.get(usize::try_from(vcpu).ok()?)?;
-        seq.map(|_| event::PAUSE_VCPU)
+        let awaited = self.awaited.get(usize::try_from(vcpu).ok()?)?;
+        awaited.map(|awaited| awaited.event)
     }
 
     /// How many pages stand below rwx, "all views together".

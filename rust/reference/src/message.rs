@@ -2,12 +2,12 @@
 //! first"; the layouts are those of kvmi.rst, "Commands".
 
 use crate::event;
-use crate::session::{Replies, Session};
+use crate::session::{Awaited, Replies, Session};
 use crate::standing::{cr_bit, Msr, PAUSE_LIMIT};
 use crate::wire::error::*;
 use crate::wire::event as events;
 use crate::wire::{id, is_zero, put_reply, u16_at, u32_at, u64_at, Header, REPLY};
-use crate::{Answer, Signal};
+use crate::{Action, Answer, Signal};
 
 /// Answer 3: "output below 4,112 (message)".
 const LEAST_OUTPUT: usize = REPLY + PAGE as usize;
@@ -348,22 +348,35 @@ impl Session {
     }
 
     /// kvmi.rst, "Events": the vCPU header, action u8, event u8, padding1 u16,
-    /// padding2 u32.
+    /// padding2 u32; `struct kvmi_event_cr_reply`, `struct
+    /// kvmi_event_msr_reply`: new_val u64.
     ///
     /// "An EVENT_REPLY closes unless padding is zero, the vCPU awaits one, seq
     /// and event match, and the action is 0 continue or 2 crash (1 is retry)."
     fn event_reply(&mut self, seq: u32, data: &[u8]) -> Result<Done, Refusal> {
-        let vcpu = u16_at(data, 0);
+        let (vcpu, event) = (u16_at(data, 0), data[9]);
         let padding_is_zero = is_zero(&data[2..8]) && is_zero(&data[10..16]);
-        let signal = match data[8] {
-            0 => Signal::None,
-            2 => Signal::Crash { vcpu },
+        // Document 02, W1: "Replies carry 24 data bytes for CR and MSR, the new
+        // value last, and 16 otherwise."
+        let value = match data.len() {
+            24 if event::has_new_value(event) => u64_at(data, 16),
+            16 if !event::has_new_value(event) => 0,
+            _ => return Err(Refusal::Closes),
+        };
+        let signal = match (data[8], event) {
+            // "Such a continue or retry, unlike a pause's, is signalled as
+            // resume(vCPU, action, new value or 0)."
+            (0, events::PAUSE_VCPU) => Signal::None,
+            (0, _) => Signal::Resume { vcpu, action: Action::Continue, value },
+            // "Retry is taken for BREAKPOINT and DESCRIPTOR only."
+            (1, events::BREAKPOINT | events::DESCRIPTOR) => Signal::Resume { vcpu, action: Action::Retry, value },
+            (2, _) => Signal::Crash { vcpu },
             _ => return Err(Refusal::Closes),
         };
         // A vCPU not below the count awaits nothing.
         let awaited = self.awaited.get_mut(usize::from(vcpu));
         match awaited {
-            Some(awaited) if padding_is_zero && *awaited == Some(seq) && data[9] == events::PAUSE_VCPU => {
+            Some(awaited) if padding_is_zero && *awaited == Some(Awaited { event, seq }) => {
                 // "Once taken, it is awaited no more. A crash is signalled; the
                 // session stays open."
                 *awaited = None;
@@ -386,6 +399,8 @@ fn size_fits(id: u16, data: &[u8]) -> bool {
         id::VM_WRITE_PHYSICAL => size >= 16 && u64_at(data, 8) == (size - 16) as u64,
         // "Message 13 closes only below 8 bytes"
         id::VM_SET_PAGE_ACCESS => size >= ACCESS_HEAD,
+        // Which of the two, its event decides.
+        id::EVENT_REPLY => size == 16 || size == 24,
         _ => size == 16,
     }
 }

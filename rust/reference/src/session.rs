@@ -1,8 +1,10 @@
 //! The session, its closing and the host's calls.
 
-use crate::event::{self, PAUSE_EVENT, STATE};
+use crate::event::{self, LONGEST, STATE};
 use crate::image;
 use crate::standing::Standing;
+use crate::wire::event as events;
+use crate::wire::{u16_at, u32_at};
 use crate::{Answer, Settings};
 
 /// One introspection channel, from its beginning to its closing.
@@ -14,10 +16,16 @@ pub struct Session {
     // awaited event, and whether closed."
     pub(crate) replies: Replies,
     pub(crate) next_seq: u32,
-    /// For each vCPU the seq of the pause event whose reply is awaited; no
-    /// other event that is built awaits one.
-    pub(crate) awaited: [Option<u32>; 16],
+    pub(crate) awaited: [Option<Awaited>; 16],
     closed: bool,
+}
+
+/// An event whose reply a vCPU awaits. "The awaited record now holds which
+/// event it is".
+#[derive(Clone, Copy, Debug, PartialEq, Eq)]
+pub(crate) struct Awaited {
+    pub event: u8,
+    pub seq: u32,
 }
 
 /// The reply mode that message 15 sets.
@@ -73,35 +81,64 @@ impl Session {
         Answer::handled(0)
     }
 
-    /// A vCPU is about to enter the guest; `block` is its register state.
-    /// Order: 2, 4, 5, 3, 6.
+    /// A vCPU is about to enter the guest; `block` is its register state. It
+    /// is offered an event by number, with the event's own bytes, or 0 for none
+    /// with no bytes. Order: 2, 4, 5, 3, 6.
     ///
-    /// "Entry of a vCPU into the guest: with a pause queued, writes the pause
-    /// event (552 bytes), one pause less, reply awaited; else 0 bytes."
-    pub fn enter(&mut self, vcpu: u16, block: &[u8], out: &mut [u8]) -> Answer {
+    /// Document 02, W1: "Entry order: offered event, then pause." Document 01:
+    /// "with a pause queued, writes the pause event (552 bytes), one pause
+    /// less, reply awaited; else 0 bytes."
+    pub fn enter(&mut self, vcpu: u16, block: &[u8], event: u32, own: &[u8], out: &mut [u8]) -> Answer {
         if self.closed {
             return Answer::Closed;
         }
         let index = usize::from(vcpu);
-        let Some(record) = self.standing.vcpus.get_mut(index) else {
+        if index >= self.standing.vcpus.len() {
             return Answer::BadVcpu;
-        };
-        if block.len() != STATE {
-            return Answer::BadState;
         }
-        if out.len() < PAUSE_EVENT {
+        // "another number, or lent event bytes of the wrong length, switched on
+        // or off, is answer 5"
+        let event = match event::offered(event) {
+            Some((event, size)) if own.len() == size && block.len() == STATE => event,
+            _ => return Answer::BadState,
+        };
+        if out.len() < LONGEST {
             return Answer::ShortOut;
         }
         if self.awaited[index].is_some() {
             return Answer::Waiting;
         }
+        // "a switched-off event is passed over and a queued pause goes instead"
+        if self.is_on(vcpu, event, own) {
+            return self.send(vcpu, event, block, own, out);
+        }
+        let record = &mut self.standing.vcpus[index];
         if record.pauses == 0 {
             return Answer::handled(0);
         }
         record.pauses -= 1;
+        self.send(vcpu, events::PAUSE_VCPU, block, &[], out)
+    }
+
+    /// Whether an offered event is sent: "exactly if its switch is on, and for
+    /// CR and MSR also that of the register its bytes name".
+    fn is_on(&self, vcpu: u16, event: u8, own: &[u8]) -> bool {
+        let (vcpu, number) = (u32::from(vcpu), u32::from(event));
+        match event {
+            0 => false,
+            // Message 5 has its switch, and message 10 those of the others.
+            events::CREATE_VCPU => self.vm_event(number),
+            events::CR => self.vcpu_event(vcpu, number) && self.cr(vcpu, u16_at(own, 0).into()),
+            events::MSR => self.vcpu_event(vcpu, number) && self.msr(vcpu, u32_at(own, 0)),
+            _ => self.vcpu_event(vcpu, number),
+        }
+    }
+
+    /// Writes an event, whose reply is awaited from now on.
+    fn send(&mut self, vcpu: u16, event: u8, block: &[u8], own: &[u8], out: &mut [u8]) -> Answer {
         let seq = self.take_seq();
-        self.awaited[index] = Some(seq);
-        Answer::handled(event::put_pause(out, seq, vcpu, block))
+        self.awaited[usize::from(vcpu)] = Some(Awaited { event, seq });
+        Answer::handled(event::put(out, seq, vcpu, event, block, own))
     }
 
     /// "Each event takes the next seq, which goes from 4,294,967,295 to 0."

@@ -595,7 +595,7 @@ fn short_output_and_closed_sessions() {
     }
     assert_eq!(bench.session.ready(0), Answer::Closed);
     assert_eq!(bench.session.ready(99), Answer::Closed);
-    assert_eq!(bench.session.enter(99, &[], &mut []), Answer::Closed);
+    assert_eq!(bench.session.enter(99, &[], 99, &[], &mut []), Answer::Closed);
     assert_eq!(bench.session.write_image(&mut []), Answer::Closed);
     assert!(bench.guest.iter().all(|&byte| byte == 0));
 }

@@ -4,7 +4,7 @@
 mod common;
 
 use common::*;
-use reference::{Answer, Session, Settings, Signal};
+use reference::{Action, Answer, Session, Settings, Signal};
 use std::collections::{BTreeMap, BTreeSet};
 
 /// xorshift64*.
@@ -81,6 +81,17 @@ impl Book {
         }
     }
 
+    /// Whether an event that a vCPU is offered is sent.
+    fn is_on(&self, vcpu: u16, event: u32, own: &[u8]) -> bool {
+        let is_on = self.vcpu_events.contains(&(vcpu, event as u16));
+        match (event, own) {
+            (12, _) => self.vm_events.contains(&12),
+            (5, [low, high, ..]) => is_on && self.crs.contains(&(vcpu, u32::from_le_bytes([*low, *high, 0, 0]))),
+            (9, [a, b, c, d, ..]) => is_on && self.msrs.contains(&(vcpu, u32::from_le_bytes([*a, *b, *c, *d]))),
+            _ => is_on,
+        }
+    }
+
     fn image(&self, vcpus: u16) -> Vec<u8> {
         let mut image = Vec::new();
         let mut records = 0u32;
@@ -131,6 +142,51 @@ fn random_settings(random: &mut Random) -> Settings {
         descriptors: random.once_in(2),
         breakpoints: random.once_in(2),
     }
+}
+
+/// The numbers that an entry takes, and how many own bytes each has.
+const OFFERED: [(u32, usize); 10] = [(0, 0), (3, 0), (4, 16), (5, 24), (7, 0), (8, 8), (9, 24), (11, 8), (12, 0), (14, 16)];
+
+/// An event to be offered, mostly with as many bytes as it has.
+fn random_event(random: &mut Random, book: &Book) -> (u32, Vec<u8>) {
+    let (mut event, mut size) = random.pick(&OFFERED);
+    match random.below(40) {
+        0 => event = random.below(300) as u32,
+        1 => event = random.next() as u32,
+        2 => size = random.below(40) as usize,
+        _ => {}
+    }
+    let mut own: Vec<u8> = (0..size).map(|_| random.next() as u8).collect();
+    let cr = random.pick(&[0, 3, 4, 3, 3, 1, 0xFFFF, 0x103]);
+    // Mostly one that is on for some vCPU.
+    let msrs: Vec<u32> = book.msrs.iter().map(|(_, msr)| *msr).collect();
+    let msr = match msrs[..] {
+        [] => random.pick(&[0, 0x1FFF, 0x2000, 0xC000_0000, u32::MAX]),
+        _ => random.pick(&msrs),
+    };
+    match (event, &mut own[..]) {
+        (5, [low, high, ..]) => [*low, *high] = u16::to_le_bytes(cr),
+        (9, [a, b, c, d, ..]) => [*a, *b, *c, *d] = msr.to_le_bytes(),
+        _ => {}
+    }
+    (event, own)
+}
+
+/// A reply that the awaited event takes, and its signal.
+fn fitting_reply(random: &mut Random, vcpu: u16, seq: u32, event: u8) -> (Vec<u8>, Signal) {
+    let actions: &[u8] = if matches!(event, 4 | 8) { &[0, 1, 2] } else { &[0, 2] };
+    let (action, value) = (random.pick(actions), random.next());
+    let (message, value) = match event {
+        5 | 9 => (value_reply(seq, vcpu, action, event, value), value),
+        _ => (event_reply(seq, vcpu, action, event), 0),
+    };
+    let signal = match (action, event) {
+        (2, _) => Signal::Crash { vcpu },
+        (_, 2) => Signal::None,
+        (0, _) => Signal::Resume { vcpu, action: Action::Continue, value },
+        _ => Signal::Resume { vcpu, action: Action::Retry, value },
+    };
+    (message, signal)
 }
 
 /// A message that mostly is well formed.
@@ -187,16 +243,31 @@ fn random_message(random: &mut Random, settings: &Settings, seq: u32) -> Vec<u8>
 #[test]
 fn lists_of_calls_against_a_book() {
     let mut random = Random(0x5EED);
-    let (mut images, mut closings, mut events) = (0, 0, 0);
-    for _ in 0..200 {
+    let (mut images, mut closings, mut passed_over, mut events) = (0, 0, 0, [0; 15]);
+    for _ in 0..120 {
         let settings = random_settings(&mut random);
         let vcpus = settings.vcpus as u16;
         let mut bench = Bench::unready(settings.clone());
         let mut book = Book::default();
-        let mut awaited: BTreeMap<u16, u32> = BTreeMap::new();
+        // For each vCPU that waits, the event's seq and number.
+        let mut awaited: BTreeMap<u16, (u32, u8)> = BTreeMap::new();
         let mut next_seq = 0;
         // (replies on, flag)
         let mut mode = (true, false);
+        // Half of the sessions begin with much switched on.
+        if random.once_in(2) {
+            for vcpu in 0..vcpus.min(3) {
+                bench.session.ready(vcpu);
+                book.ready.insert(vcpu);
+                let mut messages: Vec<_> = (3..15).map(|event| vcpu_event(vcpu, event, 1)).collect();
+                messages.extend([control_cr(vcpu, 3, 1), control_msr(vcpu, 0x1FFF, 1), vm_event(12, 1)]);
+                for message in messages {
+                    if bench.error(&message) == 0 {
+                        book.acted(&message);
+                    }
+                }
+            }
+        }
         for _ in 0..300 {
             match random.below(20) {
                 0 | 1 => {
@@ -209,46 +280,64 @@ fn lists_of_calls_against_a_book() {
                     };
                     assert_eq!(bench.session.ready(vcpu), expected);
                 }
-                2 | 3 => {
-                    let vcpu = random.below(u64::from(vcpus)) as u16;
+                2..5 => {
+                    let end = random.pick(&[vcpus, vcpus.min(3)]);
+                    let vcpu = random.below(end.into()) as u16;
                     let state = [random.next() as u8; 536];
-                    let (answer, event) = bench.enter(vcpu, &state);
+                    let (event, own) = random_event(&mut random, &book);
+                    let (answer, bytes) = bench.offer(vcpu, &state, event, &own);
+                    let size = OFFERED.iter().find(|(known, _)| *known == event).map(|(_, size)| *size);
+                    let on = book.is_on(vcpu, event, &own);
                     let waiting = awaited.contains_key(&vcpu);
                     let pauses = book.pauses.entry(vcpu).or_default();
-                    if waiting {
+                    if size != Some(own.len()) {
+                        assert_eq!(answer, Answer::BadState);
+                    } else if waiting {
                         assert_eq!(answer, Answer::Waiting);
-                    } else if *pauses == 0 {
+                    } else if !on && *pauses == 0 {
                         assert_eq!(answer, handled(0));
+                        passed_over += u32::from(event != 0);
                     } else {
-                        assert_eq!(answer, handled(552));
-                        assert_eq!(event[4..8], u32::to_le_bytes(next_seq));
-                        assert_eq!(event[10..12], vcpu.to_le_bytes());
-                        assert_eq!(event[16..], state);
-                        *pauses -= 1;
-                        awaited.insert(vcpu, next_seq);
+                        let (event, own) = if on { (event as u8, own) } else { (2, vec![]) };
+                        assert_eq!(answer, handled(552 + own.len()));
+                        let size = (544 + own.len()) as u16;
+                        let start = [17u16.to_le_bytes(), size.to_le_bytes()].concat();
+                        let seq = u32::to_le_bytes(next_seq);
+                        let common = [544u16.to_le_bytes(), vcpu.to_le_bytes(), [event, 0], [0; 2]].concat();
+                        assert_eq!(bytes, [&start[..], &seq, &common, &state, &own].concat());
+                        if !on {
+                            *pauses -= 1;
+                        }
+                        awaited.insert(vcpu, (next_seq, event));
                         next_seq += 1;
-                        events += 1;
+                        events[usize::from(event)] += 1;
                     }
                 }
-                4 => {
+                5 => {
                     // Refusals change nothing.
-                    let mut short = [UNTOUCHED; 551];
+                    let mut short = [UNTOUCHED; 575];
                     let message = random_message(&mut random, &settings, 0);
                     let answer = bench.session.message(&message, &mut short, &mut bench.guest);
                     assert_eq!(answer, Answer::ShortOut);
-                    let answer = bench.session.enter(0, &[0; 536], &mut short);
-                    assert_eq!(answer, Answer::ShortOut);
-                    assert_eq!(short, [UNTOUCHED; 551]);
+                    let (event, own) = random_event(&mut random, &book);
+                    let size = OFFERED.iter().find(|(known, _)| *known == event).map(|(_, size)| *size);
+                    let expected = if size == Some(own.len()) { Answer::ShortOut } else { Answer::BadState };
+                    assert_eq!(bench.session.enter(0, &[0; 536], event, &own, &mut short), expected);
+                    assert_eq!(short, [UNTOUCHED; 575]);
                 }
                 _ => {
                     // Mostly an event reply that fits.
-                    let fit = awaited.iter().next().map(|(&vcpu, &seq)| (vcpu, seq));
+                    let fit = awaited.iter().next().map(|(&vcpu, &(seq, event))| (vcpu, seq, event));
                     let mut message = random_message(&mut random, &settings, next_seq);
-                    if message.first() == Some(&16) {
-                        match fit {
-                            Some((vcpu, seq)) => message = event_reply(seq, vcpu, 0, 2),
-                            None => continue,
-                        }
+                    let mut expected = Signal::None;
+                    if message.first() == Some(&16) || fit.is_some() && random.once_in(4) {
+                        let Some((vcpu, seq, event)) = fit else { continue };
+                        (message, expected) = fitting_reply(&mut random, vcpu, seq, event);
+                    }
+                    // Most of those that close are left out, so that lists get
+                    // long.
+                    if !random.once_in(4) && bench.closes(&message) {
+                        continue;
                     }
                     let guest = bench.guest.clone();
                     let (answer, bytes) = bench.send(&message);
@@ -261,6 +350,7 @@ fn lists_of_calls_against_a_book() {
                     let id = u16::from_le_bytes([message[0], message[1]]);
                     let succeeds = succeeded(&book, &settings, &message);
                     assert_eq!(matches!(signal, Signal::Kick { .. }), id == 9 && succeeds);
+                    assert!(signal == expected || id == 9);
                     let new_mode = (message.get(8) == Some(&1), message.get(10) == Some(&1));
                     let own = match (id, succeeds) {
                         (15, true) if message[9] == 1 => new_mode.0,
@@ -281,7 +371,7 @@ fn lists_of_calls_against_a_book() {
                         let error = i32::from_le_bytes(bytes[552..556].try_into().unwrap());
                         assert_ne!(error, 0);
                         next_seq += 1;
-                        events += 1;
+                        events[13] += 1;
                         if id == 13 && error == ENOMEM {
                             book.acted(&message);
                         }
@@ -320,7 +410,10 @@ fn lists_of_calls_against_a_book() {
             }
         }
     }
-    assert!(images > 1000 && closings > 20 && events > 100);
+    assert!(images > 1000 && closings > 20 && passed_over > 100, "{images} {closings} {passed_over}");
+    for (event, seen) in events.iter().enumerate() {
+        assert_eq!(*seen > 10, matches!(event, 2..=5 | 7..=9 | 11..=14), "event {event} of {events:?}");
+    }
 }
 
 /// Whether message 13 would pass all but the page limit.

@@ -137,6 +137,12 @@ pub fn event_reply(seq: u32, vcpu: u16, action: u8, event: u8) -> Vec<u8> {
     msg(16, seq, &data)
 }
 
+/// A reply to CR or MSR, with the new value.
+pub fn value_reply(seq: u32, vcpu: u16, action: u8, event: u8, value: u64) -> Vec<u8> {
+    let data = [&event_reply(seq, vcpu, action, event)[8..], &value.to_le_bytes()].concat();
+    msg(16, seq, &data)
+}
+
 /// A session with its guest memory. Every call checks that output past the
 /// count is untouched.
 #[derive(Clone)]
@@ -208,9 +214,15 @@ impl Bench {
         self.clone().error(message)
     }
 
+    /// An entry with no event offered.
     pub fn enter(&mut self, vcpu: u16, block: &[u8]) -> (Answer, Vec<u8>) {
+        self.offer(vcpu, block, 0, &[])
+    }
+
+    /// An entry with an event offered, and its own bytes.
+    pub fn offer(&mut self, vcpu: u16, block: &[u8], event: u32, own: &[u8]) -> (Answer, Vec<u8>) {
         let mut out = vec![UNTOUCHED; 600];
-        let answer = self.session.enter(vcpu, block, &mut out);
+        let answer = self.session.enter(vcpu, block, event, own, &mut out);
         (answer, written(answer, out))
     }
 
