@@ -22,8 +22,9 @@ pub enum Call {
     Ready { vcpu: u32 },
     /// A message, with so many bytes of output and guest memory lent.
     Message { out: usize, guest: usize, bytes: Vec<u8> },
-    /// An entry, with so many bytes of a register block, chosen by `fill`, and of output lent.
-    Enter { vcpu: u32, state: usize, fill: u8, out: usize },
+    /// An entry, with so many bytes of a register block, chosen by `fill`, and of output lent; and an event offered, with its own
+    /// bytes.
+    Enter { vcpu: u32, state: usize, fill: u8, event: u32, own: Vec<u8>, out: usize },
     /// Writes the image, with so many bytes more lent than it has.
     Image { room: i64 },
     /// Marks a vCPU of a list ready.
@@ -70,7 +71,10 @@ impl fmt::Display for Call {
                 write!(f, " out={out} guest={guest} bytes=")?;
                 put_hex(f, bytes)
             }
-            Call::Enter { vcpu, state, fill, out } => write!(f, " vcpu={vcpu} state={state} fill={fill} out={out}"),
+            Call::Enter { vcpu, state, fill, event, own, out } => {
+                write!(f, " vcpu={vcpu} state={state} fill={fill} out={out} event={event} own=")?;
+                put_hex(f, own)
+            }
             Call::Image { room } => write!(f, " room={room}"),
             Call::ListReady { records, index } => {
                 write!(f, " index={index:#x} records=")?;
@@ -137,6 +141,8 @@ fn parse_call(line: &str) -> Result<Call, String> {
             vcpu: fields.number("vcpu")?,
             state: fields.up_to("state", STATE_ROOM)?,
             fill: fields.number("fill")?,
+            event: fields.number("event")?,
+            own: fields.hex("own")?,
             out: fields.up_to("out", OUT_ROOM)?,
         },
         "image" => Call::Image { room: fields.number("room")? },

@@ -1,8 +1,9 @@
 //! What a run has seen.
 
+use crate::event_counts::{EventCounts, Stands};
 use crate::look::LOOKUPS;
 use crate::{Call, Lookup, Told};
-use reference::{Answer, Settings, Signal};
+use reference::{Action, Answer, Settings, Signal};
 use std::fmt;
 
 /// Every error code of a reply.
@@ -29,15 +30,21 @@ const LISTS: [&str; 7] = [
 /// What lookups can tell, and be asked.
 const TOLD: [&str; 4] = ["nothing on", "something on", "no such number", "no such vCPU of this session"];
 
-/// The signals, told apart by whether the call wrote a reply: a kick does, with replies on, and a crash never.
-const SIGNALS: [&str; 6] =
-    ["none", "kick, no wait, reply", "kick and wait, reply", "kick, no wait, no reply", "kick and wait, no reply", "crash"];
+/// The signals, told apart by whether the call wrote a reply: a kick does, with replies on, and a crash or a resume never.
+const SIGNALS: [&str; 9] = [
+    "none",
+    "kick, no wait, reply",
+    "kick and wait, reply",
+    "kick, no wait, no reply",
+    "kick and wait, no reply",
+    "crash",
+    "resume to continue, with a value",
+    "resume to continue, without",
+    "resume to retry",
+];
 
 /// Where an image can be refused.
 const PLACES: [&str; 8] = ["VM", "VC", "MS", "PA", "EN", "the length", "after EN", "another mark"];
-
-/// What entries can give.
-const ENTRIES: [&str; 2] = ["no pause queued", "a pause event"];
 
 /// The errors that each of the messages 1 to 15 gives in a reply.
 const REPLIES: [&[i32]; 15] = [
@@ -94,24 +101,25 @@ pub struct Counts {
     /// Handled without a byte, by message.
     silent: [u64; 17],
     closing: [u64; 17],
-    signals: [u64; 6],
-    entries: [u64; 2],
+    signals: [u64; 9],
+    events: EventCounts,
     refused: [[u64; 2]; 8],
 }
 
 impl Counts {
-    /// Takes note of a call that both sides answered alike; `bytes` are those written.
-    pub fn saw(&mut self, call: &Call, answer: Answer, bytes: &[u8]) {
+    /// Takes note of a call that both sides answered alike; `bytes` are those written, and `stands` tells what stands after it.
+    pub(crate) fn saw(&mut self, call: &Call, answer: Answer, bytes: &[u8], stands: Stands) {
         let row = WORDS.iter().position(|word| *word == call.word()).expect("a row for each word");
         self.answers[row][answer.number() as usize] += 1;
         match call {
-            Call::Message { bytes: message, .. } => self.saw_message(message, answer, bytes),
-            Call::Load { image, .. } => self.saw_load(image, answer),
-            Call::Enter { .. } => {
-                if let Answer::Handled { count, .. } = answer {
-                    self.entries[usize::from(count > 0)] += 1;
+            Call::Message { bytes: message, .. } => {
+                self.saw_message(message, answer, bytes);
+                if message.starts_with(&[16, 0]) && matches!(answer, Answer::Handled { .. } | Answer::Closing) {
+                    self.events.saw_reply(message, answer, stands);
                 }
             }
+            Call::Load { image, .. } => self.saw_load(image, answer),
+            Call::Enter { .. } => self.events.saw_entry(call, answer, bytes, stands),
             Call::Image { .. } => {
                 self.images_written += 1;
                 self.saw_image(bytes);
@@ -132,6 +140,10 @@ impl Counts {
                 self.lists.iter_mut().zip(kinds).for_each(|(count, seen)| *count += u64::from(seen));
             }
             Call::Fresh { .. } | Call::Ready { .. } | Call::Look { .. } => {}
+        }
+        let begins = matches!(call, Call::Fresh { .. } | Call::Load { keep: true, .. });
+        if answer == Answer::Closing || begins && answer.number() == 0 {
+            self.events.forget();
         }
     }
 
@@ -179,6 +191,9 @@ impl Counts {
                     Signal::None => 0,
                     Signal::Kick { wait, .. } => 1 + silent + usize::from(wait),
                     Signal::Crash { .. } => 5,
+                    Signal::Resume { action: Action::Continue, value: 1.., .. } => 6,
+                    Signal::Resume { action: Action::Continue, value: 0, .. } => 7,
+                    Signal::Resume { action: Action::Retry, .. } => 8,
                 }] += 1;
                 let code = crate::told_error(bytes).unwrap_or(0);
                 let column = CODES.iter().position(|known| *known == code);
@@ -239,7 +254,7 @@ impl Counts {
         sum(&mut self.silent, &other.silent);
         sum(&mut self.closing, &other.closing);
         sum(&mut self.signals, &other.signals);
-        sum(&mut self.entries, &other.entries);
+        self.events.add(&other.events);
         sum(self.refused.as_flattened_mut(), other.refused.as_flattened());
     }
 
@@ -268,7 +283,7 @@ impl Counts {
         list.push(("message 16: taken".into(), self.silent[16]));
         list.extend((0..17).map(|id| (format!("message {id}: closing"), self.closing[id])));
         list.extend(SIGNALS.iter().zip(self.signals).map(|(name, count)| (format!("signal: {name}"), count)));
-        list.extend(ENTRIES.iter().zip(self.entries).map(|(name, count)| (format!("entry: {name}"), count)));
+        list.extend(self.events.wanted());
         for (place, [form, forbidden]) in PLACES.iter().zip(self.refused) {
             list.push((format!("image: bad form at {place}"), form));
             if matches!(*place, "VM" | "VC" | "PA") {

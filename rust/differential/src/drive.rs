@@ -218,8 +218,14 @@ impl<L: Filter, R: Filter> Player<L, R> {
         }
         let image = self.image(guide)?;
         if !guide.closed && random.percent(60) {
+            if random.percent(90) {
+                for call in guide.staged(random) {
+                    self.guided(guide, call)?;
+                }
+            }
             for vcpu in 0..guide.settings.vcpus.min(3) {
-                self.guided(guide, Call::Enter { vcpu, state: 536, fill: 0, out: 552 })?;
+                let call = guide.entry(random, vcpu);
+                self.guided(guide, call)?;
             }
             if random.one_in(4) {
                 let call = guide.quiet(random);

@@ -2,7 +2,7 @@
 
 use crate::{Lookup, Told};
 use reference::list::Record;
-use reference::{Answer, Settings, Signal};
+use reference::{Action, Answer, Settings, Signal};
 use std::cell::RefCell;
 
 /// What can be asked of a filter. `fresh` and `load` begin a session or refuse it.
@@ -12,7 +12,7 @@ pub trait Filter: Sized {
     fn ready(&mut self, vcpu: u32) -> Answer;
     /// The answer, and the error that the bytes written tell.
     fn message(&mut self, message: &[u8], out: &mut [u8], guest: &mut [u8]) -> (Answer, Option<i32>);
-    fn enter(&mut self, vcpu: u32, state: &[u8], out: &mut [u8]) -> Answer;
+    fn enter(&mut self, vcpu: u32, state: &[u8], event: u32, own: &[u8], out: &mut [u8]) -> Answer;
     fn image_size(&self) -> usize;
     fn write_image(&self, out: &mut [u8]) -> Answer;
     fn look(&self, lookup: Lookup) -> Told;
@@ -110,6 +110,14 @@ impl Filter for Proved {
                             semblurick::Signal::None => Signal::None,
                             semblurick::Signal::Kick { vcpu, wait } => Signal::Kick { vcpu: narrow(vcpu), wait },
                             semblurick::Signal::Crash { vcpu } => Signal::Crash { vcpu: narrow(vcpu) },
+                            semblurick::Signal::Resume { vcpu, action, value } => {
+                                let action = match action {
+                                    semblurick::Action::Continue => Action::Continue,
+                                    semblurick::Action::Retry => Action::Retry,
+                                    other => panic!("a resume has no {other}"),
+                                };
+                                Signal::Resume { vcpu: narrow(vcpu), action, value }
+                            }
                             other => panic!("the reference has no {other}"),
                         };
                         (Answer::Handled { count: bytes.len(), signal }, error)
@@ -120,8 +128,19 @@ impl Filter for Proved {
         }
     }
 
-    fn enter(&mut self, vcpu: u32, state: &[u8], out: &mut [u8]) -> Answer {
-        self.s_mut().enter(vcpu, state, out).map_or_else(refused, |entry| handled(entry.bytes.len()))
+    fn enter(&mut self, vcpu: u32, state: &[u8], event: u32, own: &[u8], out: &mut [u8]) -> Answer {
+        let s = self.s_mut();
+        let named = u16::try_from(event).ok().and_then(semblurick::Event::from_number);
+        let entry = match (named, event, own) {
+            (_, 0, []) => s.enter(vcpu, state, out),
+            (Some(event), _, _) => s.enter_event(vcpu, state, event, own, out),
+            _ => s.enter_event(vcpu, state, event, own, out),
+        };
+        entry.map_or_else(refused, |entry| {
+            assert_eq!(entry.may_run(), entry.bytes.is_empty());
+            assert_eq!(entry.event().map(|event| event.number()), entry.bytes.get(12).copied().map(u16::from));
+            handled(entry.bytes.len())
+        })
     }
 
     fn image_size(&self) -> usize {
@@ -271,8 +290,8 @@ impl Filter for Plain {
         }
     }
 
-    fn enter(&mut self, vcpu: u32, state: &[u8], out: &mut [u8]) -> Answer {
-        self.0.enter(narrow(vcpu), state, out)
+    fn enter(&mut self, vcpu: u32, state: &[u8], event: u32, own: &[u8], out: &mut [u8]) -> Answer {
+        self.0.enter(narrow(vcpu), state, event, own, out)
     }
 
     fn image_size(&self) -> usize {

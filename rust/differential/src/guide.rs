@@ -3,7 +3,8 @@
 //! A [`Guide`] keeps just enough in mind of what was answered to make most calls good ones: many faults close a session, and a
 //! closed one shows little.
 
-use crate::message::{damage, event_reply, message, spoil_padding, unknown, wild};
+use crate::event::{event_reply, Awaited};
+use crate::message::{damage, message, spoil_padding, unknown, wild};
 use crate::{Answer, Call, Random, Settings, GUEST_ROOM};
 
 /// What a session is mostly about.
@@ -34,7 +35,7 @@ impl Taste {
         };
         taste.messages[0] = 3;
         taste.messages[15] = 4;
-        match random.below(8) {
+        match random.below(10) {
             // page access
             0 | 1 => {
                 taste.messages[13] = 80;
@@ -56,19 +57,34 @@ impl Taste {
                 taste.messages[6] = 60;
                 taste.messages[7] = 60;
             }
+            // events: their switches, the entries that offer them, and the replies
+            6..9 => {
+                taste.messages[5] = 20;
+                taste.messages[9] = 20;
+                taste.messages[10] = 80;
+                taste.messages[11] = 30;
+                taste.messages[12] = 30;
+                taste.messages[16] = 80;
+                taste.entries = random.pick(&[15, 30, 40]);
+            }
             _ => {}
         }
         taste
     }
 }
 
+/// How many MSRs that were switched on are kept in mind.
+const MSRS: usize = 16;
+
 /// Makes the calls of one session.
 pub struct Guide {
     pub settings: Settings,
     pub closed: bool,
     pub(crate) taste: Taste,
-    /// Each vCPU that awaits a reply, with the event's seq.
-    awaited: Vec<(u16, u32)>,
+    /// The events whose replies are awaited.
+    pub(crate) awaited: Vec<Awaited>,
+    /// MSRs that were switched on, each with its vCPU; the last ones.
+    pub(crate) msrs: Vec<(u16, u32)>,
     /// Whether replies are on.
     pub(crate) replies: bool,
     /// The vCPU that is mostly meant.
@@ -100,6 +116,7 @@ impl Guide {
             closed: false,
             taste,
             awaited: Vec::new(),
+            msrs: Vec::new(),
             replies: true,
             favourite: random.below(settings.vcpus.into()) as u16,
             guest: lent_guest(random),
@@ -118,16 +135,22 @@ impl Guide {
             return;
         };
         match call {
-            Call::Enter { vcpu, .. } if count > 0 => {
-                self.awaited.push((*vcpu as u16, u32::from_le_bytes([bytes[4], bytes[5], bytes[6], bytes[7]])));
-            }
+            Call::Enter { vcpu, own, .. } if count > 0 => self.awaited.push(Awaited::new(*vcpu, own, bytes)),
             Call::Message { bytes: message, .. } => match message[..] {
                 [15, 0, 8, 0, _, _, _, _, enable @ ..=1, ..=1, ..=1, 0, 0, 0, 0, 0] if crate::told_error(bytes).is_none() => {
                     self.replies = enable == 1;
                 }
+                [12, 0, 16, 0, _, _, _, _, low, high, _, _, _, _, _, _, 1, 0, 0, 0, a, b, c, d]
+                    if crate::told_error(bytes).is_none() =>
+                {
+                    if self.msrs.len() == MSRS {
+                        self.msrs.remove(0);
+                    }
+                    self.msrs.push((u16::from_le_bytes([low, high]), u32::from_le_bytes([a, b, c, d])));
+                }
                 [16, 0, _, _, _, _, _, _, low, high, ..] => {
                     let vcpu = u16::from_le_bytes([low, high]);
-                    self.awaited.retain(|(waiting, _)| *waiting != vcpu);
+                    self.awaited.retain(|awaited| awaited.vcpu != vcpu);
                 }
                 _ => {}
             },
@@ -148,8 +171,8 @@ impl Guide {
 
     /// The replies that are awaited.
     pub fn replies(&self) -> Vec<Call> {
-        let reply = |(vcpu, seq): &(u16, u32)| Call::message(message(16, *seq, &event_reply(*vcpu, 0, 2)));
-        self.awaited.iter().map(reply).collect()
+        let reply = |awaited: &Awaited| event_reply(awaited.vcpu, 0, awaited.event, u64::from(awaited.seq) << 40);
+        self.awaited.iter().map(|awaited| Call::message(message(16, awaited.seq, &reply(awaited)))).collect()
     }
 
     /// The next call.
@@ -177,7 +200,7 @@ impl Guide {
     /// A message that closes the session, mostly.
     pub fn farewell(&self, random: &mut Random) -> Call {
         let closing: Vec<u16> = (0..16).filter(|id| self.closes(*id)).collect();
-        let awaited = if self.awaited.is_empty() { 1 } else { 10 };
+        let awaited = if self.awaited.is_empty() { 1 } else { 20 };
         let flag = self.command_allowed(15) && !self.event_allowed(13);
         let mut bytes = match random.weighted(&[awaited, 3 * u32::from(flag), 4 * u32::from(!closing.is_empty()), 1, 8]) {
             0 => self.reply(random, true),
@@ -210,7 +233,7 @@ impl Guide {
         self.send(random, bytes)
     }
 
-    fn host_vcpu(&self, random: &mut Random) -> u32 {
+    pub(crate) fn host_vcpu(&self, random: &mut Random) -> u32 {
         let count = self.settings.vcpus;
         match random.below(24) {
             0 => random.pick(&[count + 1, 16, 17, 63, 64, 255, 256, 1 << 16, (1 << 16) + 1, 1 << 31, u32::MAX]),
@@ -218,19 +241,6 @@ impl Guide {
             2..8 => random.below(count.into()) as u32,
             _ => self.favourite.into(),
         }
-    }
-
-    fn enter(&self, random: &mut Random) -> Call {
-        let state = match random.below(25) {
-            0 => random.pick(&[0, 1, 8, 535, 537, 544, 552, 1072]),
-            _ => 536,
-        };
-        let out = match random.below(12) {
-            0 => random.pick(&[0, 1, 16, 544, 551]),
-            1 => random.pick(&[553, 560, 568, 4112]),
-            _ => 552,
-        };
-        Call::Enter { vcpu: self.host_vcpu(random), state, fill: random.word() as u8, out }
     }
 
     /// A message with output and guest memory; it may be damaged.
@@ -259,7 +269,7 @@ impl Guide {
     }
 
     /// Whether a message would close the session, whatever its data; 0 is an unknown one.
-    fn closes(&self, id: u16) -> bool {
+    pub(crate) fn closes(&self, id: u16) -> bool {
         match id {
             0 | 1 | 4 | 6 | 8 => !self.replies,
             9 if self.command_allowed(9) => !self.event_allowed(2),
@@ -270,6 +280,13 @@ impl Guide {
 
     /// A message that a tool could mean, though some fields may be at fault.
     fn proper(&self, random: &mut Random) -> Vec<u8> {
+        // an event that is awaited is switched off before its reply comes
+        if !self.awaited.is_empty() && random.one_in(20) {
+            match self.switch_off(random) {
+                Some((id, bytes)) if !self.closes(id) => return bytes,
+                _ => {}
+            }
+        }
         let id = loop {
             let id = random.weighted(&self.taste.messages) as u16;
             // those not allowed are all answered alike
@@ -308,32 +325,6 @@ impl Guide {
                 message(id, seq, &data)
             }
         }
-    }
-
-    /// An event reply: the right one, or one that closes.
-    fn reply(&self, random: &mut Random, wrong: bool) -> Vec<u8> {
-        let (mut vcpu, mut seq) = match self.awaited.len() {
-            0 => (self.favourite, random.below(3) as u32),
-            length => self.awaited[random.index(length)],
-        };
-        let (mut action, mut event) = (random.pick(&[0, 0, 2]), 2);
-        let mut padding = None;
-        let count = self.settings.vcpus as u16;
-        if wrong {
-            match random.below(6) {
-                0 => vcpu = random.pick(&[0, self.favourite, count, 15, 16, 17, 255, 256, vcpu + 0x100, 0xFFFF]),
-                1 => seq ^= 1 << random.below(32),
-                2 => seq = random.pick(&[seq.wrapping_add(1), seq.wrapping_sub(1), 0]),
-                3 => action = random.pick(&[1, 3, 4, 0x80, 0x82, 0xFF]),
-                4 => event = random.pick(&[0, 1, 3, 13, 0x82, 0xFF]),
-                _ => padding = Some(random.pick(&[2, 3, 4, 5, 6, 7, 10, 11, 12, 13, 14, 15])),
-            }
-        }
-        let mut data = event_reply(vcpu, action, event);
-        if let Some(at) = padding {
-            data[at] = 1 << random.below(8);
-        }
-        message(16, seq, &data)
     }
 }
 

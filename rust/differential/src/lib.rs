@@ -4,7 +4,8 @@
 //! * [`Call`] is one call, with a text form that can be replayed;
 //! * [`Runner`] makes calls on both sides and compares answers, outputs, guest memory and images, and what lookups tell;
 //! * [`look`] has the lookups that are asked between calls;
-//! * [`settings`], [`guide`], [`image`] and [`list`] make settings, calls, images and lists of records, good and damaged;
+//! * [`settings`], [`guide`], [`event`], [`image`] and [`list`] make settings, calls, entries with their events, images and
+//!   lists of records, good and damaged;
 //! * [`shrink`] makes a failing list of calls short;
 //! * [`drive`] does all this for a seed, and [`Counts`] says what was seen.
 
@@ -13,6 +14,8 @@
 mod call;
 mod counts;
 pub mod drive;
+pub mod event;
+mod event_counts;
 mod filter;
 pub mod guide;
 pub mod image;
@@ -30,5 +33,5 @@ pub use filter::{told_error, Filter, Plain, Proved};
 pub use look::{Lookup, Told};
 pub use random::Random;
 pub use reference::list::Record;
-pub use reference::{Answer, Settings, Signal};
+pub use reference::{Action, Answer, Settings, Signal};
 pub use run::{run, Mismatch, Runner};

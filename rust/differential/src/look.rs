@@ -2,6 +2,7 @@
 //!
 //! After every call what it touched is asked, and some of the rest; every so often, and after an image, all of it.
 
+use crate::event::register;
 use crate::message::msr;
 use crate::{Call, Random};
 use std::fmt;
@@ -163,7 +164,8 @@ pub fn near(random: &mut Random, call: &Call, pages: usize, list: &mut Vec<Looku
     vm_events(random, list);
 
     let (vcpu, register) = match call {
-        Call::Ready { vcpu } | Call::Enter { vcpu, .. } => (Some(*vcpu), None),
+        Call::Ready { vcpu } => (Some(*vcpu), None),
+        Call::Enter { vcpu, event, own, .. } => (Some(*vcpu), register(*event, own)),
         Call::Message { bytes, .. } if matches!(half(bytes, 0), Some(8..=12 | 14 | 16)) => (half(bytes, 8), word(bytes, 20)),
         _ => (None, None),
     };

@@ -18,15 +18,6 @@ pub fn message(id: u16, seq: u32, data: &[u8]) -> Vec<u8> {
     bytes
 }
 
-/// The data of an event reply.
-pub fn event_reply(vcpu: u16, action: u8, event: u8) -> [u8; 16] {
-    let mut data = [0; 16];
-    data[..2].copy_from_slice(&vcpu.to_le_bytes());
-    data[8] = action;
-    data[9] = event;
-    data
-}
-
 impl Guide {
     /// The data of a message 1 to 15.
     pub(crate) fn data(&self, random: &mut Random, id: u16) -> Vec<u8> {
@@ -89,8 +80,13 @@ impl Guide {
                 data.extend(cr.to_le_bytes());
             }
             12 => {
+                let msr = match self.msrs.len() {
+                    // some are switched off again
+                    length @ 1.. if random.one_in(4) => self.msrs[random.index(length)].1,
+                    _ => msr(random, self.taste.faulty),
+                };
                 data.extend([self.flag(random), 0, 0, 0]);
-                data.extend(msr(random, self.taste.faulty).to_le_bytes());
+                data.extend(msr.to_le_bytes());
             }
             13 => data = self.pages(random),
             15 => data.extend(self.mode(random)),

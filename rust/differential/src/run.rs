@@ -311,7 +311,8 @@ impl<L: Filter, R: Filter> Runner<L, R> {
             }
         };
         let bytes = if self.image > 0 { &self.left.image[..self.image] } else { &self.left.out[..self.written] };
-        self.counts.saw(call, answer, bytes);
+        let stands = |lookup| self.session.as_ref().map(|pair| pair.right.look(lookup));
+        self.counts.saw(call, answer, bytes, &stands);
         Ok(Some(answer))
     }
 
@@ -387,10 +388,13 @@ impl<L: Filter, R: Filter> Runner<L, R> {
                 same_bytes("guest memory", &self.left.guest, &self.right.guest)?;
                 Ok(left.0)
             }
-            Call::Enter { vcpu, state, fill, out } => {
+            Call::Enter { vcpu, state, fill, event, own, out } => {
                 let state = &self.states[usize::from(*fill)..][..*state];
                 let (ours, theirs) = (&mut self.left.out[..*out], &mut self.right.out[..*out]);
-                let (left, right) = both(|| pair.left.enter(*vcpu, state, ours), || pair.right.enter(*vcpu, state, theirs))?;
+                let (left, right) = both(
+                    || pair.left.enter(*vcpu, state, *event, own, ours),
+                    || pair.right.enter(*vcpu, state, *event, own, theirs),
+                )?;
                 same("answer", &left, &right)?;
                 self.same_output(left)?;
                 Ok(left)

@@ -142,7 +142,8 @@ impl<L: Filter, R: Filter> Search<'_, L, R> {
         let ways: &[fn(&mut Call)] = match self.calls.get(at) {
             Some(Call::Fresh { .. } | Call::Load { .. }) => BEGINNINGS,
             Some(Call::Message { .. }) => MESSAGES,
-            Some(Call::Enter { .. } | Call::Image { .. }) => OTHERS,
+            Some(Call::Enter { .. }) => ENTRIES,
+            Some(Call::Image { .. }) => IMAGES,
             Some(Call::ListReady { .. } | Call::ListCr { .. }) => LISTS,
             Some(Call::Ready { .. } | Call::Look { .. }) | None => &[],
         };
@@ -219,9 +220,9 @@ impl<L: Filter, R: Filter> Search<'_, L, R> {
     }
 }
 
-/// Whether these bytes are an event: a pause event or a CMD_ERROR.
+/// Whether these bytes are an event; the reply to an unknown message with id 17 is shorter.
 fn is_event(bytes: &[u8]) -> bool {
-    matches!(bytes.len(), 552 | 568) && bytes.starts_with(&[17, 0])
+    bytes.len() >= 552 && bytes.starts_with(&[17, 0])
 }
 
 /// Ways to make calls plainer.
@@ -263,12 +264,47 @@ const MESSAGES: &[fn(&mut Call)] = &[
             bytes.iter_mut().skip(4).take(4).for_each(|byte| *byte = 0);
         }
     },
+    // the new value of an event reply
+    |call| match call {
+        Call::Message { bytes, .. } if bytes.starts_with(&[16, 0]) => bytes.iter_mut().skip(24).for_each(|byte| *byte = 0),
+        _ => {}
+    },
 ];
 
-const OTHERS: &[fn(&mut Call)] = &[|call| match call {
-    Call::Enter { state, fill, out, .. } => (*state, *fill, *out) = (536, 0, 552),
-    Call::Image { room } => *room = 0,
-    _ => {}
+const ENTRIES: &[fn(&mut Call)] = &[
+    |call| {
+        if let Call::Enter { state, fill, out, .. } = call {
+            (*state, *fill, *out) = (536, 0, 576);
+        }
+    },
+    |call| {
+        if let Call::Enter { event, own, .. } = call {
+            *event = 0;
+            own.clear();
+        }
+    },
+    // all but the register that the bytes name, and that too
+    |call| {
+        if let Call::Enter { own, .. } = call {
+            own.iter_mut().skip(4).for_each(|byte| *byte = 0);
+        }
+    },
+    |call| {
+        if let Call::Enter { own, .. } = call {
+            own.iter_mut().skip(2).for_each(|byte| *byte = 0);
+        }
+    },
+    |call| {
+        if let Call::Enter { own, .. } = call {
+            own.fill(0);
+        }
+    },
+];
+
+const IMAGES: &[fn(&mut Call)] = &[|call| {
+    if let Call::Image { room } = call {
+        *room = 0;
+    }
 }];
 
 const LISTS: &[fn(&mut Call)] = &[

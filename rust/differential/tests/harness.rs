@@ -1,9 +1,10 @@
 //! The harness itself: it finds a fault, shows it in a short list of calls, and finds none where there is none.
 
 use differential::drive::{work, Failure, Quota};
+use differential::event::register;
 use differential::{
-    parse, run, Answer, Call, Counts, Filter, Lookup, Plain, Record, Runner, Settings, Signal, Told, GUEST_ROOM, OUT_ROOM,
-    STATE_ROOM,
+    parse, run, Action, Answer, Call, Counts, Filter, Lookup, Plain, Record, Runner, Settings, Signal, Told, GUEST_ROOM,
+    OUT_ROOM, STATE_ROOM,
 };
 use std::cell::Cell;
 use std::collections::BTreeMap;
@@ -19,8 +20,8 @@ trait Fault {
         right.message(message, out, guest)
     }
 
-    fn enter(&mut self, right: &mut Plain, vcpu: u32, state: &[u8], out: &mut [u8]) -> Answer {
-        right.enter(vcpu, state, out)
+    fn enter(&mut self, right: &mut Plain, entry: &Entry, out: &mut [u8]) -> Answer {
+        entry.of(right, out)
     }
 
     fn image_size(&self, right: &Plain) -> usize {
@@ -45,6 +46,22 @@ trait Fault {
 
     fn list_cr(&self, records: &mut [Record], index: usize, cr: u32, on: bool) -> Answer {
         Plain::list_cr(records, index, cr, on)
+    }
+}
+
+/// What an entry is about.
+#[derive(Clone, Copy)]
+struct Entry<'a> {
+    vcpu: u32,
+    state: &'a [u8],
+    event: u32,
+    own: &'a [u8],
+}
+
+impl Entry<'_> {
+    /// As the right filter does it.
+    fn of(&self, right: &mut Plain, out: &mut [u8]) -> Answer {
+        right.enter(self.vcpu, self.state, self.event, self.own, out)
     }
 }
 
@@ -82,8 +99,8 @@ impl Filter for Wrong {
         self.fault.message(&mut self.right, message, out, guest)
     }
 
-    fn enter(&mut self, vcpu: u32, state: &[u8], out: &mut [u8]) -> Answer {
-        self.fault.enter(&mut self.right, vcpu, state, out)
+    fn enter(&mut self, vcpu: u32, state: &[u8], event: u32, own: &[u8], out: &mut [u8]) -> Answer {
+        self.fault.enter(&mut self.right, &Entry { vcpu, state, event, own }, out)
     }
 
     fn image_size(&self) -> usize {
@@ -169,7 +186,8 @@ fn texts_are_read_back() {
         Call::Ready { vcpu: u32::MAX },
         Call::Message { out: 0, guest: 1, bytes: Vec::new() },
         Call::Message { out: OUT_ROOM, guest: GUEST_ROOM, bytes: (0..=255).collect() },
-        Call::Enter { vcpu: 0, state: STATE_ROOM, fill: 255, out: 552 },
+        Call::Enter { vcpu: 0, state: STATE_ROOM, fill: 255, event: 0, own: Vec::new(), out: 576 },
+        Call::Enter { vcpu: u32::MAX, state: 0, fill: 0, event: u32::MAX, own: (0..=255).collect(), out: 0 },
         Call::Image { room: -1_000_000 },
         Call::ListReady { records: Vec::new(), index: u64::MAX },
         Call::ListCr { records: vec![Record::default(), odd], index: 1, cr: u32::MAX, on: true },
@@ -194,6 +212,10 @@ fn texts_are_read_back() {
         "ready vcpu=-1",
         "ready vcpu=1 out=2",
         "image room",
+        "enter vcpu=0 state=536 fill=0 out=576",
+        "enter vcpu=0 state=536 fill=0 out=576 event=5",
+        "enter vcpu=0 state=536 fill=0 out=576 event=0x100000000 own=",
+        "enter vcpu=0 state=536 fill=0 out=576 event=5 own=0",
         "message out=4201 guest=0 bytes=",
         "list_ready index=0 records=00",
         "list_cr index=0 cr=0 on=2 records=",
@@ -352,18 +374,88 @@ wrong_message! {
     }
 }
 
+/// A reply to an event with one action, taken as another would be.
+fn taken_as(right: &mut Plain, message: &[u8], out: &mut [u8], wanted: (u8, u8), action: u8) -> (Answer, Option<i32>) {
+    let mut message = message.to_vec();
+    match &mut message[..] {
+        [16, 0, _, _, _, _, _, _, _, _, _, _, _, _, _, _, told, event, ..] if (*event, *told) == wanted => *told = action,
+        _ => {}
+    }
+    right.message(&message, out, &mut [])
+}
+
 wrong_message! {
-    takes_a_retry, RetryTaken, 5, |right, message, out, guest| {
-        let mut message = message.to_vec();
-        if let [16, 0, 16, 0, _, _, _, _, _, _, _, _, _, _, _, _, action, ..] = &mut message[..] {
-            *action &= !1;
+    takes_a_retry_of_a_pause, RetryTaken, 5, |right, message, out, guest| {
+        match message {
+            [16, 0, ..] => taken_as(right, message, out, (2, 1), 0),
+            _ => right.message(message, out, guest),
         }
-        right.message(&message, out, guest)
     }
 }
 
 wrong_message! {
-    applies_the_mode_too_late, NowIgnored, 2, |right, message, out, guest| {
+    takes_a_retry_of_an_msr, MsrRetried, 6, |right, message, out, guest| {
+        match message {
+            [16, 0, ..] => match taken_as(right, message, out, (9, 1), 0) {
+                (Answer::Handled { count, signal: Signal::Resume { vcpu, value, .. } }, error) if message[16] == 1 => {
+                    (Answer::Handled { count, signal: Signal::Resume { vcpu, action: Action::Retry, value } }, error)
+                }
+                result => result,
+            },
+            _ => right.message(message, out, guest),
+        }
+    }
+}
+
+wrong_message! {
+    takes_a_reply_to_a_cr_without_its_value, CrUnvalued, 6, |right, message, out, guest| {
+        match message {
+            [16, 0, 16, 0, ..] if message.get(17) == Some(&5) => {
+                let mut message = [message, &[0; 8]].concat();
+                message[2] = 24;
+                right.message(&message, out, guest)
+            }
+            _ => right.message(message, out, guest),
+        }
+    }
+}
+
+wrong_message! {
+    takes_a_value_of_a_breakpoint, BreakpointValued, 5, |right, message, out, guest| {
+        match message {
+            [16, 0, 24, 0, rest @ ..] if message.len() == 32 && message[17] == 4 => {
+                right.message(&[&[16, 0, 16, 0], &rest[..20]].concat(), out, guest)
+            }
+            _ => right.message(message, out, guest),
+        }
+    }
+}
+
+wrong_message! {
+    cuts_the_new_value, ValueCut, 6, |right, message, out, guest| {
+        match right.message(message, out, guest) {
+            (Answer::Handled { count, signal: Signal::Resume { vcpu, action, value } }, error) => {
+                let value = value & 0xFFFF_FFFF;
+                (Answer::Handled { count, signal: Signal::Resume { vcpu, action, value } }, error)
+            }
+            result => result,
+        }
+    }
+}
+
+wrong_message! {
+    forgets_the_resume_of_a_hypercall, ResumeLost, 5, |right, message, out, guest| {
+        match right.message(message, out, guest) {
+            (Answer::Handled { count, signal: Signal::Resume { .. } }, error) if message[17] == 3 => {
+                (Answer::Handled { count, signal: Signal::None }, error)
+            }
+            result => result,
+        }
+    }
+}
+
+wrong_message! {
+    applies_the_mode_too_late, NowIgnored, 3, |right, message, out, guest| {
         let mut message = message.to_vec();
         if let [15, 0, 8, 0, _, _, _, _, _, now, ..] = &mut message[..] {
             *now &= !1;
@@ -463,9 +555,9 @@ impl Fault for SeqUncounted {
         result
     }
 
-    fn enter(&mut self, right: &mut Plain, vcpu: u32, state: &[u8], out: &mut [u8]) -> Answer {
-        let answer = right.enter(vcpu, state, out);
-        if let Answer::Handled { count: 552, .. } = answer {
+    fn enter(&mut self, right: &mut Plain, entry: &Entry, out: &mut [u8]) -> Answer {
+        let answer = entry.of(right, out);
+        if let Answer::Handled { count: 1.., .. } = answer {
             let seq = u32::from_le_bytes(out[4..8].try_into().unwrap()) - self.0;
             out[4..8].copy_from_slice(&seq.to_le_bytes());
         }
@@ -478,21 +570,131 @@ fn counts_command_errors_apart() {
     found(6, || Box::new(SeqUncounted(0)));
 }
 
-/// An entry is handled while its vCPU waits.
-struct EntersWaiting;
+/// A fault in entries alone.
+macro_rules! wrong_entry {
+    ($(#[$doc:meta])* $test:ident, $fault:ident, $most:literal, |$right:ident, $entry:ident, $out:ident| $body:expr) => {
+        struct $fault;
 
-impl Fault for EntersWaiting {
-    fn enter(&mut self, right: &mut Plain, vcpu: u32, state: &[u8], out: &mut [u8]) -> Answer {
-        match right.enter(vcpu, state, out) {
-            Answer::Waiting => Answer::Handled { count: 0, signal: Signal::None },
-            answer => answer,
+        impl Fault for $fault {
+            fn enter(&mut self, $right: &mut Plain, $entry: &Entry, $out: &mut [u8]) -> Answer {
+                $body
+            }
+        }
+
+        $(#[$doc])*
+        #[test]
+        fn $test() {
+            let failure = found($most, || Box::new($fault));
+            assert_eq!(failure.mismatch.word, "enter");
+        }
+    };
+}
+
+const NOTHING: Answer = Answer::Handled { count: 0, signal: Signal::None };
+
+wrong_entry! {
+    /// An entry is handled while its vCPU waits.
+    enters_while_waiting, EntersWaiting, 5, |right, entry, out| match entry.of(right, out) {
+        Answer::Waiting => NOTHING,
+        answer => answer,
+    }
+}
+
+wrong_entry! {
+    /// A pause that is queued goes before the event offered.
+    pauses_before_the_event, PauseFirst, 6, |right, entry, out| {
+        let is_handled = matches!(entry.of(&mut right.clone(), &mut out.to_vec()), Answer::Handled { .. });
+        match is_handled && right.0.pauses(entry.vcpu) > 0 {
+            true => Entry { event: 0, own: &[], ..*entry }.of(right, out),
+            false => entry.of(right, out),
         }
     }
 }
 
-#[test]
-fn enters_while_waiting() {
-    found(5, || Box::new(EntersWaiting));
+wrong_entry! {
+    /// A CR event is sent although the register's switch is off.
+    sends_a_cr_that_is_off, CrOff, 4, |right, entry, out| with_register(right, entry, out, 5, 11)
+}
+
+wrong_entry! {
+    /// An MSR event is sent although the register's switch is off.
+    sends_an_msr_that_is_off, MsrOff, 4, |right, entry, out| with_register(right, entry, out, 9, 12)
+}
+
+/// An entry; where it offers an event that is passed over for its register alone, a message with this number switches that on
+/// before, and off again.
+fn with_register(right: &mut Plain, entry: &Entry, out: &mut [u8], event: u32, id: u8) -> Answer {
+    let is_on = entry.event == event && right.0.vcpu_event(entry.vcpu, event);
+    let is_passed_over = is_on && entry.of(&mut right.clone(), &mut out.to_vec()) == NOTHING;
+    let Some(named) = register(event, entry.own).filter(|_| is_passed_over) else { return entry.of(right, out) };
+    let switch = |enable: u8| {
+        let data = [[entry.vcpu as u8, 0, 0, 0], [0; 4], [enable, 0, 0, 0], named.to_le_bytes()].concat();
+        [&[id, 0, 16, 0, 0, 0, 0, 0], &data[..]].concat()
+    };
+    let mut room = vec![0; 4112];
+    // not where there is no such register, or the message closes
+    let (Answer::Handled { .. }, None) = right.clone().message(&switch(1), &mut room, &mut []) else {
+        return entry.of(right, out);
+    };
+    right.message(&switch(1), &mut room, &mut []);
+    let answer = entry.of(right, out);
+    right.message(&switch(0), &mut room, &mut []);
+    answer
+}
+
+wrong_entry! {
+    /// CREATE_VCPU is passed over for a vCPU that is not ready.
+    passes_over_a_new_vcpu, NewVcpu, 3, |right, entry, out| match entry.of(&mut right.clone(), &mut out.to_vec()) {
+        Answer::Handled { .. } if entry.event == 12 && !right.0.is_ready(entry.vcpu) => NOTHING,
+        _ => entry.of(right, out),
+    }
+}
+
+wrong_entry! {
+    /// A length that is cut to eight bits.
+    cuts_a_length, LengthCut, 2, |right, entry, out| {
+        Entry { own: &entry.own[..entry.own.len() % 256], ..*entry }.of(right, out)
+    }
+}
+
+wrong_entry! {
+    /// A number that is cut to sixteen bits.
+    cuts_a_number, NumberCut, 2, |right, entry, out| Entry { event: entry.event & 0xFFFF, ..*entry }.of(right, out)
+}
+
+wrong_entry! {
+    /// A page fault event is taken, as it is not yet.
+    takes_a_page_fault, PageFault, 2, |right, entry, out| match entry.of(right, out) {
+        Answer::BadState if entry.event == 10 && entry.own.len() == 24 && entry.state.len() == 536 => NOTHING,
+        answer => answer,
+    }
+}
+
+wrong_entry! {
+    /// An output that holds a pause event, but not every event.
+    takes_552_bytes_of_output, Short552, 2, |right, entry, out| match entry.of(right, out) {
+        Answer::ShortOut if out.len() >= 552 => entry.of(right, &mut [0; 576]),
+        answer => answer,
+    }
+}
+
+wrong_entry! {
+    /// The output is tested before what is lent.
+    tests_3_before_5, ThreeFirst, 2, |right, entry, out| match entry.of(right, out) {
+        Answer::BadState if out.len() < 576 => Answer::ShortOut,
+        answer => answer,
+    }
+}
+
+wrong_entry! {
+    /// The common size counts an event's own bytes.
+    counts_own_bytes_in_the_common_size, CommonSize, 4, |right, entry, out| {
+        let answer = entry.of(right, out);
+        if let Answer::Handled { count: 553.., .. } = answer {
+            out.copy_within(2..4, 8);
+        }
+        answer
+    }
 }
 
 /// Closing leaves the tables as they were.
@@ -661,6 +863,21 @@ wrong_look! {
     awaits_another_event, OtherAwaited, 5, "awaited", |right, lookup| match right.look(lookup) {
         Told::Number(2) if matches!(lookup, Lookup::Awaited { .. }) => Told::Number(1),
         told => told,
+    }
+}
+
+wrong_look! {
+    takes_every_awaited_event_for_a_pause, AwaitsPauses, 5, "awaited", |right, lookup| match right.look(lookup) {
+        Told::Number(1..) if matches!(lookup, Lookup::Awaited { .. }) => Told::Number(2),
+        told => told,
+    }
+}
+
+wrong_look! {
+    /// CREATE_VCPU's reply is awaited by a vCPU that is not ready.
+    awaits_only_when_ready, AwaitsReady, 4, "awaited", |right, lookup| match lookup {
+        Lookup::Awaited { vcpu } if !right.0.is_ready(vcpu) => Told::Number(0),
+        _ => right.look(lookup),
     }
 }
 
