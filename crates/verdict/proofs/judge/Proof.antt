@@ -293,16 +293,12 @@ passes-requires-16 c κs = search needs
 facts-of-requires-14 : tie.Need-facts-of-requires-14
 facts-of-requires-14 c κs = search needs
 
-slice-aggregate-judge-reply : tie.Need-slice-aggregate-judge-reply
-unfolding layoutOf
-slice-aggregate-judge-reply c = part _ _ _ _ (c .before .before .before .before .before .before .layout .ensures) (c .before .before .before .passes16 .ensures) EventReply 16 refl refl (c .before .before .before .before .enum-told16 .given .1) (c .before .before .if16 .taken) .0
-
 judge-reply-requires : tie.Need-judge-reply-requires
 judge-reply-requires c κs = search needs
 
 returns-16 : tie.Need-returns-16
-unfolding rowVerdict layoutOf
-returns-16 c = c .judge-reply .ensures ∙ taken-part _ _ _ _ (c .before .before .before .before .before .before .before .layout .ensures) (c .before .before .before .before .passes16 .ensures) _ _ (c .before .before .facts-of14 .ensures) EventReply 16 refl refl (c .before .before .before .before .before .enum-told16 .given .1) (c .before .before .before .if16 .taken)
+unfolding rowVerdict
+returns-16 c = c .judge-reply .ensures ∙ taken _ _ _ _ (c .before .before .before .before .before .before .layout .ensures) (c .before .before .before .passes16 .ensures) _ _ (c .before .facts-of14 .ensures) EventReply refl (c .before .before .before .before .enum-told16 .given .1) (c .before .before .if16 .taken)
 
 enum-told-17 : tie.Need-enum-told-17
 enum-told-17 c = search needs
@@ -423,7 +419,6 @@ judge-spec =
     enum-told-16
     passes-requires-16
     facts-of-requires-14
-    slice-aggregate-judge-reply
     judge-reply-requires
     returns-16
     enum-told-17
