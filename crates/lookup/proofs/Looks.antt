@@ -10,25 +10,23 @@ use mathlib.Core.Bool.{Bool, true, false, cond, not, _&&_, So}
 use lib.ListN.{length, getD, take, set, replicate, length-take, List·getD-map, List·getD-eq-default}
 use lib.Seq.{set-getD, getD-take, length-take-le}
 use lib.Dec.{ltb, eqb}
-use borrow.Author.Tests.{ltb-true, ltb-false, eqb-true, lt-ltb, le-ltb, ne-eqb, not-true}
+use borrow.Author.Tests.{ltb-true, ltb-false, eqb-true, ne-eqb, not-true}
 use Rattle.kvmi.specs.Bits.{bit, isOn, every, among}
 use Rattle.kvmi.specs.Settings.{inRange, isSet}
 use Rattle.kvmi.specs.Ascending.{rising, has, put}
-use Rattle.kvmi.specs.Tables.{Vcpu, Page, Tables, resting, pageKey, isCr, crBit, isMsr, vcpuAt, vmEventOn, eventOn, crOn, msrIn, msrOn, accessIn, access}
+use Rattle.kvmi.specs.Tables.{Vcpu, Page, Tables, resting, pageKey, isCr, crBit, vcpuAt, vmEventOn, eventOn, crOn, msrIn, msrOn, accessIn, access}
 use Rattle.kvmi.specs.Model.{Model, closedModel, awaitedBy}
 use Rattle.kvmi.specs.Verdict.{isAccess, awaitedEvent}
-use Rattle.store.specs.Words.{SINGLESTEP, CRS, EVENTS, PAUSES, AWAITED, field, msrSlot, msrWord, msrSlotOn, msrBitOn}
+use Rattle.store.specs.Words.{SINGLESTEP, CRS, EVENTS, PAUSES, AWAITED, field, msrBitOn}
 use Rattle.store.specs.Meaning.{vcpuOfWords}
 use Rattle.page_words.specs.PageWords.{keyOf, wordKey, placeOf, standsAt}
 use Rattle.page_words.specs.Meaning.{pageOfWord, pagesOf, goodWord, PagesGood}
 use Rattle.session.specs.State.{State, isClosed}
 use Rattle.session.specs.Meaning.{tablesOf, modelOf, WordsGood, WellFormed}
 use Rattle.laws.proofs.Bool.{and-l, and-r, test, either, clash, every-head, every-tail, every-getD}
-use Rattle.laws.proofs.Bits.{on-none}
 use Rattle.laws.proofs.Lookup.{access-put, access-none}
-use Rattle.refine.proofs.Msrs.{msrs-look}
 use Rattle.refine.proofs.Awaited.{event-read}
-use Rattle.refine.proofs.Words.{few-vcpus, field-past, vcpu-means, awaited-means}
+use Rattle.refine.proofs.Words.{few-vcpus, field-past, vcpu-means, awaited-means, event-means, cr-means, msr-past, msr-means}
 use Rattle.refine.proofs.Pages.{pageAt, pageStands, stands-page, set-meant, pages-count}
 use Rattle.lookup.specs.Lookup.{lookOpen, lookReady, lookVmEvent, lookField, lookEvent, lookCr, lookMsr, lookSinglestep, lookPauses, lookAwaited, lookCount, wordAccessIn, wordAccess, lookAccess, noPage, lookPage}
 use Rattle.lookup.specs.Looks.{Looks}
@@ -112,12 +110,12 @@ module _ (st : State) (g : WordsGood st) (few : st .session .settings .vcpus ≤
         (λ q. let l = ltb-false v 65535 q in field-past st g (min v 65535) k (omega arith) ∙ sym (field-past st g v k (omega arith))))
 
     events-open : (v event : ℕ) → lookEvent (st .session) w v event ≡ bit (eventOn t v event)
-    unfolding lookEvent eventOn vcpuOfWords
-    events-open v event = rw (field-any v EVENTS) (sym (ap (λ (x : Vcpu). bit (isOn (x .events) event)) (own v)))
+    unfolding lookEvent
+    events-open v event = rw (field-any v EVENTS) (ap bit (sym (event-means st g v event)))
 
     crs-open : (v cr : ℕ) → lookCr (st .session) w v cr ≡ bit (crOn t v cr)
-    unfolding lookCr crOn vcpuOfWords
-    crs-open v cr = rw (field-any v CRS) (sym (ap (λ (x : Vcpu). bit (isCr cr && isOn (x .crs) (crBit cr))) (own v)))
+    unfolding lookCr
+    crs-open v cr = rw (field-any v CRS) (ap bit (sym (cr-means st g v cr)))
 
     singlestep-open : (v : ℕ) → lookSinglestep (st .session) w v ≡ bit (vcpuAt t v .singlestep)
     unfolding lookSinglestep isSet vcpuOfWords
@@ -131,24 +129,13 @@ module _ (st : State) (g : WordsGood st) (few : st .session .settings .vcpus ≤
     unfolding lookAwaited
     awaited-open v = field-any v AWAITED ∙ sym (ap awaitedEvent (awaited-means st g v) ∙ event-read w v)
 
-    -- MSR switches: those of a vCPU past the count are off
-    slot-past : (v msr : ℕ) → n ≤ v → msrSlotOn w v msr ≡ false
-    unfolding msrSlotOn msrWord
-    slot-past v msr h = rw (g .past (v * 272 + 16 + msrSlot msr / 64) (omega arith)) (on-none (msrSlot msr % 64))
-
-    msr-at : (v msr : ℕ) → msrBitOn w v msr ≡ (ltb v n && isMsr msr && msrSlotOn w v msr)
-    unfolding msrBitOn
-    msr-at v msr = test (ltb v n) (λ q. rw q) (λ q. rw (q, slot-past v msr (ltb-false v n q)) (and-none (isMsr msr)))
-
     msrs-open : (v msr : ℕ) → lookMsr (st .session) w v msr ≡ bit (msrOn t v msr)
-    unfolding lookMsr msrOn msrBitOn
+    unfolding lookMsr
     msrs-open v msr =
-        rw lives
+        rw (lives, msr-means st g v msr)
         (test (ltb v 65535)
-        (λ q. let l = ltb-true v 65535 q in let e : min v 65535 ≡ v = omega arith in rw e (ap bit (msr-at v msr ∙ sym (msrs-look w n v msr))))
-        (λ q. let l = ltb-false v 65535 q in
-        let off : msrOn t v msr ≡ false = msrs-look w n v msr ∙ rw (le-ltb v n (omega arith)) in
-        rw (slot-past (min v 65535) msr (omega arith), and-none (isMsr msr), off)))
+        (λ q. let l = ltb-true v 65535 q in let e : min v 65535 ≡ v = omega arith in rw e)
+        (λ q. let l = ltb-false v 65535 q in rw (msr-past st g (min v 65535) msr (omega arith), msr-past st g v msr (omega arith))))
 
   -- ---- in a closed session all is off, and so it is in the closed model
   module _ (shut : eqb opened 0 ≡ true) (rests : modelOf st ≡ closedModel (st .session .settings)) where

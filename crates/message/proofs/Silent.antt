@@ -15,14 +15,13 @@ use Rattle.kvmi.specs.declared.Layout.{Layout}
 use Rattle.kvmi.specs.declared.ReplyKind.{ReplyKind}
 use Rattle.kvmi.specs.declared.ReplyKind.the-variants.{CodeOnly, WithData, Silent}
 use Rattle.kvmi.specs.declared.Settings.{Settings}
-use Rattle.kvmi.specs.declared.Change.the-variants.{EndWait}
 use Rattle.kvmi.specs.declared.Verdict.{Verdict}
 use Rattle.kvmi.specs.declared.Verdict.the-variants.{Closes, Fails, Does}
-use Rattle.kvmi.specs.Bits.{among}
+use Rattle.kvmi.specs.Event.{eventRowOf}
 use Rattle.kvmi.specs.Codes.{OK}
 use Rattle.kvmi.specs.Settings.{allowsCommand}
-use Rattle.kvmi.specs.Message.{messages, unknown, layoutOf, sizeFits, carriesData, vcpuOf, firstPadding, repliedEvent, actionOf}
-use Rattle.kvmi.specs.Verdict.{verdict, repliesOn, eventReplyVerdict, isAwaited}
+use Rattle.kvmi.specs.Message.{messages, unknown, layoutOf, sizeFits, carriesData, firstPadding, repliedEvent}
+use Rattle.kvmi.specs.Verdict.{verdict, repliesOn, eventReplyVerdict, isAwaited, replyFits}
 use Rattle.laws.proofs.Verdicts.{pick}
 use Rattle.reply.proofs.Data.{below}
 use Rattle.session.specs.State.{State}
@@ -49,7 +48,7 @@ module _ (st : State) (guest : List ℕ) (s : Settings) (f : Facts) where
       let P : Verdict → Type 0 = λ v. codeBy st guest d v ≡ OK in
       pick P (not (repliesOn (f .mode)) && carriesData (layoutOf 16 .reply)) _ _ (λ _. refl)
       (λ _. pick P (not (sizeFits (layoutOf 16 .size) d)) _ _ (λ _. refl)
-      (λ _. pick P (eqb (firstPadding 16 d) 0 && isAwaited f seq (repliedEvent d) && among (actionOf d) (0 ∷ 2 ∷ [])) _ _ (λ _. refl) (λ _. refl)))
+      (λ _. pick P (eqb (firstPadding 16 d) 0 && isAwaited f seq (repliedEvent d) && replyFits (eventRowOf (f .awaited)) d) _ _ (λ _. refl) (λ _. refl)))
 
   pub reply-code : (id seq : ℕ) (d : List ℕ) → layoutOf id .reply ≡ Silent → codeBy st guest d (verdict s f id seq d) ≡ OK
   reply-code id seq d k = rw (silent-16 id (ap isSilent k)) (of-reply seq d)

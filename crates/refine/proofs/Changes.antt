@@ -234,9 +234,9 @@ module _ (st : State) (g : WordsGood st) (few : st .session .settings .vcpus ≤
   zero-again v k h =
       ap (λ (x : ℕ). set words (v * 272 + k) x) (sym (field-past st g v k h)) ∙ set-getD words (v * 272 + k) 0
 
-  pub end-meant : (v : ℕ) (crash : Bool) → Meant (change st guest d (EndWait crash v)) (apply (modelOf st) guest d (EndWait crash v))
+  pub end-meant : (resumes : Bool) (v action value : ℕ) → Meant (change st guest d (EndWait resumes v action value)) (apply (modelOf st) guest d (EndWait resumes v action value))
   unfolding change apply
-  end-meant v crash =
+  end-meant resumes v action value =
       test (ltb v count)
       (λ t. let h = ltb-true v count t in
       record { model = awaits-set v 0 0 none h refl; guest = refl; code = refl; words = awaited-kept st g few v h 0 0 (λ e. refl) })

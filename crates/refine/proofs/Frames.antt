@@ -4,7 +4,7 @@ use mathlib.Core.Logic.{_⊎_, inl, inr}
 use Prim.Native.Nat.{ℕ, _≤_, zero-le}
 use native.Mathlib.Omega.{arith}
 use mathlib.Core.List.{List, []}
-use mathlib.Core.Bool.{true, cond, not}
+use mathlib.Core.Bool.{true, cond, not, _&&_}
 use lib.IntN.{ℤ}
 use lib.ListN.{length, getD, drop}
 use lib.Dec.{leb, ltb, eqb}
@@ -22,13 +22,13 @@ use Rattle.kvmi.specs.declared.ReplyMode.the-variants.{On, Off, ErrorsOnly}
 use Rattle.kvmi.specs.declared.ReplyKind.{ReplyKind}
 use Rattle.kvmi.specs.declared.ReplyKind.the-variants.{CodeOnly, WithData, Silent}
 use Rattle.kvmi.specs.declared.Change.{Change}
-use Rattle.kvmi.specs.declared.Change.the-variants.{EndWait}
 use Rattle.kvmi.specs.declared.Verdict.{Verdict}
 use Rattle.kvmi.specs.declared.Verdict.the-variants.{Closes, Fails, Does}
 use Rattle.kvmi.specs.Codes.{isError}
 use Rattle.kvmi.specs.Message.{layoutOf, vcpuOf, gpaOf, sizeOf}
 use Rattle.kvmi.specs.Change.{signalOf, modeFor}
-use Rattle.kvmi.specs.Reply.{replyData, pauseEvent, answerBytes, answerOf}
+use Rattle.kvmi.specs.Event.{offerFits}
+use Rattle.kvmi.specs.Reply.{replyData, answerBytes, answerOf}
 use Rattle.kvmi.specs.Verdict.{inOnePage, changeOf, verdict}
 use Rattle.kvmi.specs.Mode.{modeOfNumber}
 use Rattle.store.specs.Words.{field, PAUSES, AWAITED}
@@ -36,10 +36,11 @@ use Rattle.session.specs.State.{State, isClosed}
 use Rattle.session.specs.Calls.{Told, toldSame, toldWritten, toldClosing, readyOf}
 use Rattle.change.specs.Change.{change}
 use Rattle.message.specs.Message.{factsIn, answeringOf, judgedOf, headedOf, messageOf}
-use Rattle.entry.specs.Entry.{pausingOf, enterOf}
-use Rattle.laws.proofs.Bool.{test}
-use Rattle.laws.proofs.Verdicts.{pick, Passed, verdict-cases, sound-of}
-use Rattle.reply.proofs.Lengths.{length-reply, length-command-error, length-pause-whole, length-answer}
+use Rattle.entry.specs.Entry.{isAskedForOf, Sent, sendingOf, pausingOf, unqueueingOf, sentOf, enteredOf, enterOf}
+use Rattle.laws.proofs.Bool.{and-l, and-r, test}
+use Rattle.laws.proofs.Verdicts.{pick, Passed, ending, verdict-cases, sound-of}
+use Rattle.laws.proofs.Events.{own-few}
+use Rattle.reply.proofs.Lengths.{length-reply, length-command-error, length-event, length-pause-whole, length-answer}
 use Rattle.refine.specs.Frames.{Refuses, Past}
 
 -- ---- "None": answers from 2 on change nothing in session, tables, output or guest memory
@@ -73,15 +74,14 @@ ready-refuses st vcpu =
     pick (Refuses st [] []) (isClosed st) _ _ (λ _. same-refuses 2 st [] [])
     (λ _. pick (Refuses st [] []) (leb (st .session .settings .vcpus) vcpu) _ _ (λ _. same-refuses 4 st [] []) (λ _ h. absurd (omega arith)))
 
-pub enter-refuses : (st : State) (vcpu : ℕ) (block out : List ℕ) → Refuses st out [] (enterOf st vcpu block out)
-unfolding enterOf pausingOf
-enter-refuses st vcpu block out =
+pub enter-refuses : (st : State) (vcpu : ℕ) (block : List ℕ) (event : ℕ) (own out : List ℕ) → Refuses st out [] (enterOf st vcpu block event own out)
+unfolding enterOf enteredOf
+enter-refuses st vcpu block event own out =
     pick (Refuses st out []) (isClosed st) _ _ (λ _. same-refuses 2 st out [])
     (λ _. pick (Refuses st out []) (leb (st .session .settings .vcpus) vcpu) _ _ (λ _. same-refuses 4 st out [])
-    (λ _. pick (Refuses st out []) (not (eqb (length block) 536)) _ _ (λ _. same-refuses 5 st out [])
-    (λ _. pick (Refuses st out []) (ltb (length out) 552) _ _ (λ _. same-refuses 3 st out [])
-    (λ _. pick (Refuses st out []) (not (eqb (field (st .vcpus) vcpu AWAITED) 0)) _ _ (λ _. same-refuses 6 st out [])
-    (λ _. pick (Refuses st out []) (leb 1 (field (st .vcpus) vcpu PAUSES)) _ _ (λ _ h. absurd (omega arith)) (λ _ h. absurd (omega arith)))))))
+    (λ _. pick (Refuses st out []) (not (eqb (length block) 536 && offerFits event own)) _ _ (λ _. same-refuses 5 st out [])
+    (λ _. pick (Refuses st out []) (ltb (length out) 576) _ _ (λ _. same-refuses 3 st out [])
+    (λ _. pick (Refuses st out []) (not (eqb (field (st .vcpus) vcpu AWAITED) 0)) _ _ (λ _. same-refuses 6 st out []) (λ _ h. absurd (omega arith))))))
 
 -- ---- 4,112 bytes hold every answer
 -- an error has no data
@@ -136,7 +136,7 @@ module _ (st : State) (d out guest : List ℕ) (long : 4112 ≤ length out) wher
       let f = factsIn st (length guest) (vcpuOf d) in
       verdict-cases (λ v. Past out (judgedOf st id seq d out guest v)) (st .session .settings) f id seq d closes-past (λ code e. fails-past id seq code e)
       (λ p. does-past id seq (changeOf id d) (data-fits (st .session .settings) f id d p))
-      (λ p. let e = p .reply in does-past id seq (EndWait (eqb (getD d 8 0) 2) (vcpuOf d)) (inr (λ q. omega arith)))
+      (λ p. let e = p .reply in does-past id seq (ending f d) (inr (λ q. omega arith)))
 
 pub message-past : (st : State) (msg out guest : List ℕ) → Past out (messageOf st msg out guest)
 unfolding messageOf
@@ -145,15 +145,27 @@ message-past st msg out guest =
     (λ _. pick (Past out) (ltb (length out) 4112) _ _ (λ _. same-past 3 st out guest)
     (λ h. headed-past st (drop 8 msg) out guest (ltb-false (length out) 4112 h) (headerOf msg)))
 
-pub enter-past : (st : State) (vcpu : ℕ) (block out : List ℕ) → Past out (enterOf st vcpu block out)
-unfolding enterOf pausingOf
-enter-past st vcpu block out =
+-- 576 bytes hold what an entry sends
+pub sent-length : (st : State) (vcpu : ℕ) (block : List ℕ) (event : ℕ) (own : List ℕ) → (eqb (length block) 536 && offerFits event own) ≡ true
+    → length (sentOf st vcpu block event own .bytes) ≤ 576
+unfolding sentOf sendingOf unqueueingOf pausingOf
+sent-length st vcpu block event own fits =
+    let seq = st .session .tool .seq in
+    let whole = eqb-true (length block) 536 (and-l (eqb (length block) 536) (offerFits event own) fits) in
+    let few = own-few event own (and-r (eqb (length block) 536) (offerFits event own) fits) in
+    let l = length-event seq vcpu event block own in
+    let p = length-pause-whole seq vcpu block whole in
+    pick (λ (x : Sent). length (x .bytes) ≤ 576) (isAskedForOf (st .session .tool .events) (st .vcpus) vcpu event own) _ _ (λ _. omega arith)
+    (λ _. pick (λ (x : Sent). length (x .bytes) ≤ 576) (leb 1 (field (st .vcpus) vcpu PAUSES)) _ _ (λ _. omega arith) (λ _. zero-le))
+
+pub enter-past : (st : State) (vcpu : ℕ) (block : List ℕ) (event : ℕ) (own out : List ℕ) → Past out (enterOf st vcpu block event own out)
+unfolding enterOf enteredOf
+enter-past st vcpu block event own out =
     pick (Past out) (isClosed st) _ _ (λ _. same-past 2 st out [])
     (λ _. pick (Past out) (leb (st .session .settings .vcpus) vcpu) _ _ (λ _. same-past 4 st out [])
-    (λ _. pick (Past out) (not (eqb (length block) 536)) _ _ (λ _. same-past 5 st out [])
-    (λ w. pick (Past out) (ltb (length out) 552) _ _ (λ _. same-past 3 st out [])
-    (λ l. let own = length-pause-whole (st .session .tool .seq) vcpu block (eqb-true (length block) 536 (not-false _ w)) in
-    let room = ltb-false (length out) 552 l in
-    pick (Past out) (not (eqb (field (st .vcpus) vcpu AWAITED) 0)) _ _ (λ _. same-past 6 st out [])
-    (λ _. pick (Past out) (leb 1 (field (st .vcpus) vcpu PAUSES)) _ _
-    (λ _. written-past (pauseEvent (st .session .tool .seq) vcpu block) Quiet _ out [] (omega arith)) (λ _. written-past [] Quiet st out [] zero-le))))))
+    (λ _. pick (Past out) (not (eqb (length block) 536 && offerFits event own)) _ _ (λ _. same-past 5 st out [])
+    (λ w. pick (Past out) (ltb (length out) 576) _ _ (λ _. same-past 3 st out [])
+    (λ l. pick (Past out) (not (eqb (field (st .vcpus) vcpu AWAITED) 0)) _ _ (λ _. same-past 6 st out [])
+    (λ _. let few = sent-length st vcpu block event own (not-false _ w) in
+    let room = ltb-false (length out) 576 l in
+    written-past (sentOf st vcpu block event own .bytes) Quiet _ out [] (omega arith))))))

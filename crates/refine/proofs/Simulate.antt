@@ -11,7 +11,7 @@ use lib.ListN.{length, getD, set, take, drop, replicate, length-replicate, getD-
 use lib.Seq.{take-nil}
 use lib.Pow.{pow-pos}
 use lib.Dec.{ltb, leb, eqb}
-use borrow.Author.Tests.{ltb-true, ltb-false, leb-true, leb-false, lt-ltb, eqb-true, eq-eqb, ne-eqb, not-false}
+use borrow.Author.Tests.{ltb-true, ltb-false, leb-true, leb-false, lt-ltb, eqb-true, eqb-false, eq-eqb, ne-eqb, not-false}
 use Rattle.wire.specs.Bytes.{store}
 use Rattle.wire.specs.Header.{headerOf}
 use Rattle.wire.specs.declared.Header.{Header}
@@ -22,7 +22,7 @@ use Rattle.kvmi.specs.declared.Signal.{Signal}
 use Rattle.kvmi.specs.declared.Signal.the-variants.{Quiet}
 use Rattle.kvmi.specs.declared.ReplyMode.{ReplyMode}
 use Rattle.kvmi.specs.declared.Change.{Change}
-use Rattle.kvmi.specs.declared.Change.the-variants.{SetVmEvent, QueuePause, SetVcpuEvent, SetCr, SetMsr, SetPages, SetSinglestep, EndWait}
+use Rattle.kvmi.specs.declared.Change.the-variants.{SetVmEvent, QueuePause, SetVcpuEvent, SetCr, SetMsr, SetPages, SetSinglestep}
 use Rattle.kvmi.specs.declared.Verdict.{Verdict}
 use Rattle.kvmi.specs.declared.Verdict.the-variants.{Closes, Fails, Does}
 use Rattle.kvmi.specs.Answer.{Paper}
@@ -34,7 +34,8 @@ use Rattle.kvmi.specs.Model.{Awaited, awaiting, Model, fresh, closedModel, with
 use Rattle.kvmi.specs.Message.{layoutOf, namesVcpu, vcpuOf, enables, eventOf, registerOf, gpaOf, sizeOf, countOf, countFits, viewOf, Entry, entriesOf, isVmEvent, isVcpuEvent, takesEvent}
 use Rattle.kvmi.specs.Verdict.{factsOf, isAccess, inOnePage, isInvalid, isBusy, modeOf, changeOf, verdict}
 use Rattle.kvmi.specs.Change.{Applied, applied, apply, signalOf, modeFor}
-use Rattle.kvmi.specs.Reply.{replyBytes, replyData, commandErrorEvent, pauseEvent, answerOf, answerSeq}
+use Rattle.kvmi.specs.Event.{offerFits, isAskedFor}
+use Rattle.kvmi.specs.Reply.{replyBytes, replyData, commandErrorEvent, answerOf, answerSeq}
 use Rattle.kvmi.specs.Valid.{Valid}
 use Rattle.kvmi.specs.Call as model
 use Rattle.store.specs.Words.{field, setField, putBit64, cleared, SINGLESTEP, PAUSES, AWAITED, AWAITED-SEQ, vcpuWordCount}
@@ -43,24 +44,25 @@ use Rattle.page_words.specs.Meaning.{pagesOf, PagesGood}
 use Rattle.session.specs.declared.Session.{Session}
 use Rattle.kvmi.specs.Mode.{modeOfNumber}
 use Rattle.page_words.specs.PageWords.{pageWordCount}
-use Rattle.session.specs.State.{State, state, freshSession, closedSession, clearedState, withReadyBits, withSeqOf, withField, isClosed}
+use Rattle.session.specs.State.{State, state, freshSession, closedSession, clearedState, withReadyBits, withSeqOf, withVcpuWords, withField, isClosed}
 use Rattle.session.specs.Calls.{Told, toldSame, toldWritten, toldClosing, freshOf, readyOf}
 use Rattle.change.specs.Change.{StateChanged, changed, change}
 use Rattle.change.proofs.Laws.{change-keeps}
 use Rattle.message.specs.Message.{factsIn, answeringOf, judgedOf, headedOf, messageOf}
-use Rattle.entry.specs.Entry.{pausingOf, enterOf}
+use Rattle.entry.specs.Entry.{isAskedForOf, Sent, awaitingWords, sendingOf, pausingOf, unqueueingOf, sentOf, toldSent, enteredOf, enterOf}
 use Rattle.session.specs.Meaning.{awaitedIn, awaitedOf, tablesOf, modelOf, WordsGood, WellFormed}
 use Rattle.laws.proofs.Bool.{and-l, and-r}
 use Rattle.laws.proofs.Bits.{put-below}
-use Rattle.laws.proofs.Verdicts.{pick, and-false, or-false-l, Passed, verdict-cases, sound-of}
+use Rattle.laws.proofs.Verdicts.{pick, and-false, or-false-l, Passed, ending, verdict-cases, sound-of}
+use Rattle.laws.proofs.Events.{asked-some}
 use Rattle.laws.proofs.Steps.{step-kept}
-use Rattle.reply.proofs.Lengths.{length-pause-whole, length-answer}
-use Rattle.refine.proofs.Frames.{error-length, data-fits}
+use Rattle.reply.proofs.Lengths.{length-answer}
+use Rattle.refine.proofs.Frames.{error-length, data-fits, sent-length}
 use Rattle.refine.proofs.Pages.{none-good}
 use Rattle.refine.proofs.Msrs.{zeros-field, zeros-msrs}
 use Rattle.refine.proofs.Vcpus.{zeros-vcpus, vcpus-ready, vcpus-pauses}
 use Rattle.refine.proofs.Awaited.{zeros-awaited}
-use Rattle.refine.proofs.Words.{few-vcpus, tool-kept, shared-kept, vcpu-means, awaited-means, facts-mean, block-inside, field-kept, awaited-kept}
+use Rattle.refine.proofs.Words.{few-vcpus, tool-kept, shared-kept, vcpu-means, awaited-means, asked-means, facts-mean, block-inside, field-kept, awaited-kept}
 use Rattle.refine.proofs.Changes.{field-model, await-model, Meant, pause-meant, event-meant, cr-meant, single-meant, msr-meant, vm-event-meant, replies-meant, pages-meant, end-meant}
 
 -- ---- a message that passes: its change
@@ -264,8 +266,8 @@ module _ (st : State) (f : WellFormed st) (out guest : List ℕ) where
       (closes-simulates id seq d) (λ code e. fails-simulates id seq d long code e)
       (λ p. does-simulates id seq d long (changeOf id d) (data-fits cfg (factsOf (modelOf st) (length guest) (vcpuOf d)) id d p) (change-meant st (f .words) (f .settings) guest d id p))
       (λ p. let e = p .reply in
-      does-simulates id seq d long (EndWait (eqb (getD d 8 0) 2) (vcpuOf d)) (inr (λ q. omega arith))
-      (end-meant st (f .words) (few-vcpus cfg (f .settings)) guest d (vcpuOf d) (eqb (getD d 8 0) 2)))
+      does-simulates id seq d long (ending (factsOf (modelOf st) (length guest) (vcpuOf d)) d) (inr (λ q. omega arith))
+      (end-meant st (f .words) (few-vcpus cfg (f .settings)) guest d _ (vcpuOf d) _ _))
 
   headed-simulates : (d : List ℕ) → 4112 ≤ length out → (h : Header) → S (headedOf st d out guest h) (model.headed cfg (modelOf st) d out guest h)
   unfolding headedOf model.headed
@@ -304,10 +306,18 @@ module _ (st : State) (f : WellFormed st) where
       (record { answer = refl; out = store-start [] [] zero-le; guest = refl; model = r .0; settings = refl; words = r .1 })))
 
 -- ---- entry of a vCPU
-module _ (st : State) (f : WellFormed st) (v : ℕ) (inside : v < st .session .settings .vcpus) where
-  abbrev seq : ℕ
-  seq = st .session .tool .seq
+-- the reply to an event that was sent is awaited
+awaiting-simulates : (st : State) → WordsGood st → st .session .settings .vcpus ≤ 16 → (v event : ℕ) → v < st .session .settings .vcpus → (event ≡ 0 → ⊥)
+    → let x = withVcpuWords st (awaitingWords (st .vcpus) v event (st .session .tool .seq)) in
+    (modelOf (withSeqOf x (nextSeq (st .session .tool .seq))) ≡ model.awaitingReply (modelOf st) v event) × WordsGood x
+unfolding awaitingWords
+awaiting-simulates st g few v event inside some-event =
+    let seq = st .session .tool .seq in (
+      ap (λ (m : Model). withSeq m (nextSeq seq)) (await-model st g few [] [] v event seq inside some-event),
+      awaited-kept st g few v inside event seq (λ e. absurd (some-event e)),
+    )
 
+module _ (st : State) (f : WellFormed st) (v : ℕ) (inside : v < st .session .settings .vcpus) (block out : List ℕ) where
   abbrev less : ℕ
   less = field (st .vcpus) v PAUSES - 1
 
@@ -315,42 +325,50 @@ module _ (st : State) (f : WellFormed st) (v : ℕ) (inside : v < st .session .s
   few-here = few-vcpus (st .session .settings) (f .settings)
 
   -- one pause less
-  abbrev st₁ : State
-  st₁ = withField st v PAUSES less
+  abbrev unqueued : State
+  unqueued = withField st v PAUSES less
 
-  words₁ : WordsGood st₁
-  words₁ = field-kept st (f .words) few-here v inside PAUSES less (omega arith) (λ e. absurd (omega arith))
+  unqueued-words : WordsGood unqueued
+  unqueued-words = field-kept st (f .words) few-here v inside PAUSES less (omega arith) (λ e. absurd (omega arith))
 
-  model₁ : modelOf st₁ ≡ onVcpu (modelOf st) v (λ x. withPauses x (x .pauses - 1))
+  unqueued-model : modelOf unqueued ≡ onVcpu (modelOf st) v (λ x. withPauses x (x .pauses - 1))
   unfolding vcpuOfWords
-  model₁ =
+  unqueued-model =
       field-model st (f .words) few-here [] [] v PAUSES less (λ x. withPauses x (x .pauses - 1)) (omega arith) inside
       (vcpus-pauses (st .session .shared .ready) (st .vcpus) v less (st .session .settings .vcpus) (block-inside st (f .words) few-here v inside) inside)
 
-  -- and its reply awaited
-  abbrev st₂ : State
-  st₂ = withField (withField st₁ v AWAITED 2) v AWAITED-SEQ seq
+  -- what is sent, on the words and on the model
+  told-simulates : (x : Sent) (m : Model) → length (x .bytes) ≤ length out → (modelOf (withSeqOf (withVcpuWords st (x .vcpus)) (x .next)) ≡ m) × WordsGood (withVcpuWords st (x .vcpus))
+      → Simulates st (toldSent st x out) (model.writing (x .bytes) Quiet out [] m)
+  told-simulates x m l p =
+      record { answer = refl; out = store-start out (x .bytes) l; guest = refl; model = p .0; settings = refl; words = seq-kept (withVcpuWords st (x .vcpus)) (x .next) (p .1) }
 
-  words₂ : WordsGood st₂
-  words₂ = awaited-kept st₁ words₁ few-here v inside 2 seq (λ e. absurd (omega arith))
+  sending-simulates : (event : ℕ) (own : List ℕ) → (event ≡ 0 → ⊥) → length (sendingOf (st .vcpus) v (st .session .tool .seq) block event own .bytes) ≤ length out
+      → Simulates st (toldSent st (sendingOf (st .vcpus) v (st .session .tool .seq) block event own) out) (model.sending (modelOf st) v block event own out)
+  unfolding sendingOf model.sending
+  sending-simulates event own some-event l = told-simulates _ _ l (awaiting-simulates st (f .words) few-here v event inside some-event)
 
-  model₂ : modelOf st₂ ≡ setAwaited (modelOf st₁) v (some (awaiting 2 seq))
-  model₂ = await-model st₁ words₁ few-here [] [] v 2 seq inside (λ e. omega arith)
-
-  pausing-simulates : (block out : List ℕ) → length block ≡ 536 → 552 ≤ length out → Simulates st (pausingOf st v block out) (model.pausing (modelOf st) v block out)
+  pausing-simulates : length (pausingOf (st .vcpus) v (st .session .tool .seq) block .bytes) ≤ length out
+      → Simulates st (toldSent st (pausingOf (st .vcpus) v (st .session .tool .seq) block) out) (model.pausing (modelOf st) v block out)
   unfolding pausingOf model.pausing
-  pausing-simulates block out whole long =
-      let l = length-pause-whole seq v block whole in
-      let both-models : modelOf (withSeqOf st₂ (nextSeq seq)) ≡ withSeq (setAwaited (onVcpu (modelOf st) v (λ x. withPauses x (x .pauses - 1))) v (some (awaiting 2 seq))) (nextSeq seq)
-      = ap (λ (m : Model). withSeq m (nextSeq seq)) (model₂ ∙ ap (λ (m : Model). setAwaited m v (some (awaiting 2 seq))) model₁) in
-      record {
-        answer = refl;
-        out = store-start out (pauseEvent seq v block) (omega arith);
-        guest = refl;
-        model = both-models;
-        settings = refl;
-        words = seq-kept st₂ (nextSeq seq) words₂;
-      }
+  pausing-simulates l =
+      let waits = awaiting-simulates unqueued unqueued-words few-here v 2 inside (λ e. omega arith) in
+      told-simulates _ _ l (waits .0 ∙ ap (λ (m : Model). model.awaitingReply m v 2) unqueued-model, waits .1)
+
+  -- the queued pauses are the model's
+  own-pauses : vcpuAt (tablesOf st) v .pauses ≡ field (st .vcpus) v PAUSES
+  unfolding vcpuOfWords
+  own-pauses = ap (λ (x : Vcpu). x .pauses) (vcpu-means st (f .words) v)
+
+  entering-simulates : (event : ℕ) (own : List ℕ) → length (sentOf st v block event own .bytes) ≤ length out
+      → Simulates st (toldSent st (sentOf st v block event own) out) (model.entering (modelOf st) v block event own out)
+  unfolding sentOf unqueueingOf model.entering model.unqueueing
+  entering-simulates event own =
+      rw (asked-means st (f .words) v event own, own-pauses)
+      (both (λ (x : Sent) (q : model.Step). length (x .bytes) ≤ length out → Simulates st (toldSent st x out) q) (isAskedFor (tablesOf st) v event own) _ _ _ _
+      (λ asked. sending-simulates event own (eqb-false event 0 (asked-some (tablesOf st) v event own asked)))
+      (λ _. both (λ (x : Sent) (q : model.Step). length (x .bytes) ≤ length out → Simulates st (toldSent st x out) q) (leb 1 (field (st .vcpus) v PAUSES)) _ _ _ _
+      (λ _. pausing-simulates) (λ _ l. told-simulates _ _ l (refl, f .words))))
 
 -- an event is awaited where its word is not 0
 awaits-same : (st : State) → WordsGood st → (v : ℕ) → isSome (awaitedBy (modelOf st) v) ≡ not (eqb (field (st .vcpus) v AWAITED) 0)
@@ -361,17 +379,16 @@ awaits-same st g v = ap isSome (awaited-means st g v) ∙ by (eqb (field (st .vc
     by true a = refl
     by false a = refl
 
-pub enter-simulates : (st : State) → WellFormed st → (v : ℕ) (block out : List ℕ) → Simulates st (enterOf st v block out) (model.enterStep (st .session .settings) (modelOf st) v block out)
-unfolding enterOf model.enterStep vcpuOfWords
-enter-simulates st f v block out =
-    let own : vcpuAt (tablesOf st) v .pauses ≡ field (st .vcpus) v PAUSES = ap (λ (x : Vcpu). x .pauses) (vcpu-means st (f .words) v) in
+pub enter-simulates : (st : State) → WellFormed st → (v : ℕ) (block : List ℕ) (event : ℕ) (own out : List ℕ)
+    → Simulates st (enterOf st v block event own out) (model.enterStep (st .session .settings) (modelOf st) v block event own out)
+unfolding enterOf enteredOf model.enterStep
+enter-simulates st f v block event own out =
     both (Simulates st) (isClosed st) _ _ _ _ (λ _. same-simulates 2 st out [] (f .words))
     (λ _. both (Simulates st) (leb (st .session .settings .vcpus) v) _ _ _ _ (λ _. same-simulates 4 st out [] (f .words))
-    (λ h. both (Simulates st) (not (eqb (length block) 536)) _ _ _ _ (λ _. same-simulates 5 st out [] (f .words))
-    (λ w. both (Simulates st) (ltb (length out) 552) _ _ _ _ (λ _. same-simulates 3 st out [] (f .words))
+    (λ h. both (Simulates st) (not (eqb (length block) 536 && offerFits event own)) _ _ _ _ (λ _. same-simulates 5 st out [] (f .words))
+    (λ w. both (Simulates st) (ltb (length out) 576) _ _ _ _ (λ _. same-simulates 3 st out [] (f .words))
     (λ l. rw (awaits-same st (f .words) v)
     (both (Simulates st) (not (eqb (field (st .vcpus) v AWAITED) 0)) _ _ _ _ (λ _. same-simulates 6 st out [] (f .words))
-    (λ _. rw own
-    (both (Simulates st) (leb 1 (field (st .vcpus) v PAUSES)) _ _ _ _
-    (λ _. pausing-simulates st f v (leb-false (st .session .settings .vcpus) v h) block out (eqb-true (length block) 536 (not-false _ w)) (ltb-false (length out) 552 l))
-    (λ _. written-simulates st st [] Quiet out [] zero-le refl (f .words)))))))))
+    (λ _. let few = sent-length st v block event own (not-false _ w) in
+    let room = ltb-false (length out) 576 l in
+    entering-simulates st f v (leb-false (st .session .settings .vcpus) v h) block out event own (omega arith)))))))

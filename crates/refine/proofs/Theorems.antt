@@ -39,7 +39,7 @@ use Rattle.message.specs.Message.{factsIn, codeBy, answeringOf, judgedOf, heade
 use Rattle.entry.specs.Entry.{enterOf}
 use Rattle.session.specs.Meaning.{tablesOf, modelOf, WordsGood, WellFormed}
 use Rattle.refine.specs.Errors.{codeHeaded, codeOf, withPagesOf, ErrorSpares}
-use Rattle.laws.proofs.Verdicts.{pick, Passed, verdict-cases, sound-of}
+use Rattle.laws.proofs.Verdicts.{pick, Passed, ending, verdict-cases, sound-of}
 use Rattle.laws.proofs.Kept.{empty-valid}
 use Rattle.laws.proofs.Steps.{message-kept, ready-kept, enter-kept}
 use Rattle.refine.proofs.Msrs.{field-block, bit-block, zeros-msrs}
@@ -88,9 +88,9 @@ message-formed st msg out guest f =
 pub ready-formed : (st : State) (vcpu : ℕ) → WellFormed st → WellFormed (readyOf st vcpu .state)
 ready-formed st vcpu f = formed st _ _ f (ready-simulates st f vcpu) (ready-kept (st .session .settings) (f .settings) (modelOf st) vcpu (f .tables))
 
-pub enter-formed : (st : State) (vcpu : ℕ) (block out : List ℕ) → WellFormed st → WellFormed (enterOf st vcpu block out .state)
-enter-formed st vcpu block out f =
-    formed st _ _ f (enter-simulates st f vcpu block out) (enter-kept (st .session .settings) (f .settings) (modelOf st) vcpu block out (f .tables))
+pub enter-formed : (st : State) (vcpu : ℕ) (block : List ℕ) (event : ℕ) (own out : List ℕ) → WellFormed st → WellFormed (enterOf st vcpu block event own out .state)
+enter-formed st vcpu block event own out f =
+    formed st _ _ f (enter-simulates st f vcpu block event own out) (enter-kept (st .session .settings) (f .settings) (modelOf st) vcpu block event own out (f .tables))
 
 -- ---- demand 2: a command changes no other vCPU's block, unless it closes the session. Any bits in the session.
 abbrev pub block : List ℕ → ℕ → List ℕ
@@ -118,9 +118,9 @@ module _ (st : State) (guest d : List ℕ) (i : ℕ) (other : i ≢ vcpuOf d) wh
       (λ _. pick Apart (eqb id 14) _ _ (λ _. one-field SINGLESTEP _ (omega arith))
       (λ _. pick Apart (eqb id 15) _ _ (λ _. refl) (λ _. refl)))))))))
 
-  end-apart : (crash : Bool) → Apart (EndWait crash (vcpuOf d))
+  end-apart : (f : Facts) → Apart (ending f d)
   unfolding change
-  end-apart crash = field-block (setField (st .vcpus) (vcpuOf d) AWAITED 0) (vcpuOf d) AWAITED-SEQ 0 i (omega arith) other ∙ one-field AWAITED 0 (omega arith)
+  end-apart f = field-block (setField (st .vcpus) (vcpuOf d) AWAITED 0) (vcpuOf d) AWAITED-SEQ 0 i (omega arith) other ∙ one-field AWAITED 0 (omega arith)
 
   abbrev Spares : Told → Type 0
   Spares r = (r .answer .number ≡ 1 → ⊥) → (block (r .state .vcpus) i ≡ block (st .vcpus) i) × (r .state .session .shared .ready ≡ st .session .shared .ready)
@@ -137,13 +137,13 @@ module _ (st : State) (guest d : List ℕ) (i : ℕ) (other : i ≢ vcpuOf d) wh
   ready-kept-by (SetPages view count) = refl
   ready-kept-by (SetSinglestep on vcpu) = refl
   ready-kept-by (SetReplies now mode) = refl
-  ready-kept-by (EndWait crash vcpu) = refl
+  ready-kept-by (EndWait resumes vcpu action value) = refl
 
   judged-apart : (id seq : ℕ) (out : List ℕ) (f : Facts) → Spares (judgedOf st id seq d out guest (verdict (st .session .settings) f id seq d))
   unfolding judgedOf answeringOf
   judged-apart id seq out f =
       verdict-cases (λ v. Spares (judgedOf st id seq d out guest v)) (st .session .settings) f id seq d (λ h. absurd (h refl)) (λ code _ _. (refl, refl))
-      (λ p _. (change-apart id f p, ready-kept-by (changeOf id d))) (λ _ _. (end-apart (eqb (getD d 8 0) 2), ready-kept-by (EndWait (eqb (getD d 8 0) 2) (vcpuOf d))))
+      (λ p _. (change-apart id f p, ready-kept-by (changeOf id d))) (λ _ _. (end-apart f, ready-kept-by (ending f d)))
 
 pub message-apart : (st : State) (msg out guest : List ℕ) (i : ℕ) → i ≢ vcpuOf (drop 8 msg) → (messageOf st msg out guest .answer .number ≡ 1 → ⊥)
     → (block (messageOf st msg out guest .state .vcpus) i ≡ block (st .vcpus) i) × (messageOf st msg out guest .state .session .shared .ready ≡ st .session .shared .ready)

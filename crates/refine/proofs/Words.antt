@@ -1,32 +1,37 @@
 -- A well-formed session's words: what they mean for any vCPU number, and what keeps them well formed. Assumes nothing.
 use mathlib.Core.Path.{_≡_, refl, sym, ap, _∙_}
 use mathlib.Core.Logic.{_≢_}
-use Prim.Native.Nat.{ℕ, zero, suc, _+_, _-_, _*_, _/_, _^_, _≤_, _<_}
+use Prim.Native.Nat.{ℕ, zero, suc, _+_, _-_, _*_, _/_, _%_, _^_, _≤_, _<_}
 use native.Mathlib.Omega.{arith}
 use mathlib.Core.List.{List, [], _∷_}
-use mathlib.Core.Bool.{Bool, true, false, cond, not, So}
+use mathlib.Core.Bool.{Bool, true, false, cond, not, _&&_, So, and-false}
 use mathlib.Core.Option.{Option, none, some}
 use lib.ListN.{length, getD, set, List·getD-eq-default}
 use lib.Seq.{getD-set-same, getD-set-other}
 use lib.Dec.{ltb, leb, eqb}
 use borrow.Author.Tests.{ltb-true, ltb-false, leb-true, eqb-true, eqb-false}
 use Rattle.kvmi.specs.declared.Settings.{Settings}
+use Rattle.kvmi.specs.declared.EventSwitch.{EventSwitch}
+use Rattle.kvmi.specs.declared.EventSwitch.the-variants.{Unoffered, NoEvent, OfVm, OfVcpu, OfCr, OfMsr}
 use Rattle.kvmi.specs.Bits.{isOn}
 use Rattle.kvmi.specs.Settings.{inRange}
-use Rattle.kvmi.specs.Tables.{Vcpu, resting, vcpuAt, isMsr}
+use Rattle.kvmi.specs.Tables.{Vcpu, resting, vcpuAt, isCr, crBit, isMsr, vmEventOn, eventOn, crOn, msrOn}
+use Rattle.kvmi.specs.Event.{eventRowOf, crNamed, msrNamed, asksFor, isAskedFor}
 use Rattle.kvmi.specs.Model.{Awaited, awaitedBy}
 use Rattle.kvmi.specs.Verdict.{awaitedEvent, awaitedSeq, factsOf}
-use Rattle.store.specs.Words.{field, setField, msrWord, msrSlot, setMsrSlot, setMsrBit, SINGLESTEP, CRS, EVENTS, PAUSES, AWAITED, AWAITED-SEQ, vcpuWordCount}
+use Rattle.store.specs.Words.{field, setField, msrWord, msrSlot, msrSlotOn, msrBitOn, setMsrSlot, setMsrBit, SINGLESTEP, CRS, EVENTS, PAUSES, AWAITED, AWAITED-SEQ, vcpuWordCount}
 use Rattle.store.specs.Meaning.{vcpuOfWords, vcpusOf}
 use Rattle.page_words.specs.Meaning.{PagesGood}
 use Rattle.page_words.specs.PageWords.{pageWordCount}
 use Rattle.session.specs.declared.Tool.{Tool}
 use Rattle.session.specs.State.{State, state, withTool, withToolPages, withReadyBits, withVcpuWords, withField}
 use Rattle.message.specs.Message.{factsIn}
+use Rattle.entry.specs.Entry.{crBitOn, askedForBy, isAskedForOf}
 use Rattle.session.specs.Meaning.{awaitedIn, awaitedOf, tablesOf, modelOf, WordsGood, WellFormed}
 use Rattle.laws.proofs.Bool.{and-l, and-r, test}
+use Rattle.laws.proofs.Bits.{on-none}
 use Rattle.laws.proofs.Same.{on-high}
-use Rattle.refine.proofs.Msrs.{field-set, field-set-other, field-length, bit-length, bit-field, slot-below}
+use Rattle.refine.proofs.Msrs.{field-set, field-set-other, field-length, bit-length, bit-field, slot-below, msrs-look}
 use Rattle.refine.proofs.Vcpus.{vcpus-length, vcpus-at}
 use Rattle.refine.proofs.Awaited.{awaited-length, awaited-at, awaited-none, event-read, seq-read}
 
@@ -133,6 +138,37 @@ module _ (st : State) (g : WordsGood st) where
       test (ltb v n) (λ h. awaited-at w n v (ltb-true v n h))
       (λ h. let far = ltb-false v n h in
       List·getD-eq-default (awaitedOf w 0 n) none {n = v} (rw (awaited-length w 0 n) far) ∙ sym (awaited-none w v (field-past v AWAITED far)))
+
+  -- ---- switches
+  pub event-means : (v event : ℕ) → eventOn (tablesOf st) v event ≡ isOn (field w v EVENTS) event
+  unfolding eventOn vcpuOfWords
+  event-means v event = ap (λ (x : Vcpu). isOn (x .events) event) (vcpu-means v)
+
+  pub cr-means : (v cr : ℕ) → crOn (tablesOf st) v cr ≡ (isCr cr && isOn (field w v CRS) (crBit cr))
+  unfolding crOn vcpuOfWords
+  cr-means v cr = ap (λ (x : Vcpu). isCr cr && isOn (x .crs) (crBit cr)) (vcpu-means v)
+
+  -- MSR switches: those of a vCPU past the count are off
+  pub msr-past : (v msr : ℕ) → n ≤ v → msrBitOn w v msr ≡ false
+  unfolding msrBitOn msrSlotOn msrWord
+  msr-past v msr h = rw (g .past (v * 272 + 16 + msrSlot msr / 64) (omega arith), on-none) (and-false (isMsr msr))
+
+  pub msr-means : (v msr : ℕ) → msrOn (tablesOf st) v msr ≡ msrBitOn w v msr
+  unfolding msrOn msrBitOn
+  msr-means v msr = msrs-look w n v msr ∙ test (ltb v n) (λ q. rw q) (λ q. rw q (sym (msr-past v msr (ltb-false v n q))))
+
+  -- an offered event is asked for where the model asks for it
+  pub asked-means : (v event : ℕ) (own : List ℕ) → isAskedForOf (st .session .tool .events) w v event own ≡ isAskedFor (tablesOf st) v event own
+  unfolding isAskedForOf askedForBy crBitOn isAskedFor asksFor vmEventOn
+  asked-means v event own = by (eventRowOf event .switch)
+    where
+      by : (x : EventSwitch) → askedForBy (st .session .tool .events) w v event own x ≡ asksFor (tablesOf st) v event own x
+      by Unoffered = refl
+      by NoEvent = refl
+      by OfVm = refl
+      by OfVcpu = sym (event-means v event)
+      by OfCr = rw (event-means v event, cr-means v (crNamed own))
+      by OfMsr = rw (event-means v event, msr-means v (msrNamed own))
 
   -- what the tests ask is what the model says
   pub facts-mean : (guest v : ℕ) → factsIn st guest v ≡ factsOf (modelOf st) guest v
