@@ -1,27 +1,73 @@
--- The entry of a vCPU with a pause queued. Assumes nothing.
-use mathlib.Core.Path.{_≡_}
-use mathlib.Core.List.{List, []}
-use Prim.Native.Nat.{ℕ, _-_}
+-- What goes out of an entry. Assumes nothing.
+use mathlib.Core.Path.{_≡_, refl, sym, ap, _∙_}
+use mathlib.Core.List.{List, [], _++_}
+use Prim.Native.Nat.{ℕ, _+_, _-_, _%_}
 use native.Mathlib.Omega.{arith}
-use borrow.Author.Tests.{eq-eqb, le-leb}
+use lib.ListN.{length, replicate}
+use borrow.Author.Tests.{lt-leb, le-leb, eq-eqb}
+use Rattle.wire.specs.Bytes.{le, store}
+use Rattle.wire.proofs.Laws.{store-none}
 use Rattle.kvmi.specs.declared.Answer.{Answer}
 use Rattle.kvmi.specs.declared.Signal.the-variants.{Quiet}
 use Rattle.kvmi.specs.Answer.{paper, handled}
 use Rattle.kvmi.specs.Model.{nextSeq}
-use Rattle.kvmi.specs.Reply.{pauseEvent}
-use Rattle.store.specs.Words.{field, setField, PAUSES, AWAITED, AWAITED-SEQ}
+use Rattle.kvmi.specs.Reply.{messageBytes, eventBytes, pauseEvent}
+use Rattle.store.specs.Words.{field, setField, PAUSES, AWAITED}
+use Rattle.reply.specs.declared.Answered.{Answered}
 use Rattle.reply.specs.Written.{Written}
+use Rattle.reply.proofs.Lengths.{length-event}
 use Rattle.session.specs.declared.Session.{Session}
 use Rattle.session.specs.State.{state, withTool, withToolSeq}
 use Rattle.session.specs.Calls.{told}
-use Rattle.entry.specs.Entry.{pausingOf, enteredOf}
+use Rattle.entry.specs.Entry.{awaitingWords, sendingOf, pausingOf, unqueueingOf, Went, sentOf, enteredOf}
 
-module _ (s t : Session) (a : Answer) (v p block out after w1 w2 w3 : List ℕ) (vcpu awaited queued next count : ℕ) where
-  pub paused-as : awaited ≡ field v vcpu AWAITED → awaited ≡ 0 → queued ≡ field v vcpu PAUSES → (queued ≡ 0 → ⊥)
-      → Written out after count (pauseEvent (s .tool .seq) vcpu block) → w1 ≡ setField v vcpu PAUSES (queued - 1)
-      → w2 ≡ setField w1 vcpu AWAITED 2 → w3 ≡ setField w2 vcpu AWAITED-SEQ (s .tool .seq) → next ≡ nextSeq (s .tool .seq)
-      → t ≡ withTool s (withToolSeq (s .tool) next)
-      → paper a ≡ handled count Quiet → told (record { answer = a; session = t }) w3 p after [] ≡ enteredOf (state s v p) vcpu block out
-  unfolding enteredOf pausingOf
-  paused-as w a0 q q0 wrote x1 x2 x3 n e g =
-      simp (← w, ← q, eq-eqb awaited 0 a0, le-leb 1 queued (omega (arith, q0)), wrote .count, wrote .there, x3, x2, x1, e, n, g)
+-- an event's number goes out as one byte
+number-byte : (event : ℕ) → le 1 (event % 256) ≡ le 1 event
+unfolding le
+number-byte event = let e : event % 256 % 256 ≡ event % 256 = omega arith in rw e
+
+low-event : (seq vcpu event : ℕ) (block own : List ℕ) → eventBytes seq vcpu (event % 256) block own ≡ eventBytes seq vcpu event block own
+unfolding eventBytes
+low-event seq vcpu event block own = rw (number-byte event)
+
+module _ (w after out wrote block : List ℕ) (vcpu seq next count : ℕ) where
+  pub sent-as : (own : List ℕ) (event : ℕ) → wrote ≡ store out 0 (eventBytes seq vcpu (event % 256) block own) → after ≡ awaitingWords w vcpu event seq
+      → count ≡ length block + length own + 16 → next ≡ nextSeq seq
+      → Went after out wrote (record { count = count; next = next }) (sendingOf w vcpu seq block event own)
+  unfolding sendingOf
+  sent-as own event o a n e =
+      record {
+        written =
+          record {
+            written =
+              record {
+                count = n ∙ omega (arith, length-event seq vcpu event block own);
+                there = o ∙ ap (store out 0) (low-event seq vcpu event block own);
+              };
+            next = e;
+          };
+        words = a;
+      }
+
+  pub paused-as : (queued : ℕ) (fewer : List ℕ) → queued ≡ field w vcpu PAUSES → (queued ≡ 0 → ⊥) → Written out wrote count (pauseEvent seq vcpu block)
+      → fewer ≡ setField w vcpu PAUSES (queued - 1) → after ≡ awaitingWords fewer vcpu 2 seq → next ≡ nextSeq seq
+      → Went after out wrote (record { count = count; next = next }) (unqueueingOf w vcpu seq block)
+  unfolding unqueueingOf pausingOf
+  paused-as queued fewer q some o f a e =
+      rw (← q, le-leb 1 queued (omega (arith, some))) (record { written = record { written = o; next = e }; words = a ∙ ap (λ (l : List ℕ). awaitingWords l vcpu 2 seq) f })
+
+pub nothing-queued : (w out block : List ℕ) (vcpu seq queued : ℕ) → queued ≡ field w vcpu PAUSES → queued ≡ 0
+    → Went w out out (record { count = 0; next = seq }) (unqueueingOf w vcpu seq block)
+unfolding unqueueingOf
+nothing-queued w out block vcpu seq queued q none =
+    rw (← q, lt-leb 1 queued (omega arith))
+    (record { written = record { written = record { count = refl; there = sym (store-none out 0) }; next = refl }; words = refl })
+
+-- the call, when what goes out is written
+module _ (s t : Session) (a : Answer) (r : Answered) (w p after block own out wrote : List ℕ) (vcpu event awaited : ℕ) where
+  pub went-as : awaited ≡ field w vcpu AWAITED → awaited ≡ 0 → Went after out wrote r (sentOf (state s w p) vcpu block event own)
+      → paper a ≡ handled (r .count) Quiet → t ≡ withTool s (withToolSeq (s .tool) (r .next))
+      → told (record { answer = a; session = t }) after p wrote [] ≡ enteredOf (state s w p) vcpu block event own out
+  unfolding enteredOf
+  went-as q none h g e =
+      simp (← q, eq-eqb awaited 0 none, e, g, h .written .written .count, h .written .written .there, h .words, h .written .next)

@@ -12,7 +12,7 @@ ghost use lib.ListN.{length};
 ghost use Rattle.kvmi.specs.Event.{offerFits};
 ghost use Rattle.session.specs.State.{state};
 ghost use Rattle.session.specs.Calls.{told};
-ghost use Rattle.entry.specs.Entry.{isAskedForOf, crBitOn, awaitingWords, Went, sendingOf, unqueueingOf, enteredOf, enterOf};
+ghost use Rattle.entry.specs.Entry.{isAskedForOf, crBitOn, awaitingWords, Went, sendingOf, unqueueingOf, sentOf, enteredOf, enterOf};
 
 // The least output that an entry is given: the bytes of a CR or an MSR event.
 pub const EVENT_OUT: usize = 576;
@@ -23,10 +23,7 @@ fn offer_fits(event: u32, own: &[u8]) -> bool
 {
     let row = kvmi::events::row(event as u64);
     let switch = row.switch;
-    match switch {
-        EventSwitch::Unoffered => false,
-        _ => own.len() == row.own,
-    }
+    kvmi::events::is_offered(switch) & (own.len() == row.own)
 }
 
 // Whether a vCPU's switch for a control register is on; what has none is off.
@@ -40,16 +37,16 @@ fn cr_on(vcpus: &[u64], vcpu: u16, cr: u32) -> bool
     kvmi::bits::is_on(crs, store::bits::cr_bit(cr))
 }
 
-// Whether the tool asked for an event: the switches that its row names are on.
-fn is_asked_for(vm_events: u64, vcpus: &[u64], vcpu: u16, event: u32, own: &[u8]) -> bool
-    ensures { λ r. ⌜ r ≡ isAskedForOf vm_events (now (vcpus .entry)) vcpu event (now (own .entry)) ⌝ }
+// Whether the tool asked for an event: what its row names is on among the VM's switches or the vCPU's.
+fn is_asked_for(switches: u64, vcpus: &[u64], vcpu: u16, event: u32, own: &[u8]) -> bool
+    ensures { λ r. ⌜ r ≡ isAskedForOf switches (now (vcpus .entry)) vcpu event (now (own .entry)) ⌝ }
 {
     let row = kvmi::events::row(event as u64);
     let switch = row.switch;
     match switch {
         EventSwitch::Unoffered => false,
         EventSwitch::NoEvent => false,
-        EventSwitch::OfVm => kvmi::bits::is_on(vm_events, event),
+        EventSwitch::OfVm => kvmi::bits::is_on(switches, event),
         EventSwitch::OfVcpu => {
             let events = store::words::read_field(vcpus, vcpu, store::words::EVENTS);
             kvmi::bits::is_on(events, event)
@@ -116,6 +113,26 @@ fn unqueue(vcpus: &mut [u64], vcpu: u16, seq: u32, block: &[u8], out: &mut [u8])
     }
 }
 
+// What goes out of an entry: the offered event, or else a queued pause.
+fn hand_out(
+    s: Session,
+    vcpus: &mut [u64],
+    vcpu: u16,
+    block: &[u8],
+    event: u32,
+    own: &[u8],
+    out: &mut [u8],
+) -> Answered
+    requires { ⌜ length (now own) ≤ 65535 ⌝ }
+    ensures { λ r. ⌜ ((p : List ℕ) → Went (now (vcpus .exit)) (now (out .entry)) (now (out .exit)) r (sentOf (state s (now (vcpus .entry)) p) vcpu (now (block .entry)) event (now (own .entry)))) ⌝ }
+{
+    let seq = s.tool.seq;
+    if is_asked_for(s.tool.events, vcpus, vcpu, event, own) {
+        return send(vcpus, vcpu, seq, block, event, own, out);
+    }
+    unqueue(vcpus, vcpu, seq, block, out)
+}
+
 // The rest of an entry whose arguments are in order.
 fn enter_open(
     s: Session,
@@ -136,12 +153,7 @@ fn enter_open(
             session: s,
         };
     }
-    let seq = s.tool.seq;
-    let went = if is_asked_for(s.tool.events, vcpus, vcpu, event, own) {
-        send(vcpus, vcpu, seq, block, event, own, out)
-    } else {
-        unqueue(vcpus, vcpu, seq, block, out)
-    };
+    let went = hand_out(s, vcpus, vcpu, block, event, own, out);
     Done {
         answer: kvmi::answers::wrote(went.count),
         session: s.with_seq(went.next),

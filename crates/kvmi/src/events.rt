@@ -2,8 +2,8 @@
 use crate::EventRow;
 use crate::EventSwitch;
 ghost use mathlib.Core.Path.{_≡_};
-ghost use mathlib.Core.Bool.{Bool, false};
-ghost use Rattle.kvmi.specs.Event.{eventRow, eventRowOf, isOffered, takesAction, newValue};
+ghost use mathlib.Core.Bool.{false};
+ghost use Rattle.kvmi.specs.Event.{eventRow, eventRowOf, isOffered};
 
 fn row_of(own: usize, reply: usize, retry: bool, valued: bool, switch: EventSwitch) -> EventRow
     ensures { λ r. ⌜ r ≡ eventRow own reply retry valued switch ⌝ }
@@ -41,5 +41,19 @@ pub fn row(event: u64) -> EventRow
         12 => plain(0, EventSwitch::OfVm),
         14 => plain(16, EventSwitch::OfVcpu),
         _ => row_of(0, 0, false, false, EventSwitch::Unoffered),
+    }
+}
+
+// Whether an entry is offered an event with such a switch; none is an offer, too.
+pub fn is_offered(switch: EventSwitch) -> bool
+    ensures { λ r. ⌜ r ≡ isOffered switch ⌝ }
+{
+    match switch {
+        EventSwitch::Unoffered => false,
+        EventSwitch::NoEvent => true,
+        EventSwitch::OfVm => true,
+        EventSwitch::OfVcpu => true,
+        EventSwitch::OfCr => true,
+        EventSwitch::OfMsr => true,
     }
 }
