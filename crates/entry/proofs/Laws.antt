@@ -38,14 +38,14 @@ module _ (w after out wrote block : List ℕ) (vcpu seq next count : ℕ) where
   sent-as own event o a n e =
       record {
         written =
-          record {
-            written =
-              record {
-                count = n ∙ omega (arith, length-event seq vcpu event block own);
-                there = o ∙ ap (store out 0) (low-event seq vcpu event block own);
-              };
-            next = e;
-          };
+            record {
+              written =
+                  record {
+                    count = n ∙ omega (arith, length-event seq vcpu event block own);
+                    there = o ∙ ap (store out 0) (low-event seq vcpu event block own);
+                  };
+              next = e;
+            };
         words = a;
       }
 

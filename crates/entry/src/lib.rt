@@ -185,7 +185,7 @@ pub fn enter(
             session: s,
         };
     }
-    if (block.len() != reply::STATE_BYTES) | !offer_fits(event, own) {
+    if !((block.len() == reply::STATE_BYTES) & offer_fits(event, own)) {
         return Done {
             answer: Answer::BadState,
             session: s,
