@@ -24,7 +24,11 @@ same-length c = search needs
 
 returns : tie.Need-returns
 unfolding enterGiven
-returns c = let e = c .before .before .before .before .enter .ensures [] ∙ ap (λ (n : ℕ). enterOf (state (c .before .before .before .before .before .before .before .before .before .before .args .s) (c .before .before .before .before .before .before .before .before .before .before .args .vcpus .now) []) n (c .before .before .before .before .before .before .before .before .before .before .args .block .now) (c .before .before .before .before .before .before .before .before .before .before .args .out .now)) (c .before .before .before .before .before .before .vcpu-number .ensures) in
+returns c =
+    let a = c .before .before .before .before .before .before .before .before .before .before .before .args in
+    let e =
+    c .before .before .before .before .enter .ensures []
+    ∙ ap (λ (n : ℕ). enterOf (state (a .s) (a .vcpus .now) []) n (a .block .now) (a .event) (a .own .now) (a .out .now)) (c .before .before .before .before .before .before .vcpu-number .ensures) in
     (c .finish .ensures .0 ∙ ap (λ (t : Told). given t .done) e, ap (λ (t : Told). t .state .vcpus) e, ap (λ (t : Told). t .out) e, c .finish .ensures .1 ∙ ap (λ (t : Told). given t .result) e)
 
 pub enter-spec : {M : Type 1} → statement M

@@ -43,6 +43,27 @@ cast-result-3 c = search needs
 element-write-result-6 : tie.Need-element-write-result-6
 element-write-result-6 c = search needs
 
+enum-known-signal-3 : tie.Need-enum-known-signal-3
+enum-known-signal-3 c = search needs
+
+element-write-result-7 : tie.Need-element-write-result-7
+element-write-result-7 c = search needs
+
+cast-result-4 : tie.Need-cast-result-4
+cast-result-4 c = search needs
+
+element-write-result-8 : tie.Need-element-write-result-8
+element-write-result-8 c = search needs
+
+cast-result-5 : tie.Need-cast-result-5
+cast-result-5 c = search needs
+
+element-write-result-9 : tie.Need-element-write-result-9
+element-write-result-9 c = search needs
+
+element-write-result-10 : tie.Need-element-write-result-10
+element-write-result-10 c = search needs
+
 enum-told-2 : tie.Need-enum-told-2
 enum-told-2 c = search needs
 
@@ -67,14 +88,14 @@ enum-told-8 c = search needs
 enum-known-a-2 : tie.Need-enum-known-a-2
 enum-known-a-2 c = search needs
 
-element-write-result-7 : tie.Need-element-write-result-7
-element-write-result-7 c = search needs
+element-write-result-11 : tie.Need-element-write-result-11
+element-write-result-11 c = search needs
 
 enum-known-a-3 : tie.Need-enum-known-a-3
 enum-known-a-3 c = search needs
 
-element-write-result-8 : tie.Need-element-write-result-8
-element-write-result-8 c = search needs
+element-write-result-12 : tie.Need-element-write-result-12
+element-write-result-12 c = search needs
 
 enum-told-9 : tie.Need-enum-told-9
 enum-told-9 c = search needs
@@ -92,37 +113,40 @@ returns-3 : tie.Need-returns-3
 returns-3 c = rw (c .before .before .before .before .a .given .1, c .before .signal2 .given .1) (refl, refl)
 
 returns-4 : tie.Need-returns-4
-returns-4 c = rw (c .enum-told2 .given .1) (refl, refl)
+returns-4 c = rw (c .before .before .before .before .a .given .1, c .before .signal3 .given .1) (refl, refl)
 
 returns-5 : tie.Need-returns-5
-returns-5 c = rw (c .enum-told3 .given .1) (refl, refl)
+returns-5 c = rw (c .enum-told2 .given .1) (refl, refl)
 
 returns-6 : tie.Need-returns-6
-returns-6 c = rw (c .enum-told4 .given .1) (refl, refl)
+returns-6 c = rw (c .enum-told3 .given .1) (refl, refl)
 
 returns-7 : tie.Need-returns-7
-returns-7 c = rw (c .enum-told5 .given .1) (refl, refl)
+returns-7 c = rw (c .enum-told4 .given .1) (refl, refl)
 
 returns-8 : tie.Need-returns-8
-returns-8 c = rw (c .enum-told6 .given .1) (refl, refl)
+returns-8 c = rw (c .enum-told5 .given .1) (refl, refl)
 
 returns-9 : tie.Need-returns-9
-returns-9 c = rw (c .enum-told7 .given .1) (refl, refl)
+returns-9 c = rw (c .enum-told6 .given .1) (refl, refl)
 
 returns-10 : tie.Need-returns-10
-returns-10 c = rw (c .enum-told8 .given .1) (refl, refl)
+returns-10 c = rw (c .enum-told7 .given .1) (refl, refl)
 
 returns-11 : tie.Need-returns-11
-returns-11 c = rw (c .before .a2 .given .1) (refl, refl)
+returns-11 c = rw (c .enum-told8 .given .1) (refl, refl)
 
 returns-12 : tie.Need-returns-12
-returns-12 c = rw (c .before .a3 .given .1) (refl, refl)
+returns-12 c = rw (c .before .a2 .given .1) (refl, refl)
 
 returns-13 : tie.Need-returns-13
-returns-13 c = rw (c .enum-told9 .given .1) (refl, refl)
+returns-13 c = rw (c .before .a3 .given .1) (refl, refl)
 
 returns-14 : tie.Need-returns-14
-returns-14 c = rw (c .enum-told10 .given .1) (refl, refl)
+returns-14 c = rw (c .enum-told9 .given .1) (refl, refl)
+
+returns-15 : tie.Need-returns-15
+returns-15 c = rw (c .enum-told10 .given .1) (refl, refl)
 
 pub put-result-spec : {M : Type 1} → statement M
 put-result-spec =
@@ -141,6 +165,13 @@ put-result-spec =
     element-write-result-5
     cast-result-3
     element-write-result-6
+    enum-known-signal-3
+    element-write-result-7
+    cast-result-4
+    element-write-result-8
+    cast-result-5
+    element-write-result-9
+    element-write-result-10
     enum-told-2
     enum-told-3
     enum-told-4
@@ -149,9 +180,9 @@ put-result-spec =
     enum-told-7
     enum-told-8
     enum-known-a-2
-    element-write-result-7
+    element-write-result-11
     enum-known-a-3
-    element-write-result-8
+    element-write-result-12
     enum-told-9
     enum-told-10
     returns
@@ -167,4 +198,5 @@ put-result-spec =
     returns-11
     returns-12
     returns-13
-    returns-14)
+    returns-14
+    returns-15)
