@@ -2,7 +2,7 @@
 use mathlib.Core.Path.{_≡_, refl, sym, _∙_}
 use Prim.Native.Nat.{ℕ}
 use mathlib.Core.List.{List, [], _∷_}
-use mathlib.Core.Bool.{Bool, true, false, cond, not}
+use mathlib.Core.Bool.{Bool, true, false, cond, not, _&&_}
 use lib.ListN.{length, drop}
 use lib.Dec.{leb, ltb, eqb}
 use Rattle.wire.specs.declared.Header.{Header}
@@ -17,9 +17,10 @@ use Rattle.kvmi.specs.Model.{Model, closedModel, awaitedBy, isSome}
 use Rattle.kvmi.specs.Tables.{vcpuAt}
 use Rattle.kvmi.specs.Image.{image}
 use Rattle.kvmi.specs.Message.{vcpuOf}
+use Rattle.kvmi.specs.Event.{offerFits, isAskedFor}
 use Rattle.kvmi.specs.Verdict.{factsOf, verdict}
 use Rattle.kvmi.specs.Change.{apply}
-use Rattle.kvmi.specs.Call.{Step, Call, message, ready, enter, writeImage, unchanged, answering, judged, headed, messageStep, readyStep, pausing, enterStep, awaitsAny, imageStep, step, move, after}
+use Rattle.kvmi.specs.Call.{Step, Call, message, ready, enter, writeImage, unchanged, answering, judged, headed, messageStep, readyStep, sending, pausing, unqueueing, entering, enterStep, awaitsAny, imageStep, step, move, after}
 use Rattle.laws.proofs.Bool.{clash}
 use Rattle.laws.proofs.Verdicts.{pick}
 
@@ -40,7 +41,7 @@ apply-lives m guest d (SetMsr on vcpu msr) = refl
 apply-lives m guest d (SetPages view count) = refl
 apply-lives m guest d (SetSinglestep on vcpu) = refl
 apply-lives m guest d (SetReplies now mode) = refl
-apply-lives m guest d (EndWait crash vcpu) = refl
+apply-lives m guest d (EndWait resumes vcpu action value) = refl
 
 module _ (s : Settings) (m : Model) (rests : Rests s m) where
   abbrev R : Step → Type 0
@@ -61,21 +62,27 @@ module _ (s : Settings) (m : Model) (rests : Rests s m) where
   headed-rests d out guest lives Broken = λ _. refl
   headed-rests d out guest lives (Whole id size seq) = judged-rests id seq d out guest lives (verdict s (factsOf m (length guest) (vcpuOf d)) id seq d)
 
+  entering-rests : (vcpu : ℕ) (block : List ℕ) (event : ℕ) (own out : List ℕ) → m .closed ≡ false → R (entering m vcpu block event own out)
+  unfolding entering sending unqueueing pausing
+  entering-rests vcpu block event own out lives =
+      pick R (isAskedFor (m .tables) vcpu event own) _ _ (λ _. still-lives lives _ refl)
+      (λ _. pick R (leb 1 (vcpuAt (m .tables) vcpu .pauses)) _ _ (λ _. still-lives lives _ refl) (λ _. rests))
+
   step-rests : (c : Call) → R (step s m c)
-  unfolding step messageStep readyStep enterStep pausing imageStep
+  unfolding step messageStep readyStep enterStep imageStep
   step-rests (message msg out guest) =
       pick R (m .closed) _ _ (λ _. rests)
       (λ lives. pick R (ltb (length out) 4112) _ _ (λ _. rests) (λ _. headed-rests (drop 8 msg) out guest lives (headerOf msg)))
   step-rests (ready vcpu) =
       pick R (m .closed) _ _ (λ _. rests)
       (λ lives. pick R (leb (s .vcpus) vcpu) _ _ (λ _. rests) (λ _. still-lives lives _ refl))
-  step-rests (enter vcpu block out) =
+  step-rests (enter vcpu block event own out) =
       pick R (m .closed) _ _ (λ _. rests)
       (λ lives. pick R (leb (s .vcpus) vcpu) _ _ (λ _. rests)
-      (λ _. pick R (not (eqb (length block) 536)) _ _ (λ _. rests)
-      (λ _. pick R (ltb (length out) 552) _ _ (λ _. rests)
+      (λ _. pick R (not (eqb (length block) 536 && offerFits event own)) _ _ (λ _. rests)
+      (λ _. pick R (ltb (length out) 576) _ _ (λ _. rests)
       (λ _. pick R (isSome (awaitedBy m vcpu)) _ _ (λ _. rests)
-      (λ _. pick R (leb 1 (vcpuAt (m .tables) vcpu .pauses)) _ _ (λ _. still-lives lives _ refl) (λ _. rests))))))
+      (λ _. entering-rests vcpu block event own out lives)))))
   step-rests (writeImage out) =
       pick R (m .closed) _ _ (λ _. rests)
       (λ _. pick R (awaitsAny (m .awaited)) _ _ (λ _. rests)

@@ -1,10 +1,10 @@
 -- Demand 1, proved. Assumes nothing.
 use mathlib.Core.Path.{_≡_, refl, sym, ap, _∙_, subst}
-use mathlib.Core.Logic.{_↔_, inl, inr}
+use mathlib.Core.Logic.{_↔_, inl, inr, ⊎-elim}
 use Prim.Native.Nat.{ℕ, zero, suc, _≤_, _<_, min}
 use native.Mathlib.Omega.{arith}
 use mathlib.Core.List.{List, [], _∷_}
-use mathlib.Core.Bool.{Bool, true, false, cond, not}
+use mathlib.Core.Bool.{Bool, true, false, cond, not, _&&_, _||_, So}
 use mathlib.Core.Option.{Option, none, some}
 use lib.ListN.{length, getD, drop, List·getD-eq-default}
 use lib.Dec.{leb, ltb, eqb}
@@ -17,24 +17,30 @@ use Rattle.kvmi.specs.declared.Signal.the-variants.{Quiet}
 use Rattle.kvmi.specs.declared.Verdict.{Verdict}
 use Rattle.kvmi.specs.declared.Verdict.the-variants.{Closes, Fails, Does}
 use Rattle.kvmi.specs.Answer.{plainAt}
+use Rattle.kvmi.specs.declared.EventRow.{EventRow}
+use Rattle.kvmi.specs.Bits.{among}
 use Rattle.kvmi.specs.Limits.{leastOut, eventOut, stateBytes}
 use Rattle.kvmi.specs.Settings.{inRange}
 use Rattle.kvmi.specs.Model.{Awaited, awaitedBy, isSome}
 use Rattle.kvmi.specs.Image.{image, Loaded, loaded, badForm, forbidden, loadImage}
+use Rattle.kvmi.specs.Event.{events, unoffered, eventRowOf, isOffered, offerFits}
 use Rattle.kvmi.specs.Call.{awaitsAny}
-use Rattle.store.specs.Words.{field, PAUSES, AWAITED}
+use Rattle.store.specs.Words.{field, AWAITED}
 use Rattle.session.specs.State.{State, isClosed}
 use Rattle.session.specs.Calls.{Told, toldSame, toldWritten, toldClosing, freshOf, readyOf}
-use Rattle.session.specs.Meaning.{awaitedIn, awaitedOf, modelOf}
+use Rattle.session.specs.Meaning.{awaitedOf, modelOf}
 use Rattle.message.specs.Message.{answeringOf, judgedOf, headedOf, messageOf}
-use Rattle.entry.specs.Entry.{pausingOf, enterOf}
+use Rattle.entry.specs.Entry.{enteredOf, enterOf}
 use Rattle.image_writer.specs.Write.{statedVcpus, statedTables, imageOf}
 use Rattle.image_reader.specs.Read.{toldLoaded, readOf}
 use Rattle.refine.specs.Frames.{Refuses, Past}
-use Rattle.history.specs.Demand1.{Answers, OneOf, Closed, Open, IsVcpu, NoVcpu, Awaits, AwaitsAny, imageLength, InRange, saidOf, RuleCloses, FreshAnswers, ReadyAnswers, MessageAnswers, EntryAnswers, WriterAnswers, ReaderAnswers, Demand1}
-use Rattle.laws.proofs.Bool.{and-l, and-r, either, or-l, or-r, test, clash}
+use Rattle.history.specs.Demand1.{Answers, OneOf, Closed, Open, IsVcpu, NoVcpu, offers, Lent, Awaits, AwaitsAny, imageLength, InRange, saidOf, RuleCloses, FreshAnswers, ReadyAnswers, MessageAnswers, EntryAnswers, WriterAnswers, ReaderAnswers, Demand1}
+use Rattle.wire.proofs.Laws.{le-or-lt}
+use Rattle.laws.proofs.Bool.{and-l, and-r, either, or-l, or-r, test, clash, same-test}
 use Rattle.laws.proofs.Verdicts.{pick}
-use Rattle.refine.proofs.Awaited.{awaited-length, awaited-at}
+use Rattle.reply.proofs.Data.{below}
+use Rattle.lookup.proofs.Looks.{among-every}
+use Rattle.refine.proofs.Awaited.{awaited-length, awaited-at, awaited-there}
 use Rattle.refine.proofs.Frames.{same-refuses, same-past, written-past, message-refuses, ready-refuses, enter-refuses, message-past, enter-past}
 
 -- conditions by an answer's number: the one at its place
@@ -140,69 +146,93 @@ module _ (st : State) (msg out guest : List ℕ) where
 -- ---- an entry
 -- an event is awaited where its word is not 0
 awaits-word : (st : State) (vcpu : ℕ) → IsVcpu st vcpu → isSome (awaitedBy (modelOf st) vcpu) ≡ not (eqb (field (st .vcpus) vcpu AWAITED) 0)
-unfolding awaitedIn
-awaits-word st vcpu h = ap isSome (awaited-at (st .vcpus) (st .session .settings .vcpus) vcpu h) ∙ by (eqb (field (st .vcpus) vcpu AWAITED) 0) _
-  where
-    by : (b : Bool) (a : Awaited) → isSome (cond b none (some a)) ≡ not b
-    by true a = refl
-    by false a = refl
+awaits-word st vcpu h = ap isSome (awaited-at (st .vcpus) (st .session .settings .vcpus) vcpu h) ∙ awaited-there (st .vcpus) vcpu
 
-module _ (st : State) (vcpu : ℕ) (block out : List ℕ) where
+-- an offer is one of the events
+offer-known : (event : ℕ) → isOffered (eventRowOf event .switch) ≡ among event offers
+unfolding eventRowOf
+offer-known event =
+    same-test _ _
+    (λ h. ⊎-elim
+    (λ far. clash h (ap (λ (r : EventRow). isOffered (r .switch)) (List·getD-eq-default events unoffered {n = event} far)))
+    (λ near. rw h at (below (λ k. not (isOffered (eventRowOf k .switch)) || among k offers) 15 event refl near))
+    (le-or-lt 15 event))
+    (λ h. among-every (λ k. isOffered (eventRowOf k .switch)) event offers refl h)
+
+-- the test of what an entry is lent
+lent-fits : (block : List ℕ) (event : ℕ) (own : List ℕ) → (eqb (length block) stateBytes && offerFits event own) ≡ true → Lent block event own
+unfolding offerFits
+lent-fits block event own h =
+    let known : So (isOffered (eventRowOf event .switch)) = search (and-l, and-r) in (
+      eqb-true (length block) stateBytes (search (and-l, and-r)),
+      rw (offer-known event) at known,
+      eqb-true (length own) (eventRowOf event .own) (search (and-l, and-r)),
+    )
+
+fits-lent : (block : List ℕ) (event : ℕ) (own : List ℕ) → Lent block event own → (eqb (length block) stateBytes && offerFits event own) ≡ true
+unfolding offerFits
+fits-lent block event own (b, k, o) = rw (eq-eqb (length block) stateBytes b, offer-known event, k, eq-eqb (length own) (eventRowOf event .own) o)
+
+module _ (st : State) (vcpu : ℕ) (block : List ℕ) (event : ℕ) (own out : List ℕ) where
   abbrev r-enter : Told
-  r-enter = enterOf st vcpu block out
+  r-enter = enterOf st vcpu block event own out
+
+  abbrev lends : Bool
+  lends = eqb (length block) stateBytes && offerFits event own
+
+  not-lent : (Lent block event own → ⊥) → lends ≡ false
+  not-lent f = test lends (λ h. absurd (f (lent-fits block event own h))) (λ h. h)
 
   abbrev enter-by : List (Type 0)
   enter-by =
       Unit {0}
       ∷ ⊥
       ∷ Closed st
-      ∷ (Open st × IsVcpu st vcpu × (length block ≡ stateBytes) × (length out < eventOut))
+      ∷ (Open st × IsVcpu st vcpu × Lent block event own × (length out < eventOut))
       ∷ (Open st × NoVcpu st vcpu)
-      ∷ (Open st × IsVcpu st vcpu × (length block ≡ stateBytes → ⊥))
-      ∷ (Open st × IsVcpu st vcpu × (length block ≡ stateBytes) × (eventOut ≤ length out) × Awaits st vcpu)
+      ∷ (Open st × IsVcpu st vcpu × (Lent block event own → ⊥))
+      ∷ (Open st × IsVcpu st vcpu × Lent block event own × (eventOut ≤ length out) × Awaits st vcpu)
       ∷ []
 
   enter-told : Told-by enter-by r-enter
-  unfolding enterOf pausingOf
+  unfolding enterOf enteredOf
   enter-told =
       let n = st .session .settings .vcpus in
       pick (Told-by enter-by) (isClosed st) _ _ (λ c. c)
       (λ o. pick (Told-by enter-by) (leb n vcpu) _ _ (λ h. (o, leb-true n vcpu h))
       (λ h. let i = leb-false n vcpu h in
-      pick (Told-by enter-by) (not (eqb (length block) stateBytes)) _ _ (λ b. (o, i, eqb-false (length block) stateBytes (not-true _ b)))
-      (λ b. let w = eqb-true (length block) stateBytes (not-false _ b) in
+      pick (Told-by enter-by) (not lends) _ _ (λ b. (o, i, λ w. clash (fits-lent block event own w) (not-true lends b)))
+      (λ b. let w = lent-fits block event own (not-false lends b) in
       pick (Told-by enter-by) (ltb (length out) eventOut) _ _ (λ l. (o, i, w, ltb-true (length out) eventOut l))
       (λ l. pick (Told-by enter-by) (not (eqb (field (st .vcpus) vcpu AWAITED) 0)) _ _
-      (λ a. (o, i, w, ltb-false (length out) eventOut l, awaits-word st vcpu i ∙ a))
-      (λ _. pick (Told-by enter-by) (leb 1 (field (st .vcpus) vcpu PAUSES)) _ _ (λ _. tt) (λ _. tt))))))
+      (λ a. (o, i, w, ltb-false (length out) eventOut l, awaits-word st vcpu i ∙ a)) (λ _. tt)))))
 
   abbrev enter-numbers : List ℕ
   enter-numbers = 0 ∷ 2 ∷ 3 ∷ 4 ∷ 5 ∷ 6 ∷ []
 
-  enter-answers : EntryAnswers st vcpu block out r-enter
-  unfolding enterOf pausingOf
+  enter-answers : EntryAnswers st vcpu block event own out r-enter
+  unfolding enterOf enteredOf
   enter-answers =
       let n = st .session .settings .vcpus in
       record {
         numbers =
             pick (OneOf enter-numbers) (isClosed st) _ _ (λ _. refl)
             (λ _. pick (OneOf enter-numbers) (leb n vcpu) _ _ (λ _. refl)
-            (λ _. pick (OneOf enter-numbers) (not (eqb (length block) stateBytes)) _ _ (λ _. refl)
+            (λ _. pick (OneOf enter-numbers) (not lends) _ _ (λ _. refl)
             (λ _. pick (OneOf enter-numbers) (ltb (length out) eventOut) _ _ (λ _. refl)
-            (λ _. pick (OneOf enter-numbers) (not (eqb (field (st .vcpus) vcpu AWAITED) 0)) _ _ (λ _. refl)
-            (λ _. pick (OneOf enter-numbers) (leb 1 (field (st .vcpus) vcpu PAUSES)) _ _ (λ _. refl) (λ _. refl))))));
+            (λ _. pick (OneOf enter-numbers) (not (eqb (field (st .vcpus) vcpu AWAITED) 0)) _ _ (λ _. refl) (λ _. refl)))));
         closed = exactly enter-by r-enter 2 enter-told (λ c. rw c);
         badVcpu = exactly enter-by r-enter 4 enter-told (λ q. rw (q .0, le-leb n vcpu (q .1)));
-        badBlock = exactly enter-by r-enter 5 enter-told (λ q. rw (q .0, lt-leb n vcpu (q .1), ne-eqb (length block) stateBytes (q .2)));
+        badBlock = exactly enter-by r-enter 5 enter-told (λ q. rw (q .0, lt-leb n vcpu (q .1), not-lent (q .2)));
         short =
             exactly enter-by r-enter 3 enter-told
-            (λ q. rw (q .0, lt-leb n vcpu (q .1), eq-eqb (length block) stateBytes (q .2), lt-ltb (length out) eventOut (q .3)));
+            (λ q. rw (q .0, lt-leb n vcpu (q .1), fits-lent block event own (q .2), lt-ltb (length out) eventOut (q .3)));
         waiting =
             exactly enter-by r-enter 6 enter-told
             (λ q. let a : not (eqb (field (st .vcpus) vcpu AWAITED) 0) ≡ true = sym (awaits-word st vcpu (q .1)) ∙ q .4 in
-            rw (q .0, lt-leb n vcpu (q .1), eq-eqb (length block) stateBytes (q .2), le-ltb (length out) eventOut (q .3), a));
-        refused = enter-refuses st vcpu block out;
-        past = enter-past st vcpu block out;
+            rw (q .0, lt-leb n vcpu (q .1), fits-lent block event own (q .2), le-ltb (length out) eventOut (q .3), a));
+        refused = enter-refuses st vcpu block event own out;
+        past = enter-past st vcpu block event own out;
       }
 
 -- ---- the image writer

@@ -6,7 +6,7 @@ use native.Mathlib.Omega.{arith}
 use mathlib.Core.List.{List, [], _∷_, _++_}
 use mathlib.Core.Bool.{Bool, true, false, cond, not, _&&_}
 use lib.IntN.{ℤ, pos, negsuc}
-use lib.ListN.{length, getD, drop}
+use lib.ListN.{length, drop}
 use lib.Dec.{leb, ltb, eqb}
 use mir.Syntax.{w32}
 use mir.Val.{SFits}
@@ -28,12 +28,12 @@ use Rattle.kvmi.specs.declared.Change.the-variants.{Nothing, SetVmEvent, WriteP
 use Rattle.kvmi.specs.declared.Verdict.{Verdict}
 use Rattle.kvmi.specs.declared.Verdict.the-variants.{Closes, Fails, Does}
 use Rattle.kvmi.specs.Limits.{pageLimit, leastOut}
-use Rattle.kvmi.specs.Bits.{among}
+use Rattle.kvmi.specs.Event.{eventRowOf}
 use Rattle.kvmi.specs.Codes.{isError, EPERM, ENOMEM, ENOSYS, OK}
 use Rattle.kvmi.specs.Settings.{allowsCommand, allowsEvent}
 use Rattle.kvmi.specs.Mode.{modeOfNumber}
-use Rattle.kvmi.specs.Message.{layoutOf, sizeFits, carriesData, vcpuOf, gpaOf, sizeOf, firstPadding, repliedEvent, actionOf, entriesOf}
-use Rattle.kvmi.specs.Verdict.{repliesOn, refuse, isInvalid, isUnready, isDenied, isUnsupported, isBusy, isAbsent, losesErrors, isAwaited, inOnePage, changeOf, commandVerdict, eventReplyVerdict, verdict}
+use Rattle.kvmi.specs.Message.{layoutOf, sizeFits, carriesData, vcpuOf, gpaOf, sizeOf, firstPadding, repliedEvent, entriesOf}
+use Rattle.kvmi.specs.Verdict.{repliesOn, refuse, isInvalid, isUnready, isDenied, isUnsupported, isBusy, isAbsent, losesErrors, isAwaited, replyFits, inOnePage, changeOf, commandVerdict, eventReplyVerdict, verdict}
 use Rattle.kvmi.specs.Change.{modeFor}
 use Rattle.kvmi.specs.Reply.{messageBytes, replyBytes, replyData, commandErrorEvent, answerBytes, answerOf}
 use Rattle.page_words.specs.PageWords.{runEntries}
@@ -46,7 +46,7 @@ use Rattle.stream.specs.Line.{errorOf}
 use Rattle.refine.specs.Errors.{codeHeaded, codeOf}
 use Rattle.history.specs.Demand2.{WritesError}
 use Rattle.laws.proofs.Bool.{and-r}
-use Rattle.laws.proofs.Verdicts.{pick, Admitted, verdict-cases}
+use Rattle.laws.proofs.Verdicts.{pick, Admitted, ending, verdict-cases}
 use Rattle.reply.proofs.Lengths.{length-answer}
 use Rattle.replay.proofs.Errors.{answer-error}
 use Rattle.refine.proofs.Frames.{error-length, data-fits}
@@ -67,7 +67,7 @@ verdict-fits s f id seq d =
     (λ _. pick Fits-by (not (repliesOn (f .mode)) && carriesData (layoutOf id .reply)) _ _ (λ _. tt)
     (λ _. pick Fits-by (not (sizeFits (layoutOf id .size) d)) _ _ (λ _. tt)
     (λ _. pick Fits-by (eqb id 16) _ _
-    (λ _. pick Fits-by (eqb (firstPadding 16 d) 0 && isAwaited f seq (repliedEvent d) && among (actionOf d) (0 ∷ 2 ∷ [])) _ _ (λ _. tt) (λ _. tt))
+    (λ _. pick Fits-by (eqb (firstPadding 16 d) 0 && isAwaited f seq (repliedEvent d) && replyFits (eventRowOf (f .awaited)) d) _ _ (λ _. tt) (λ _. tt))
     (λ _. pick Fits-by (eqb id 9 && not (allowsEvent s 2)) _ _ (λ _. tt)
     (λ _. pick Fits-by (isInvalid s id d) _ _ (λ _. sfits-lit tt)
     (λ _. pick Fits-by (isUnready f id) _ _ (λ _. sfits-lit tt)
@@ -91,7 +91,7 @@ change-fits st guest d (SetPages view count) =
     pick (SFits w32) (runEntries pageLimit view (entriesOf count (drop 8 d)) (st .pages) (st .session .tool .pages) .skipped) ENOMEM OK (λ _. sfits-lit tt) (λ _. sfits-lit tt)
 change-fits st guest d (SetSinglestep on vcpu) = sfits-lit tt
 change-fits st guest d (SetReplies now mode) = sfits-lit tt
-change-fits st guest d (EndWait crash vcpu) = sfits-lit tt
+change-fits st guest d (EndWait resumes vcpu action value) = sfits-lit tt
 
 -- ---- the error in an answer's bytes
 -- of an id two bytes are written
@@ -172,7 +172,7 @@ module _ (st : State) (guest d out : List ℕ) (long : leastOut ≤ length out) 
   verdict-code f =
       verdict-cases Code-by (st .session .settings) f id seq d (λ _ ne. absurd (ne refl)) fails-code
       (λ p. does-code (changeOf id d) (known-id f (p .admitted)) (data-fits (st .session .settings) f id d p))
-      (λ p. let e = p .reply in does-code (EndWait (eqb (getD d 8 0) 2) (vcpuOf d)) (known-id f (p .admitted)) (inr (λ q. omega arith)))
+      (λ p. let e = p .reply in does-code (ending f d) (known-id f (p .admitted)) (inr (λ q. omega arith)))
 
 -- where a call writes bytes, a code stands in them
 abbrev Coded : Told → ℤ → Type 0

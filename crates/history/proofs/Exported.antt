@@ -3,19 +3,20 @@ use mathlib.Core.Path.{_≡_, refl, sym, _∙_, subst}
 use Prim.Native.Nat.{ℕ, _≤_, min}
 use native.Mathlib.Omega.{arith}
 use mathlib.Core.List.{List, []}
-use mathlib.Core.Bool.{Bool, true, false, cond, not}
+use mathlib.Core.Bool.{Bool, true, false, cond, not, _&&_}
 use lib.ListN.{length}
 use lib.Dec.{leb, ltb, eqb}
 use borrow.Author.Tests.{leb-true, leb-false, le-leb, lt-leb}
 use Rattle.kvmi.specs.declared.Signal.the-variants.{Quiet}
 use Rattle.kvmi.specs.Limits.{eventOut, stateBytes}
+use Rattle.kvmi.specs.Event.{offerFits}
 use Rattle.kvmi.specs.Image.{image}
 use Rattle.kvmi.specs.Call.{ready, enter, writeImage, awaitsAny}
-use Rattle.store.specs.Words.{field, putBit64, PAUSES, AWAITED}
+use Rattle.store.specs.Words.{field, putBit64, AWAITED}
 use Rattle.session.specs.State.{State, state, withReadyBits, isClosed}
 use Rattle.session.specs.Calls.{Told, toldSame, toldWritten, readyOf}
 use Rattle.session.specs.Meaning.{awaitedOf}
-use Rattle.entry.specs.Entry.{pausingOf, enterOf, enteredOf}
+use Rattle.entry.specs.Entry.{sentOf, enteredOf, enterOf}
 use Rattle.image_writer.specs.Write.{statedVcpus, statedTables, imageOf}
 use Rattle.calls.specs.Given.{given, freshGiven, readyGiven, messageGiven, enterGiven, sizeGiven, writeGiven, readGiven}
 use Rattle.history.specs.History.{stepOf, afterOf}
@@ -63,7 +64,7 @@ module _ (st : State) (vcpu : ℕ) (few : st .session .settings .vcpus ≤ 65535
       (record { done = refl; result = refl; vcpus = refl; pages = refl }))
 
 -- ---- an entry
-module _ (st : State) (vcpu : ℕ) (block out : List ℕ) where
+module _ (st : State) (vcpu : ℕ) (block : List ℕ) (event : ℕ) (own out : List ℕ) where
   abbrev Enters : Told → Told → Type 0
   Enters r q = OnVcpus st (given r) q
 
@@ -74,25 +75,24 @@ module _ (st : State) (vcpu : ℕ) (block out : List ℕ) where
   still : (k : ℕ) → Enters (toldSame k lent out []) (toldSame k st out [])
   still k = record { done = refl; vcpus = refl; out = refl; result = refl; pages = refl }
 
-  entered-same : Enters (enteredOf lent vcpu block out) (enteredOf st vcpu block out)
-  unfolding enteredOf pausingOf
+  entered-same : Enters (enteredOf lent vcpu block event own out) (enteredOf st vcpu block event own out)
+  unfolding enteredOf sentOf
   entered-same =
       both Enters (not (eqb (field (st .vcpus) vcpu AWAITED) 0)) _ _ _ _ (λ _. still 6)
-      (λ _. both Enters (leb 1 (field (st .vcpus) vcpu PAUSES)) _ _ _ _
       (λ _. record { done = refl; vcpus = refl; out = refl; result = refl; pages = refl })
-      (λ _. record { done = refl; vcpus = refl; out = refl; result = refl; pages = refl }))
 
   -- behind the test of its number
   abbrev behind : State → ℕ → Told
   behind s k =
-      cond (not (eqb (length block) stateBytes)) (toldSame 5 s out []) (cond (ltb (length out) eventOut) (toldSame 3 s out []) (enteredOf s k block out))
+      cond (not (eqb (length block) stateBytes && offerFits event own)) (toldSame 5 s out [])
+      (cond (ltb (length out) eventOut) (toldSame 3 s out []) (enteredOf s k block event own out))
 
-  enter-same : st .session .settings .vcpus ≤ 65535 → Enters (enterOf lent (min vcpu 65535) block out) (enterOf st vcpu block out)
-  unfolding enterOf enteredOf
+  enter-same : st .session .settings .vcpus ≤ 65535 → Enters (enterOf lent (min vcpu 65535) block event own out) (enterOf st vcpu block event own out)
+  unfolding enterOf
   enter-same few =
       both Enters (isClosed st) _ _ _ _ (λ _. still 2)
       (λ _. by-vcpu (st .session .settings .vcpus) vcpu few Enters (toldSame 4 lent out []) (behind lent) (toldSame 4 st out []) (behind st vcpu) (still 4)
-      (both Enters (not (eqb (length block) stateBytes)) _ _ _ _ (λ _. still 5)
+      (both Enters (not (eqb (length block) stateBytes && offerFits event own)) _ _ _ _ (λ _. still 5)
       (λ _. both Enters (ltb (length out) eventOut) _ _ _ _ (λ _. still 3) (λ _. entered-same))))
 
 -- ---- an image
@@ -115,7 +115,7 @@ exported =
       readImage = λ s vcpus pages l. refl;
       ready = λ st vcpu few. ready-same st vcpu few;
       message = λ st msg out guest. refl;
-      enter = λ st vcpu block out few. enter-same st vcpu block out few;
+      enter = λ st vcpu block event own out few. enter-same st vcpu block event own out few;
       writeImage = λ st out. record { all = refl; state = image-keeps st out };
       imageSize = λ st. refl;
       few = λ s st m b cs. few-vcpus (afterOf st cs .session .settings) (after-stands s st m cs (began-stands s st m b) .formed .settings);

@@ -28,7 +28,7 @@ pub step-simulates : (st : State) → WellFormed st → (c : Call) → Simulates
 unfolding stepOf step
 step-simulates st f (message msg out guest) = message-simulates st f out guest msg
 step-simulates st f (ready vcpu) = ready-simulates st f vcpu
-step-simulates st f (enter vcpu block out) = enter-simulates st f vcpu block out
+step-simulates st f (enter vcpu block event own out) = enter-simulates st f vcpu block event own out
 step-simulates st f (writeImage out) = image-simulates st f out
 
 pub step-formed : (st : State) → WellFormed st → (c : Call) → WellFormed (stepOf st c .state)

@@ -3,7 +3,7 @@ use mathlib.Core.Path.{_≡_, refl, sym, ap, _∙_, subst}
 use Prim.Native.Nat.{ℕ, _+_, _≤_}
 use native.Mathlib.Omega.{arith}
 use mathlib.Core.List.{List, [], _∷_, _++_, append-assoc}
-use mathlib.Core.Bool.{Bool, true, false, cond, not}
+use mathlib.Core.Bool.{Bool, true, false, cond, not, _&&_}
 use lib.IntN.{ℤ}
 use lib.ListN.{length, take, drop, replicate, length-append, length-take, length-drop}
 use lib.Seq.{take-at, take-append-seam}
@@ -33,21 +33,24 @@ use Rattle.kvmi.specs.Mode.{modeOfNumber}
 use Rattle.kvmi.specs.Message.{layoutOf, vcpuOf}
 use Rattle.kvmi.specs.Verdict.{verdict}
 use Rattle.kvmi.specs.Change.{signalOf, modeFor}
+use Rattle.kvmi.specs.declared.EventSwitch.{EventSwitch}
+use Rattle.kvmi.specs.declared.EventSwitch.the-variants.{Unoffered, NoEvent, OfVm, OfVcpu, OfCr, OfMsr}
+use Rattle.kvmi.specs.Event.{eventRowOf, isOffered, offerFits, crNamed, msrNamed}
 use Rattle.kvmi.specs.Reply.{messageBytes, replyBytes, replyData, eventBytes, pauseEvent, answerBytes, answerOf}
 use Rattle.kvmi.specs.Image.{image}
 use Rattle.kvmi.specs.Call.{Call, message, ready, enter, writeImage, awaitsAny}
 use Rattle.store.specs.Words.{field, PAUSES, AWAITED}
-use Rattle.session.specs.State.{State, isClosed}
+use Rattle.session.specs.State.{State, withSeqOf, withVcpuWords, isClosed}
 use Rattle.session.specs.Calls.{Told, toldSame, toldWritten}
 use Rattle.session.specs.Meaning.{awaitedOf}
 use Rattle.change.specs.Change.{change}
 use Rattle.message.specs.Message.{factsIn, answeringOf, judgedOf, headedOf, messageOf}
-use Rattle.entry.specs.Entry.{pausingOf, enterOf}
+use Rattle.entry.specs.Entry.{crBitOn, askedForBy, isAskedForOf, Sent, sendingOf, pausingOf, unqueueingOf, sentOf, toldSent, enteredOf, enterOf}
 use Rattle.image_writer.specs.Write.{statedVcpus, statedTables, imageOf}
 use Rattle.history.specs.History.{stepOf, afterOf}
 use Rattle.history.specs.Unsteered.{written, ownBytes, Alike, messages, readies, enters, writes, SameFor, ButGuest, ended, more, answersOf, bytesOf, Unsteered}
 use Rattle.laws.proofs.Bool.{test}
-use Rattle.reply.proofs.Lengths.{length-code, length-reply, length-pause}
+use Rattle.reply.proofs.Lengths.{length-code, length-reply, length-event}
 use Rattle.refine.proofs.Frames.{message-past, enter-past}
 use Rattle.refine.proofs.Simulate.{both}
 
@@ -60,7 +63,7 @@ idle-bytes : (c : Call) (r q : Told) → r .answer .count ≡ 0 → q .answer .c
 unfolding ownBytes
 idle-bytes (message msg out guest) r q h g = rw (h, g)
 idle-bytes (ready vcpu) r q h g = rw (h, g)
-idle-bytes (enter vcpu block out) r q h g = rw (h, g)
+idle-bytes (enter vcpu block event own out) r q h g = rw (h, g)
 idle-bytes (writeImage out) r q h g = rw (h, g)
 
 idle : (c : Call) (a : Paper) → a .count ≡ 0 → (st : State) (out out′ guest guest′ : List ℕ)
@@ -166,7 +169,7 @@ module _ (st : State) (guest guest′ d : List ℕ) where
   change-same (SetPages view count) = (refl, refl, λ l. l)
   change-same (SetSinglestep on vcpu) = (refl, refl, λ l. l)
   change-same (SetReplies now mode) = (refl, refl, λ l. l)
-  change-same (EndWait crash vcpu) = (refl, refl, λ l. l)
+  change-same (EndWait resumes vcpu action value) = (refl, refl, λ l. l)
 
 -- ---- a message
 module _ (msg out out′ : List ℕ) (lo : length out ≡ length out′) where
@@ -240,62 +243,107 @@ module _ (msg out out′ : List ℕ) (lo : length out ≡ length out′) where
     message-same = message-inside (message-past st msg out guest .inside)
 
 -- ---- an entry
--- a pause event's first 16 bytes: they know of the registers the length alone
-abbrev event-head : ℕ → ℕ → ℕ → List ℕ
-event-head seq vcpu n = le 2 17 ++ le 2 n ++ le 4 seq ++ le 2 544 ++ le 2 vcpu ++ le 1 2 ++ replicate 3 0
+-- an event's first 16 bytes: they know of the registers and of its own bytes the length alone
+abbrev event-head : ℕ → ℕ → ℕ → ℕ → List ℕ
+event-head seq vcpu event n = le 2 17 ++ le 2 n ++ le 4 seq ++ le 2 544 ++ le 2 vcpu ++ le 1 event ++ replicate 3 0
 
-abbrev event-size : ℕ → List ℕ → ℕ
-event-size vcpu block = length (le 2 544 ++ le 2 vcpu ++ le 1 2 ++ replicate 3 0 ++ block ++ [])
+abbrev event-size : ℕ → ℕ → List ℕ → List ℕ → ℕ
+event-size vcpu event block own = length (le 2 544 ++ le 2 vcpu ++ le 1 event ++ replicate 3 0 ++ block ++ own)
 
-event-head-length : (seq vcpu n : ℕ) → length (event-head seq vcpu n) ≡ 16
-event-head-length seq vcpu n = simp (length-append, length-le)
+event-head-length : (seq vcpu event n : ℕ) → length (event-head seq vcpu event n) ≡ 16
+event-head-length seq vcpu event n = simp (length-append, length-le)
 
-event-front : (seq vcpu : ℕ) (block : List ℕ) → take 16 (pauseEvent seq vcpu block) ≡ event-head seq vcpu (event-size vcpu block)
-unfolding pauseEvent eventBytes messageBytes
-event-front seq vcpu block =
-    let split : pauseEvent seq vcpu block ≡ event-head seq vcpu (event-size vcpu block) ++ (block ++ []) = simp append-assoc in
-    ap (take 16) split ∙ take-at (event-head seq vcpu (event-size vcpu block)) (block ++ []) 16 (event-head-length seq vcpu _)
+event-front : (seq vcpu event : ℕ) (block own : List ℕ) → take 16 (eventBytes seq vcpu event block own) ≡ event-head seq vcpu event (event-size vcpu event block own)
+unfolding eventBytes messageBytes
+event-front seq vcpu event block own =
+    let n = event-size vcpu event block own in
+    let split : eventBytes seq vcpu event block own ≡ event-head seq vcpu event n ++ (block ++ own) = simp append-assoc in
+    ap (take 16) split ∙ take-at (event-head seq vcpu event n) (block ++ own) 16 (event-head-length seq vcpu event n)
 
-module _ (vcpu : ℕ) (block block′ out out′ : List ℕ) (lb : length block ≡ length block′) (lo : length out ≡ length out′) (st : State) where
+-- what is sent in two runs
+record SentAlike (x y : Sent) : Type 0 where
+  long : length (x .bytes) ≡ length (y .bytes)
+  front : take 16 (x .bytes) ≡ take 16 (y .bytes)
+  words : x .vcpus ≡ y .vcpus
+  next : x .next ≡ y .next
+
+-- an event of two runs
+events-alike : (seq vcpu event : ℕ) (block block′ own own′ : List ℕ) → length block ≡ length block′ → length own ≡ length own′ → (words : List ℕ) (next : ℕ)
+    → SentAlike (record { bytes = eventBytes seq vcpu event block own; vcpus = words; next = next }) (record { bytes = eventBytes seq vcpu event block′ own′; vcpus = words; next = next })
+events-alike seq vcpu event block block′ own own′ lb lw words next =
+    let n : event-size vcpu event block own ≡ event-size vcpu event block′ own′ = simp (length-append, lb, lw) in
+    let p = length-event seq vcpu event block own in
+    let q = length-event seq vcpu event block′ own′ in
+    record {
+      long = omega arith;
+      front = event-front seq vcpu event block own ∙ ap (event-head seq vcpu event) n ∙ sym (event-front seq vcpu event block′ own′);
+      words = refl;
+      next = refl;
+    }
+
+module _ (vcpu : ℕ) (block block′ : List ℕ) (event : ℕ) (own own′ out out′ : List ℕ) (lb : length block ≡ length block′) (lw : length own ≡ length own′)
+    (cr : crNamed own ≡ crNamed own′) (msr : msrNamed own ≡ msrNamed own′) (lo : length out ≡ length out′) (st : State) where
   abbrev Enters : Told → Told → Type 0
-  Enters = SameFor (enter vcpu block out)
+  Enters = SameFor (enter vcpu block event own out)
 
   stays : (k : ℕ) → Enters (toldSame k st out []) (toldSame k st out′ [])
-  stays k = idle (enter vcpu block out) (plain k) refl st out out′ [] []
+  stays k = idle (enter vcpu block event own out) (plain k) refl st out out′ [] []
 
-  event-same : (seq : ℕ) → take 16 (pauseEvent seq vcpu block) ≡ take 16 (pauseEvent seq vcpu block′)
-  event-same seq =
-      let n : event-size vcpu block ≡ event-size vcpu block′ = simp (length-append, lb) in
-      event-front seq vcpu block ∙ ap (event-head seq vcpu) n ∙ sym (event-front seq vcpu block′)
+  -- of its own bytes the switches that an event asks for know the register alone
+  asked-same : (vmEvents : ℕ) (w : List ℕ) → isAskedForOf vmEvents w vcpu event own ≡ isAskedForOf vmEvents w vcpu event own′
+  unfolding isAskedForOf askedForBy
+  asked-same vmEvents w = by (eventRowOf event .switch)
+    where
+      by : (x : EventSwitch) → askedForBy vmEvents w vcpu event own x ≡ askedForBy vmEvents w vcpu event own′ x
+      by Unoffered = refl
+      by NoEvent = refl
+      by OfVm = refl
+      by OfVcpu = refl
+      by OfCr = rw cr
+      by OfMsr = rw msr
 
-  pausing-same : Inside out Enters (pausingOf st vcpu block out) (pausingOf st vcpu block′ out′)
-  unfolding pausingOf ownBytes
-  pausing-same fits =
+  sent-same : SentAlike (sentOf st vcpu block event own) (sentOf st vcpu block′ event own′)
+  unfolding sentOf sendingOf unqueueingOf pausingOf pauseEvent
+  sent-same =
       let seq = st .session .tool .seq in
-      let b = pauseEvent seq vcpu block in
-      let c = pauseEvent seq vcpu block′ in
-      let n : length b ≡ length c = length-pause seq vcpu block ∙ ap (λ (k : ℕ). 16 + k) lb ∙ sym (length-pause seq vcpu block′) in
+      rw (← asked-same (st .session .tool .events) (st .vcpus))
+      (both SentAlike (isAskedForOf (st .session .tool .events) (st .vcpus) vcpu event own) _ _ _ _
+      (λ _. events-alike seq vcpu event block block′ own own′ lb lw _ _)
+      (λ _. both SentAlike (leb 1 (field (st .vcpus) vcpu PAUSES)) _ _ _ _ (λ _. events-alike seq vcpu 2 block block′ [] [] lb refl _ _)
+      (λ _. record { long = refl; front = refl; words = refl; next = refl })))
+
+  told-same : (x y : Sent) → SentAlike x y → Inside out Enters (toldSent st x out) (toldSent st y out′)
+  unfolding ownBytes
+  told-same x y a fits =
+      let b = x .bytes in
+      let c = y .bytes in
+      let n = a .long in
       let one : take (length b) (store out 0 b) ≡ b = written-is b Quiet st out [] fits in
       let two : take (length c) (store out′ 0 c) ≡ c = written-is c Quiet st out′ [] (omega arith) in
-      record { answer = ap (λ (k : ℕ). handled k Quiet) n; state = refl; bytes = rw (one, two) (event-same seq) }
+      record {
+        answer = ap (λ (k : ℕ). handled k Quiet) n;
+        state = λ j. withSeqOf (withVcpuWords st (a .words j)) (a .next j);
+        bytes = rw (one, two) (a .front);
+      }
 
   abbrev Enters-in : Told → Told → Type 0
   Enters-in = Inside out Enters
 
-  enter-inside : Enters-in (enterOf st vcpu block out) (enterOf st vcpu block′ out′)
-  unfolding enterOf
+  fits-same : not (eqb (length block) stateBytes && offerFits event own) ≡ not (eqb (length block′) stateBytes && offerFits event own′)
+  unfolding offerFits
+  fits-same = λ j. not (eqb (lb j) stateBytes && (isOffered (eventRowOf event .switch) && eqb (lw j) (eventRowOf event .own)))
+
+  enter-inside : Enters-in (enterOf st vcpu block event own out) (enterOf st vcpu block′ event own′ out′)
+  unfolding enterOf enteredOf
   enter-inside =
       both Enters-in (isClosed st) _ _ _ _ (λ _ _. stays 2)
       (λ _. both Enters-in (leb (st .session .settings .vcpus) vcpu) _ _ _ _ (λ _ _. stays 4)
-      (λ _. on-both Enters-in (not (eqb (length block) stateBytes)) (not (eqb (length block′) stateBytes)) (ap (λ (n : ℕ). not (eqb n stateBytes)) lb) _ _ _ _
-      (λ _ _. stays 5)
+      (λ _. on-both Enters-in _ _ fits-same _ _ _ _ (λ _ _. stays 5)
       (λ _. on-both Enters-in (ltb (length out) eventOut) (ltb (length out′) eventOut) (ap (λ (n : ℕ). ltb n eventOut) lo) _ _ _ _ (λ _ _. stays 3)
-      (λ _. both Enters-in (not (eqb (field (st .vcpus) vcpu AWAITED) 0)) _ _ _ _ (λ _ _. stays 6)
-      (λ _. both Enters-in (leb 1 (field (st .vcpus) vcpu PAUSES)) _ _ _ _ (λ _. pausing-same)
-      (λ _ _. idle (enter vcpu block out) (handled 0 Quiet) refl st (store out 0 []) (store out′ 0 []) [] []))))))
+      (λ _. both Enters-in (not (eqb (field (st .vcpus) vcpu AWAITED) 0)) _ _ _ _ (λ _ _. stays 6) (λ _. told-same _ _ sent-same)))))
 
-  enter-same : Enters (enterOf st vcpu block out) (enterOf st vcpu block′ out′)
-  enter-same = enter-inside (enter-past st vcpu block out .inside)
+  enter-same : Enters (enterOf st vcpu block event own out) (enterOf st vcpu block′ event own′ out′)
+  enter-same = enter-inside (enter-past st vcpu block event own out .inside)
 
 -- ---- an image
 module _ (out out′ : List ℕ) (lo : length out ≡ length out′) (st : State) where
@@ -321,7 +369,7 @@ unfolding stepOf ownBytes
 call-same st c d (messages msg out out′ guest guest′ lo lg) =
     let same = message-same msg out out′ lo st guest guest′ lg in record { answer = same .answer; state = same .state; bytes = same .bytes }
 call-same st c d (readies vcpu) = record { answer = refl; state = refl; bytes = refl }
-call-same st c d (enters vcpu block block′ out out′ lb lo) = enter-same vcpu block block′ out out′ lb lo st
+call-same st c d (enters vcpu block block′ event own own′ out out′ lb lw cr msr lo) = enter-same vcpu block block′ event own own′ out out′ lb lw cr msr lo st
 call-same st c d (writes out out′ lo) = image-same out out′ lo st
 
 -- ---- lists of calls
@@ -330,7 +378,7 @@ own-alike : (c d : Call) → Alike c d → (r : Told) → ownBytes c r ≡ ownBy
 unfolding ownBytes
 own-alike c d (messages msg out out′ guest guest′ lo lg) r = refl
 own-alike c d (readies vcpu) r = refl
-own-alike c d (enters vcpu block block′ out out′ lb lo) r = refl
+own-alike c d (enters vcpu block block′ event own own′ out out′ lb lw cr msr lo) r = refl
 own-alike c d (writes out out′ lo) r = refl
 
 -- what lists of calls give

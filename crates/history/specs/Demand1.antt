@@ -20,6 +20,7 @@ use Rattle.kvmi.specs.Bits.{among}
 use Rattle.kvmi.specs.Limits.{leastOut, eventOut, stateBytes}
 use Rattle.kvmi.specs.Model.{awaitedBy, isSome}
 use Rattle.kvmi.specs.Message.{vcpuOf}
+use Rattle.kvmi.specs.Event.{eventRowOf}
 use Rattle.kvmi.specs.Verdict.{verdict}
 use Rattle.kvmi.specs.Image.{image, badForm, forbidden, loadImage}
 use Rattle.session.specs.State.{State, closedSession}
@@ -53,6 +54,14 @@ IsVcpu st vcpu = vcpu < st .session .settings .vcpus
 
 abbrev pub NoVcpu : State → ℕ → Type 0
 NoVcpu st vcpu = st .session .settings .vcpus ≤ vcpu
+
+-- "events 3, 4, 5, 7, 8, 9, 11, 12 and 14", "or 0 for none": the numbers of what an entry is offered
+abbrev pub offers : List ℕ
+offers = 0 ∷ 3 ∷ 4 ∷ 5 ∷ 7 ∷ 8 ∷ 9 ∷ 11 ∷ 12 ∷ 14 ∷ []
+
+-- what an entry is lent beside its output: a register block of 536 bytes, and one of these events with as many bytes of its own as its row says
+abbrev pub Lent : List ℕ → ℕ → List ℕ → Type 0
+Lent block event own = (length block ≡ stateBytes) × So (among event offers) × (length own ≡ eventRowOf event .own)
 
 -- "that vCPU's event reply is awaited"
 abbrev pub Awaits : State → ℕ → Type 0
@@ -121,18 +130,18 @@ pub record MessageAnswers (st : State) (msg out guest : List ℕ) (r : Told) : T
   pub past : Past out r
 
 -- ---- "entry 2, 4, 5, 3, 6"
-pub record EntryAnswers (st : State) (vcpu : ℕ) (block out : List ℕ) (r : Told) : Type 0 where
+pub record EntryAnswers (st : State) (vcpu : ℕ) (block : List ℕ) (event : ℕ) (own out : List ℕ) (r : Told) : Type 0 where
   pub numbers : OneOf (0 ∷ 2 ∷ 3 ∷ 4 ∷ 5 ∷ 6 ∷ []) r
   -- "2 closed | session was closed"
   pub closed : Answers r 2 ↔ Closed st
   -- "4 bad vCPU | host call names a vCPU not below the count"
   pub badVcpu : Answers r 4 ↔ (Open st × NoVcpu st vcpu)
-  -- "5 bad state block | lent register block is not 536 bytes"
-  pub badBlock : Answers r 5 ↔ (Open st × IsVcpu st vcpu × (length block ≢ stateBytes))
-  -- "3 short out | output below [..] 552 (entry)"
-  pub short : Answers r 3 ↔ (Open st × IsVcpu st vcpu × (length block ≡ stateBytes) × (length out < eventOut))
+  -- "5 bad state block | lent register block is not 536 bytes"; "another number, or lent event bytes of the wrong length, switched on or off, is answer 5"
+  pub badBlock : Answers r 5 ↔ (Open st × IsVcpu st vcpu × (Lent block event own → ⊥))
+  -- "entry output below 576 is answer 3"
+  pub short : Answers r 3 ↔ (Open st × IsVcpu st vcpu × Lent block event own × (length out < eventOut))
   -- "6 waiting | that vCPU's event reply is awaited"
-  pub waiting : Answers r 6 ↔ (Open st × IsVcpu st vcpu × (length block ≡ stateBytes) × (eventOut ≤ length out) × Awaits st vcpu)
+  pub waiting : Answers r 6 ↔ (Open st × IsVcpu st vcpu × Lent block event own × (eventOut ≤ length out) × Awaits st vcpu)
   -- "none"
   pub refused : Refuses st out [] r
   -- "After answers 0 and 1, output past the count is untouched."
@@ -170,6 +179,6 @@ pub record Demand1 : Type 0 where
   pub fresh : (s : Settings) (vcpus pages : List ℕ) → FreshAnswers s vcpus pages (freshOf s vcpus pages)
   pub ready : (st : State) (vcpu : ℕ) → ReadyAnswers st vcpu (readyOf st vcpu)
   pub message : (st : State) (msg out guest : List ℕ) → MessageAnswers st msg out guest (messageOf st msg out guest)
-  pub enter : (st : State) (vcpu : ℕ) (block out : List ℕ) → EntryAnswers st vcpu block out (enterOf st vcpu block out)
+  pub enter : (st : State) (vcpu : ℕ) (block : List ℕ) (event : ℕ) (own out : List ℕ) → EntryAnswers st vcpu block event own out (enterOf st vcpu block event own out)
   pub writeImage : (st : State) (out : List ℕ) → WriterAnswers st out (imageOf st out)
   pub readImage : (s : Settings) (l vcpus pages : List ℕ) → ReaderAnswers s l vcpus pages (readOf s l vcpus pages)

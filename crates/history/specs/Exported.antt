@@ -44,8 +44,8 @@ pub record Exported : Type 0 where
   pub ready : (st : State) (vcpu : ℕ) → st .session .settings .vcpus ≤ 65535 → OnSession st (readyGiven (st .session) vcpu) (stepOf st (ready vcpu))
   pub message : (st : State) (msg out guest : List ℕ)
       → messageGiven (st .session) (st .vcpus) (st .pages) msg out guest ≡ given (stepOf st (message msg out guest))
-  pub enter : (st : State) (vcpu : ℕ) (block out : List ℕ) → st .session .settings .vcpus ≤ 65535
-      → OnVcpus st (enterGiven (st .session) (st .vcpus) vcpu block out) (stepOf st (enter vcpu block out))
+  pub enter : (st : State) (vcpu : ℕ) (block : List ℕ) (event : ℕ) (own out : List ℕ) → st .session .settings .vcpus ≤ 65535
+      → OnVcpus st (enterGiven (st .session) (st .vcpus) vcpu block event own out) (stepOf st (enter vcpu block event own out))
   pub writeImage : (st : State) (out : List ℕ) → OnOutput st (writeGiven (st .session) (st .vcpus) (st .pages) out) (stepOf st (writeImage out))
   -- the length that an output must have
   pub imageSize : (st : State) → sizeGiven (st .session) (st .vcpus) (st .pages) ≡ imageLength st

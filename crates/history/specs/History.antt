@@ -23,7 +23,7 @@ use Rattle.image_reader.specs.Read.{readOf}
 unfoldable pub stepOf : State → Call → Told
 stepOf st (message msg out guest) = messageOf st msg out guest
 stepOf st (ready vcpu) = readyOf st vcpu
-stepOf st (enter vcpu block out) = enterOf st vcpu block out
+stepOf st (enter vcpu block event own out) = enterOf st vcpu block event own out
 stepOf st (writeImage out) = imageOf st out
 
 unfoldable pub afterOf : State → List Call → State

@@ -1,5 +1,5 @@
 -- The guest can't steer the filter. Two runs of a call that agree on everything but what the guest has a part in agree on answer, session, tables and
--- the bytes that go out, but for the data of VM_READ_PHYSICAL's reply and the registers in an event; and so do two runs of every list of calls.
+-- the bytes that go out, but for the data of VM_READ_PHYSICAL's reply and the registers and own bytes of an event; and so do two runs of every list of calls.
 -- A host may reuse its output buffer: what an earlier read left in it moves nothing. Said of any session whatever, well formed or not.
 use mathlib.Core.Path.{_≡_}
 use Prim.Native.Nat.{ℕ}
@@ -11,6 +11,7 @@ use Rattle.wire.specs.Header.{headerOf}
 use Rattle.wire.specs.declared.Header.{Header}
 use Rattle.wire.specs.declared.Header.the-variants.{Whole, Broken}
 use Rattle.kvmi.specs.Answer.{Paper}
+use Rattle.kvmi.specs.Event.{crNamed, msrNamed}
 use Rattle.kvmi.specs.Call.{Call, message, ready, enter, writeImage}
 use Rattle.session.specs.State.{State}
 use Rattle.session.specs.Calls.{Told}
@@ -26,23 +27,25 @@ readsGuest Broken = false
 abbrev pub written : Told → List ℕ
 written r = take (r .answer .count) (r .out)
 
--- those of them that are not the guest's own: of VM_READ_PHYSICAL's reply, and of the event at an entry, which carries the vCPU's registers, the
--- first 16
+-- those of them that are not the guest's own: of VM_READ_PHYSICAL's reply, and of the event at an entry, which carries the vCPU's registers and the
+-- event's own bytes, the first 16
 unfoldable pub ownBytes : Call → Told → List ℕ
 ownBytes (message msg out guest) r = cond (readsGuest (headerOf msg)) (take 16 (written r)) (written r)
 ownBytes (ready vcpu) r = written r
-ownBytes (enter vcpu block out) r = take 16 (written r)
+ownBytes (enter vcpu block event own out) r = take 16 (written r)
 ownBytes (writeImage out) r = written r
 
 -- ---- two runs
--- calls that agree but for what the guest has a part in: the bytes of guest memory, a vCPU's registers, and what stands in the output before the
--- call, where an earlier read may have left the guest's bytes; all lengths agree
+-- calls that agree but for what the guest has a part in: the bytes of guest memory, a vCPU's registers, an offered event's own bytes, and what stands
+-- in the output before the call, where an earlier read may have left the guest's bytes; all lengths agree, and so do the number of an offered event and
+-- the register that its bytes name, by which its switches are found
 pub data Alike : Call → Call → Type 0 where
   messages : (msg out out′ guest guest′ : List ℕ) → length out ≡ length out′ → length guest ≡ length guest′
       → Alike (message msg out guest) (message msg out′ guest′)
   readies : (vcpu : ℕ) → Alike (ready vcpu) (ready vcpu)
-  enters : (vcpu : ℕ) (block block′ out out′ : List ℕ) → length block ≡ length block′ → length out ≡ length out′
-      → Alike (enter vcpu block out) (enter vcpu block′ out′)
+  enters : (vcpu : ℕ) (block block′ : List ℕ) (event : ℕ) (own own′ out out′ : List ℕ) → length block ≡ length block′ → length own ≡ length own′
+      → crNamed own ≡ crNamed own′ → msrNamed own ≡ msrNamed own′ → length out ≡ length out′
+      → Alike (enter vcpu block event own out) (enter vcpu block′ event own′ out′)
   writes : (out out′ : List ℕ) → length out ≡ length out′ → Alike (writeImage out) (writeImage out′)
 
 -- what is the same after two runs of a call

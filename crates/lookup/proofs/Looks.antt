@@ -48,7 +48,8 @@ map-at f (x ∷ xs) zero a b h = refl
 map-at f (x ∷ xs) (suc i) a b h = map-at f xs i a b (le-of-suc-le-suc h)
 
 -- ---- accesses below rwx
-among-every : (f : ℕ → Bool) (x : ℕ) (ys : List ℕ) → So (every f ys) → So (among x ys) → So (f x)
+-- what holds of each number of a list holds of one that stands in it
+pub among-every : (f : ℕ → Bool) (x : ℕ) (ys : List ℕ) → So (every f ys) → So (among x ys) → So (f x)
 among-every f x [] h g = clash g refl
 among-every f x (y ∷ ys) h g =
     either (eqb x y) (among x ys) g (λ e. rw (eqb-true x y e) (every-head f y ys h)) (λ e. among-every f x ys (every-tail f y ys h) e)

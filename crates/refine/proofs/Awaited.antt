@@ -5,13 +5,13 @@ use Prim.Native.Nat.{ℕ, zero, suc, _+_, _*_, _≤_, _<_}
 use native.Mathlib.Nat.{zero-add, add-suc, suc-add, le-of-suc-le-suc, not-suc-le-zero}
 use native.Mathlib.Omega.{arith}
 use mathlib.Core.List.{List, [], _∷_}
-use mathlib.Core.Bool.{Bool, true, false, cond}
+use mathlib.Core.Bool.{Bool, true, false, cond, not}
 use mathlib.Core.Option.{Option, none, some}
 use lib.ListN.{length, getD, set, replicate, length-set}
 use lib.Seq.{ext-getD, getD-set-same, getD-set-other}
 use lib.Dec.{eqb}
 use borrow.Author.Tests.{eqb-true, eqb-false, eq-eqb, ne-eqb}
-use Rattle.kvmi.specs.Model.{Awaited, awaiting}
+use Rattle.kvmi.specs.Model.{Awaited, awaiting, isSome}
 use Rattle.kvmi.specs.Verdict.{awaitedEvent, awaitedSeq}
 use Rattle.store.specs.Words.{field, setField, setMsrBit, AWAITED, AWAITED-SEQ}
 use Rattle.session.specs.Meaning.{awaitedIn, awaitedOf}
@@ -60,6 +60,11 @@ awaited-none w i e = rw e
 pub awaited-some : (w : List ℕ) (i event seq : ℕ) → field w i AWAITED ≡ event → field w i AWAITED-SEQ ≡ seq → (event ≡ 0 → ⊥) → awaitedIn w i ≡ some (awaiting event seq)
 unfolding awaitedIn
 awaited-some w i event seq p q d = rw (p, q, ne-eqb event 0 d)
+
+-- it is there where its word is not 0
+pub awaited-there : (w : List ℕ) (i : ℕ) → isSome (awaitedIn w i) ≡ not (eqb (field w i AWAITED) 0)
+unfolding awaitedIn
+awaited-there w i = test (eqb (field w i AWAITED) 0) (λ e. rw e) (λ e. rw e)
 
 zeros-from : (k i n : ℕ) → awaitedOf (replicate k 0) i n ≡ replicate n none
 unfolding awaitedOf

@@ -61,7 +61,7 @@ use Rattle.refine.proofs.Frames.{error-length, data-fits, sent-length}
 use Rattle.refine.proofs.Pages.{none-good}
 use Rattle.refine.proofs.Msrs.{zeros-field, zeros-msrs}
 use Rattle.refine.proofs.Vcpus.{zeros-vcpus, vcpus-ready, vcpus-pauses}
-use Rattle.refine.proofs.Awaited.{zeros-awaited}
+use Rattle.refine.proofs.Awaited.{awaited-there, zeros-awaited}
 use Rattle.refine.proofs.Words.{few-vcpus, tool-kept, shared-kept, vcpu-means, awaited-means, asked-means, facts-mean, block-inside, field-kept, awaited-kept}
 use Rattle.refine.proofs.Changes.{field-model, await-model, Meant, pause-meant, event-meant, cr-meant, single-meant, msr-meant, vm-event-meant, replies-meant, pages-meant, end-meant}
 
@@ -372,12 +372,7 @@ module _ (st : State) (f : WellFormed st) (v : ℕ) (inside : v < st .session .s
 
 -- an event is awaited where its word is not 0
 awaits-same : (st : State) → WordsGood st → (v : ℕ) → isSome (awaitedBy (modelOf st) v) ≡ not (eqb (field (st .vcpus) v AWAITED) 0)
-unfolding awaitedIn
-awaits-same st g v = ap isSome (awaited-means st g v) ∙ by (eqb (field (st .vcpus) v AWAITED) 0) _
-  where
-    by : (b : Bool) (a : Awaited) → isSome (cond b none (some a)) ≡ not b
-    by true a = refl
-    by false a = refl
+awaits-same st g v = ap isSome (awaited-means st g v) ∙ awaited-there (st .vcpus) v
 
 pub enter-simulates : (st : State) → WellFormed st → (v : ℕ) (block : List ℕ) (event : ℕ) (own out : List ℕ)
     → Simulates st (enterOf st v block event own out) (model.enterStep (st .session .settings) (modelOf st) v block event own out)
