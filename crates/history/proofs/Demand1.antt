@@ -36,10 +36,9 @@ use Rattle.image_reader.specs.Read.{toldLoaded, readOf}
 use Rattle.refine.specs.Frames.{Refuses, Past}
 use Rattle.history.specs.Demand1.{Answers, OneOf, Closed, Open, IsVcpu, NoVcpu, offers, Lent, Awaits, AwaitsAny, imageLength, InRange, saidOf, RuleCloses, FreshAnswers, ReadyAnswers, MessageAnswers, EntryAnswers, WriterAnswers, ReaderAnswers, Demand1}
 use Rattle.wire.proofs.Laws.{le-or-lt}
-use Rattle.laws.proofs.Bool.{and-l, and-r, either, or-l, or-r, test, clash, same-test}
+use Rattle.laws.proofs.Bool.{and-l, and-r, either, or-l, or-r, test, clash, same-test, among-every}
 use Rattle.laws.proofs.Verdicts.{pick}
 use Rattle.reply.proofs.Data.{below}
-use Rattle.lookup.proofs.Looks.{among-every}
 use Rattle.refine.proofs.Awaited.{awaited-length, awaited-at, awaited-there}
 use Rattle.refine.proofs.Frames.{same-refuses, same-past, written-past, message-refuses, ready-refuses, enter-refuses, message-past, enter-past}
 

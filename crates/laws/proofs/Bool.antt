@@ -1,10 +1,12 @@
 -- Tests, and what holds of every entry of a list. Assumes nothing.
 use mathlib.Core.Path.{_≡_, refl, sym, ap, _∙_}
-use Prim.Native.Nat.{ℕ, zero, suc}
+use Prim.Native.Nat.{ℕ, zero, suc, _<_}
 use mathlib.Core.List.{List, [], _∷_, _++_}
 use mathlib.Core.Bool.{Bool, true, false, cond, _&&_, _||_, So, and-eq-true-iff, false≢true, or-true}
 use lib.ListN.{length, getD, set, replicate}
-use Rattle.kvmi.specs.Bits.{every}
+use lib.Dec.{ltb, eqb}
+use borrow.Author.Tests.{ltb-true, eqb-true}
+use Rattle.kvmi.specs.Bits.{every, among}
 
 pub and-l : (a b : Bool) → So (a && b) → So a
 and-l a b h = and-eq-true-iff a b .0 h .0
@@ -85,6 +87,16 @@ module _ {A : Type 0} (f : A → Bool) where
 pub every-and : {A : Type 0} (f g : A → Bool) (xs : List A) → So (every f xs) → So (every g xs) → So (every (λ x. f x && g x) xs)
 every-and f g [] p q = refl
 every-and f g (x ∷ xs) p q = and-i _ _ (and-i _ _ (every-head f x xs p) (every-head g x xs q)) (every-and f g xs (every-tail f x xs p) (every-tail g x xs q))
+
+-- ---- a number that stands in a list
+-- it has what each of them has
+pub among-every : (f : ℕ → Bool) (x : ℕ) (ys : List ℕ) → So (every f ys) → So (among x ys) → So (f x)
+among-every f x [] h g = clash g refl
+among-every f x (y ∷ ys) h g =
+    either (eqb x y) (among x ys) g (λ e. rw (eqb-true x y e) (every-head f y ys h)) (λ e. among-every f x ys (every-tail f y ys h) e)
+
+pub small-among : (k x : ℕ) (ys : List ℕ) → So (every (λ y. ltb y k) ys) → So (among x ys) → x < k
+small-among k x ys h g = ltb-true x k (among-every (λ y. ltb y k) x ys h g)
 
 pub length-snoc : {A : Type 0} (xs : List A) (x : A) → length (xs ++ (x ∷ [])) ≡ suc (length xs)
 length-snoc [] x = refl

@@ -4,7 +4,7 @@ use Prim.Native.Nat.{ℕ, zero, suc, _+_, _*_, _-_, _/_, _^_, _≤_, _<_, zero-l
 use native.Mathlib.Omega.{arith}
 use mathlib.Core.List.{List, [], _∷_, _++_}
 use mathlib.Core.Logic.{_≢_}
-use mathlib.Core.Bool.{Bool, true, false, cond, not, _&&_, _||_, So, false≢true}
+use mathlib.Core.Bool.{Bool, true, false, cond, not, _&&_, _||_, So}
 use lib.ListN.{length, getD, set, replicate, length-set, length-replicate}
 use lib.Seq.{getD-set-same, getD-set-other, set-out}
 use lib.Dec.{leb, eqb, ltb, lit<}
@@ -16,7 +16,7 @@ use Rattle.kvmi.specs.Settings.{inRange, allowsEvent, canSinglestep}
 use Rattle.kvmi.specs.Tables.{Vcpu, Msr, Page, Tables, resting, emptyTables, vcpuAt, setVcpu, withReady, withSinglestep, withCrs, withEvents, withPauses, crBit, isMsr}
 use Rattle.kvmi.specs.Message.{isVmEvent, isVcpuEvent}
 use Rattle.kvmi.specs.Image.{vmForm, isIdle, vcForm, msForm, vmMay, mayEnable, vcMay}
-use Rattle.laws.proofs.Bool.{and-l, and-r, and-i, or-l, or-r, either, test, clash, every-head, every-tail, every-imp, every-getD, every-set, every-replicate}
+use Rattle.laws.proofs.Bool.{and-l, and-r, and-i, or-l, or-r, either, test, clash, every-head, every-tail, every-imp, every-getD, every-set, every-replicate, small-among}
 use Rattle.laws.proofs.Bits.{bits-zero, bits-put, put-below}
 use Rattle.kvmi.specs.Valid.{Valid, vcGood}
 use Rattle.laws.proofs.Valid.{valid-vcpus}
@@ -65,15 +65,6 @@ vcpu-valid s t i v good keep a =
     (every-imp (msForm (t .vcpus)) (msForm (set (t .vcpus) i v)) (λ m h. ms-form-set (t .vcpus) i v keep m h) (t .msrs) (a .mss))
 
 -- ---- small numbers
-among-last : {C : Type 0} → So false → C
-among-last h = absurd (false≢true h)
-
--- each number of a list is below a bound, so is one that stands in it
-small-among : (k x : ℕ) (ys : List ℕ) → So (every (λ y. ltb y k) ys) → So (among x ys) → x < k
-small-among k x [] h g = among-last g
-small-among k x (y ∷ ys) h g =
-    either (eqb x y) (among x ys) g (λ e. rw (eqb-true x y e) (ltb-true y k (every-head (λ y. ltb y k) y ys h))) (λ e. small-among k x ys (every-tail (λ y. ltb y k) y ys h) e)
-
 pub vm-event-small : (e : ℕ) → So (isVmEvent e) → e < 16
 unfolding isVmEvent
 vm-event-small e h = small-among 16 e (1 ∷ 12 ∷ []) refl h

@@ -206,7 +206,7 @@ module _ (s : Settings) (vcpu : ℕ) where
   step-balanced m (writeImage out) a = image-balanced m out
 
 -- ---- a closed session stays closed
-closed-stays : (s : Settings) (m : Model) (cs : List Call) → m .closed ≡ true → after s m cs .closed ≡ true
+pub closed-stays : (s : Settings) (m : Model) (cs : List Call) → m .closed ≡ true → after s m cs .closed ≡ true
 unfolding after move step messageStep readyStep enterStep imageStep
 closed-stays s m [] h = h
 closed-stays s m (c ∷ cs) h = closed-stays s (step s m c .model) cs (one c)

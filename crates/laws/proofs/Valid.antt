@@ -6,7 +6,7 @@ use mathlib.Core.List.{List, [], _∷_}
 use mathlib.Core.Bool.{Bool, true, false, cond, _&&_, _||_, So}
 use lib.ListN.{length}
 use lib.Dec.{leb, eqb, ltb}
-use borrow.Author.Tests.{leb-true, ltb-true, eqb-true}
+use borrow.Author.Tests.{leb-true, ltb-true}
 use Rattle.kvmi.specs.declared.Settings.{Settings}
 use Rattle.kvmi.specs.Bits.{every, bitsHave, among}
 use Rattle.kvmi.specs.Ascending.{rising}
@@ -15,7 +15,7 @@ use Rattle.kvmi.specs.Message.{isVmEvent, isVcpuEvent}
 use Rattle.kvmi.specs.Image.{vmForm, vcForm, msForm, paForm, vmMay, vcMay, paMay, recordCount}
 use Rattle.kvmi.specs.Limits.{pageLimit}
 use Rattle.kvmi.specs.Valid.{Valid, vcGood, paGood}
-use Rattle.laws.proofs.Bool.{and-l, and-r, either, every-head, every-tail}
+use Rattle.laws.proofs.Bool.{and-l, and-r, every-head, every-tail, among-every}
 use Rattle.laws.proofs.Bits.{bits-small}
 use Rattle.laws.proofs.Ascending.{Side, below, level, over, side, rising-low, rising-rest}
 
@@ -63,12 +63,7 @@ ms-numbers vs m h =
     (ltb-true (m .vcpu) (length vs) (search (and-l, and-r)), seat-small (m .msr) (seated (m .msr) (search (and-l, and-r))) .1)
 
 among-small : (a : ℕ) → So (among a (0 ∷ 1 ∷ 3 ∷ 4 ∷ 5 ∷ [])) → a ≤ 5
-among-small a h =
-    either (eqb a 0) _ h (λ p. omega (arith, eqb-true a 0 p))
-    (λ h. either (eqb a 1) _ h (λ p. omega (arith, eqb-true a 1 p))
-    (λ h. either (eqb a 3) _ h (λ p. omega (arith, eqb-true a 3 p))
-    (λ h. either (eqb a 4) _ h (λ p. omega (arith, eqb-true a 4 p))
-    (λ h. either (eqb a 5) false h (λ p. omega (arith, eqb-true a 5 p)) (λ p. let z : _≡_ {A = ℕ} 0 1 = cc in omega arith)))))
+among-small a h = leb-true a 5 (among-every (λ y. leb y 5) a (0 ∷ 1 ∷ 3 ∷ 4 ∷ 5 ∷ []) refl h)
 
 pub pa-numbers : (p : Page) → So (paForm p) → (p .view ≤ 7) × (p .access ≤ 5) × (p .page < 2 ^ 52)
 unfolding paForm

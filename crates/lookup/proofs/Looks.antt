@@ -23,7 +23,7 @@ use Rattle.page_words.specs.PageWords.{keyOf, wordKey, placeOf, standsAt}
 use Rattle.page_words.specs.Meaning.{pageOfWord, pagesOf, goodWord, PagesGood}
 use Rattle.session.specs.State.{State, isClosed}
 use Rattle.session.specs.Meaning.{tablesOf, modelOf, WordsGood, WellFormed}
-use Rattle.laws.proofs.Bool.{and-l, and-r, test, either, clash, every-head, every-tail, every-getD}
+use Rattle.laws.proofs.Bool.{and-l, and-r, test, every-head, every-tail, every-getD, among-every}
 use Rattle.laws.proofs.Lookup.{access-put, access-none}
 use Rattle.refine.proofs.Awaited.{event-read}
 use Rattle.refine.proofs.Words.{few-vcpus, field-past, vcpu-means, awaited-means, event-means, cr-means, msr-past, msr-means}
@@ -48,12 +48,6 @@ map-at f (x ∷ xs) zero a b h = refl
 map-at f (x ∷ xs) (suc i) a b h = map-at f xs i a b (le-of-suc-le-suc h)
 
 -- ---- accesses below rwx
--- what holds of each number of a list holds of one that stands in it
-pub among-every : (f : ℕ → Bool) (x : ℕ) (ys : List ℕ) → So (every f ys) → So (among x ys) → So (f x)
-among-every f x [] h g = clash g refl
-among-every f x (y ∷ ys) h g =
-    either (eqb x y) (among x ys) g (λ e. rw (eqb-true x y e) (every-head f y ys h)) (λ e. among-every f x ys (every-tail f y ys h) e)
-
 access-good : (a : ℕ) → So (among a (0 ∷ 1 ∷ 3 ∷ 4 ∷ 5 ∷ [])) → So (isAccess a)
 unfolding isAccess
 access-good a h = among-every isAccess a (0 ∷ 1 ∷ 3 ∷ 4 ∷ 5 ∷ []) refl h

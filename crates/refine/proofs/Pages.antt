@@ -19,7 +19,7 @@ use Rattle.kvmi.specs.Verdict.{isAccess}
 use Rattle.kvmi.specs.Change.{Run, pageOf, isSkipped, setPage, takeEntry, takeEntries}
 use Rattle.page_words.specs.PageWords.{wordKey, keyOf, bisect, placeOf, standsAt, insertWord, removeWord, PageTable, pageTable, changeWord, addWord, putEntry, nearPlace, putNear, hintAfter, putEntries, runEntries}
 use Rattle.page_words.specs.Meaning.{pageOfWord, pagesOf, goodWord, PagesGood}
-use Rattle.laws.proofs.Bool.{and-l, and-r, and-i, either, test, clash, every-head, every-tail, every-cons}
+use Rattle.laws.proofs.Bool.{and-l, and-r, and-i, either, test, clash, every-head, every-tail, every-cons, small-among}
 use Rattle.laws.proofs.Ascending.{has-past, Side, below, level, over, side, put-cases, forget-cases, has-cases, rising-low, rising-rest, rising-put, rising-forget, every-put, every-forget, forget-none}
 
 -- ---- bisection
@@ -372,11 +372,6 @@ module _ (ws : List ℕ) (count : ℕ) (g : PagesGood ws count) {vs : List ℕ} 
       }
 
 -- ---- accesses
-small-among : (k x : ℕ) (ys : List ℕ) → So (every (λ y. ltb y k) ys) → So (among x ys) → x < k
-small-among k x [] h g = clash g refl
-small-among k x (y ∷ ys) h g =
-    either (eqb x y) (among x ys) g (λ e. rw (eqb-true x y e) (ltb-true y k (every-head (λ y. ltb y k) y ys h))) (λ e. small-among k x ys (every-tail (λ y. ltb y k) y ys h) e)
-
 pub access-small : (a : ℕ) → So (isAccess a) → a < 8
 unfolding isAccess
 access-small a h = small-among 8 a (0 ∷ 1 ∷ 3 ∷ 4 ∷ 5 ∷ 7 ∷ []) refl h
