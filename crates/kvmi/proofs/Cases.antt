@@ -21,6 +21,7 @@ use Rattle.kvmi.specs.Case.{Case, seen, cases}
 use Rattle.kvmi.proofs.Edge.{Edge, outcome}
 use Rattle.kvmi.proofs.MessageEdges.{ofMessages, paddings, paddingsSeen}
 use Rattle.kvmi.proofs.SessionEdges.{ofSessions, lookups, lookupsSeen, accesses, accessesSeen, skips, skipsSeen}
+use Rattle.kvmi.proofs.EventEdges.{ofEvents}
 use Rattle.kvmi.proofs.ImageEdges.{ofImages, pageLimitLoads, pageLimitSeen}
 
 abbrev Right : List Case → Type 0
@@ -29,9 +30,9 @@ Right cs = map seen cs ≡ map (λ (c : Case). c .expected) cs
 abbrev As-expected : List Edge → Type 0
 As-expected es = map outcome es ≡ map (λ (e : Edge). e .expected) es
 
-computed : Right cases × As-expected ofMessages × As-expected ofSessions × As-expected ofImages
+computed : Right cases × As-expected ofMessages × As-expected ofSessions × As-expected ofEvents × As-expected ofImages
 unfolding le num load store isWhole headerOf twos codeBytes bitOf isOn putBit bitsHave writeRow readRow inRange isSet allowsCommand allowsEvent canSinglestep uncatchable heldByHost isCr crBit isMsr nextSeq layoutOf sizeFits namesVcpu vcpuOf enableAt enables switchesAt eventOf registerOf gpaOf sizeOf countOf countFits viewOf entryOf entriesOf entryPadding padding firstNonZero firstOfRuns firstPadding isVmEvent isVcpuEvent takesEvent vmEventOn eventOn crOn msrIn msrOn eventRowOf offerFits asksFor isAskedFor isAccess inOnePage isInvalid isUnready isDenied isUnsupported isBusy pageExists isAbsent changeOf losesErrors commandVerdict isAwaited replyFits eventReplyVerdict verdict isSkipped setPage takeEntry takeEntries setMsr apply messageBytes replyBytes replyData eventBytes pauseEvent commandErrorEvent answerBytes answerSeq answerOf kindAt image vmForm isIdle vcForm msForm paForm vmMay mayEnable vcMay paMay loadImage beginFresh beginFrom answering judged headed messageStep readyStep sending pausing unqueueing entering enterStep imageStep step seen outcome
-computed = (refl, refl, refl, refl)
+computed = (refl, refl, refl, refl, refl)
 
 pub cases-right : Right cases
 cases-right = computed .0
@@ -42,8 +43,11 @@ of-messages-right = computed .1
 pub of-sessions-right : As-expected ofSessions
 of-sessions-right = computed .2
 
+pub of-events-right : As-expected ofEvents
+of-events-right = computed .3
+
 pub of-images-right : As-expected ofImages
-of-images-right = computed .3
+of-images-right = computed .4
 
 -- the skip rule
 pub skips-right : skips ≡ skipsSeen

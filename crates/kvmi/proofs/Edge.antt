@@ -1,6 +1,6 @@
 -- Edges that a wrong reading would get wrong. An edge is a row as in `Case`, seen whole: its last call's answer, all of its output and guest memory,
 -- the image of the tables after it, and what stands beside them. Here are rows and what they are made of; the rows themselves are in
--- `MessageEdges`, `SessionEdges` and `ImageEdges`.
+-- `MessageEdges`, `SessionEdges`, `EventEdges` and `ImageEdges`.
 use Prim.Native.Nat.{ℕ, _-_, _^_}
 use mathlib.Core.List.{List, [], _∷_, _++_}
 use mathlib.Core.Bool.{Bool, true, false}
@@ -197,9 +197,12 @@ beside mode seq awaited = record { mode = mode; seq = seq; awaited = awaited; cl
 abbrev pub nobody : List (Option Awaited)
 nobody = none ∷ none ∷ []
 
--- a pause event's reply, by the event's seq
+-- an event's reply, by event and seq; a pause event's
+abbrev pub awaitsOf : ℕ → ℕ → Option Awaited
+awaitsOf event seq = some (awaiting event seq)
+
 abbrev pub awaits : ℕ → Option Awaited
-awaits seq = some (awaiting 2 seq)
+awaits seq = awaitsOf 2 seq
 
 abbrev pub quiet : Beside
 quiet = beside On 0 nobody

@@ -4,4 +4,5 @@ mod Past
 mod Edge
 mod MessageEdges
 mod SessionEdges
+mod EventEdges
 mod ImageEdges

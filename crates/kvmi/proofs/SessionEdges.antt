@@ -120,13 +120,15 @@ eventEdges =
     ∷ wrong 0 (answerData 1 0 2)
     ∷ wrong 0 (answerData 2 0 2)
     ∷ wrong 0 (answerData 0x100 0 2)
-    -- padding; one byte more, one fewer
+    -- padding; one byte more, one fewer; eight more, as of a CR event
     ∷ wrong 0 (set (answerData 0 0 2) 2 1)
     ∷ wrong 0 (set (answerData 0 0 2) 7 1)
     ∷ wrong 0 (set (answerData 0 0 2) 10 1)
     ∷ wrong 0 (set (answerData 0 0 2) 15 1)
     ∷ wrong 0 (answerData 0 0 2 ++ (0 ∷ []))
     ∷ wrong 0 (take 15 (answerData 0 0 2))
+    ∷ wrong 0 (answerData 0 0 2 ++ replicate 8 0)
+    ∷ wrong 0 (answerData 0 0 5 ++ replicate 8 0)
     -- none is awaited, whatever event is named
     ∷ afresh two (eventReply 0 0 0 2 ∷ []) closing
     ∷ afresh two (eventReply 0 0 0 1 ∷ []) closing
