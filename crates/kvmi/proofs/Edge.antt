@@ -179,7 +179,7 @@ ms vcpu msr = 0x4D ∷ 0x53 ∷ vcpu ∷ 0 ∷ le 4 msr
 abbrev pub pa : ℕ → ℕ → ℕ → List ℕ
 pa view n access = 0x50 ∷ 0x41 ∷ view ∷ 0 ∷ access ∷ 0 ∷ le 8 n
 
-abbrev pub joined : List (List ℕ) → List ℕ
+abbrev pub joined {ℓ} : {A : Type ℓ} → List (List A) → List A
 joined [] = []
 joined (l ∷ ls) = l ++ joined ls
 

@@ -5,6 +5,7 @@ use mathlib.Core.Bool.{true}
 use mathlib.Core.Option.{Option, none}
 use lib.ListN.{take, drop, set, replicate}
 use Rattle.wire.specs.Bytes.{le}
+use Rattle.kvmi.specs.declared.ReplyMode.{ReplyMode}
 use Rattle.kvmi.specs.declared.ReplyMode.the-variants.{On, Off, ErrorsOnly}
 use Rattle.kvmi.specs.declared.Signal.the-variants.{Quiet, Crash, Resume}
 use Rattle.kvmi.specs.Answer.{handled, plain}
@@ -149,16 +150,12 @@ unfit image number own = started two (fromBytes image) (enter 0 registers number
 abbrev pub misfit : Event → List ℕ → List Edge
 misfit e own = unfit (asking e 1) (e .number) own ∷ unfit (allBut e 1) (e .number) own ∷ []
 
-abbrev pub joinedEdges : List (List Edge) → List Edge
-joinedEdges [] = []
-joinedEdges (l ∷ ls) = l ++ joinedEdges ls
-
 abbrev pub offerEdges : List Edge
 offerEdges =
     -- what is asked for goes out, and pauses stay queued; what is not is passed over, and a pause goes instead
     map (goes 0) events ++ map (goes 3) events ++ map passedOver events ++ map pauseInstead events
     -- one byte more, one byte fewer
-    ++ joinedEdges (map (λ (e : Event). misfit e (e .own ++ (0 ∷ []))) events) ++ joinedEdges (map (λ (e : Event). misfit e (drop 1 (e .own))) (detailed ++ valued))
+    ++ joined (map (λ (e : Event). misfit e (e .own ++ (0 ∷ []))) events) ++ joined (map (λ (e : Event). misfit e (drop 1 (e .own))) (detailed ++ valued))
     -- other numbers, with every switch on, none cut to its low bytes; and 0 with bytes
     ++ map (λ number. unfit (all 3) number []) (1 ∷ 2 ∷ 6 ∷ 10 ∷ 13 ∷ 15 ∷ 16 ∷ 255 ∷ 0x103 ∷ 0x10003 ∷ [])
     ++ map (λ number. unfit (all 3) number (crOwn 3)) (10 ∷ 0x10005 ∷ 0x100000005 ∷ [])
@@ -202,19 +199,19 @@ registerEdges =
 abbrev pub sent : Event → List Call → Outcome → Edge
 sent e calls expected = started two (fromBytes (asking e 0)) (offer 0 e (lent 576) ∷ calls) expected
 
--- then an entry is refused; an output is lent
+-- then a call is refused, with an output
 abbrev pub refusedAfter : Event → ℕ → (List ℕ → Call) → List ℕ → Edge
 refusedAfter e k call out = sent e (call out ∷ []) (gave (plain k) [] out (asking e 0) (beside On 1 (waits 0 e)))
 
--- with no bytes, for it and for whatever would be sent; the image is not written
+-- no event goes, offered or not, and no image is written
 abbrev pub waiting : Event → List Edge
 waiting e =
-    refusedAfter e 6 (λ out. enter 0 registers 0 [] out) (lent 576)
-    ∷ refusedAfter e 6 (λ out. offer 0 e out) (lent 576)
-    ∷ refusedAfter e 10 (λ out. writeImage out) (lent 80)
+    refusedAfter e 6 (enter 0 registers 0 []) (lent 576)
+    ∷ refusedAfter e 6 (offer 0 e) (lent 576)
+    ∷ refusedAfter e 10 writeImage (lent 80)
     ∷ []
 
--- no event was sent: an entry is refused
+-- the same with nothing sent
 abbrev pub refused : List ℕ → ℕ → (List ℕ → Call) → List ℕ → Edge
 refused image k call out = started two (fromBytes image) (call out ∷ []) (gave (plain k) [] out image quiet)
 
@@ -223,33 +220,38 @@ orderEdges =
     -- 2, 4, 5, 3, 6: each before those behind it
     started two (fromBytes (all 3)) (message [] out page ∷ enter 2 [] 1 [] (lent 5) ∷ []) (gave (plain 2) [] (lent 5) freshImage shut)
     ∷ started two (fromBytes (all 3)) (message [] out page ∷ offer 0 cr3 (lent 576) ∷ []) (gave (plain 2) [] (lent 576) freshImage shut)
-    ∷ refusedAfter hypercall 4 (λ out. enter 2 registers 1 [] out) (lent 575)
-    ∷ refusedAfter hypercall 4 (λ out. offer 2 cr3 out) (lent 576)
-    ∷ refusedAfter hypercall 5 (λ out. enter 0 registers 1 [] out) (lent 575)
-    ∷ refusedAfter hypercall 5 (λ out. enter 0 registers 5 [] out) (lent 575)
-    ∷ refusedAfter hypercall 5 (λ out. enter 0 registers 0 (0 ∷ []) out) (lent 575)
-    ∷ refusedAfter hypercall 5 (λ out. enter 0 (drop 1 registers) 3 [] out) (lent 575)
-    ∷ refusedAfter hypercall 3 (λ out. offer 0 hypercall out) (lent 575)
-    ∷ refusedAfter hypercall 5 (λ out. enter 0 registers 1 [] out) (lent 576)
+    ∷ refusedAfter hypercall 4 (enter 2 registers 1 []) (lent 575)
+    ∷ refusedAfter hypercall 4 (offer 2 cr3) (lent 576)
+    ∷ refusedAfter hypercall 5 (enter 0 registers 1 []) (lent 575)
+    ∷ refusedAfter hypercall 5 (enter 0 registers 5 []) (lent 575)
+    ∷ refusedAfter hypercall 5 (enter 0 registers 0 (0 ∷ [])) (lent 575)
+    ∷ refusedAfter hypercall 5 (enter 0 (drop 1 registers) 3 []) (lent 575)
+    ∷ refusedAfter hypercall 3 (offer 0 hypercall) (lent 575)
+    ∷ refusedAfter hypercall 5 (enter 0 registers 1 []) (lent 576)
     -- 575 bytes are short and 576 are not, whatever is sent
-    ∷ refused (asking cr3 0) 3 (λ out. offer 0 cr3 out) (lent 575)
-    ∷ refused (asking hypercall 0) 3 (λ out. offer 0 hypercall out) (lent 575)
-    ∷ refused (allBut hypercall 0) 3 (λ out. offer 0 hypercall out) (lent 575)
-    ∷ refused (allBut hypercall 1) 3 (λ out. enter 0 registers 0 [] out) (lent 575)
+    ∷ refused (asking cr3 0) 3 (offer 0 cr3) (lent 575)
+    ∷ refused (asking hypercall 0) 3 (offer 0 hypercall) (lent 575)
+    ∷ refused (allBut hypercall 0) 3 (offer 0 hypercall) (lent 575)
+    ∷ refused (allBut hypercall 1) 3 (enter 0 registers 0 []) (lent 575)
     ∷ started two (fromBytes (asking cr3 0)) (offer 0 cr3 (lent 576) ∷ []) (gave (handled 576 Quiet) (offered 0 0 cr3) [] (asking cr3 0) (beside On 1 (waits 0 cr3)))
     ∷ started two (fromBytes (allBut hypercall 0)) (offer 0 hypercall (lent 576) ∷ []) (gave (handled 0 Quiet) [] (lent 576) (allBut hypercall 0) quiet)
     -- a reply is awaited: 6 and 10, with nothing to send too
-    ∷ joinedEdges (map waiting events)
+    ∷ joined (map waiting events)
     -- the other vCPU does not wait
     ++ (sent cr3 (enters 1 ∷ []) (gave (handled 0 Quiet) [] (lent 576) (asking cr3 0) (beside On 1 (waits 0 cr3))) ∷ [])
 
 -- ---- replies
--- one by its data closes the session
+-- one with other data closes the session
 abbrev pub closesBy : (Event → List ℕ) → Event → Edge
 closesBy d e = sent e (sendAs 0 16 (d e) ∷ []) closing
 
+-- one behind other calls is taken; the image and the reply mode after it
+abbrev pub resumesBehind : List Call → List ℕ → ReplyMode → ℕ → Event → Edge
+resumesBehind calls image mode action e =
+    sent e (calls ++ (sendAs 0 16 (replyTo e 0 action) ∷ [])) (told (handled 0 (Resume 0 action (e .value))) [] image (beside mode 1 nobody))
+
 abbrev pub resumes : ℕ → Event → Edge
-resumes action e = sent e (sendAs 0 16 (replyTo e 0 action) ∷ []) (told (handled 0 (Resume 0 action (e .value))) [] (asking e 0) (beside On 1 nobody))
+resumes action e = resumesBehind [] (asking e 0) On action e
 
 abbrev pub crashes : Event → Edge
 crashes e = sent e (sendAs 0 16 (replyTo e 0 2) ∷ []) (told (handled 0 (Crash 0)) [] (asking e 0) (beside On 1 nobody))
@@ -266,30 +268,30 @@ replyEdges =
     ++ map (closesBy (λ e. replyTo e 0 1)) (bare ++ (stepped ∷ cpuid ∷ cr3 ∷ efer ∷ []))
     ++ map crashes events
     ++ map (closesBy (λ e. replyTo e 0 3)) events
-    -- 16 data bytes or 24: 8 more, the 8 of a new value fewer, 8 or none behind the vCPU header, 32
-    ++ map (closesBy (λ e. replyTo e 0 0 ++ replicate 8 0)) events
+    -- of 16 and 24 data bytes the other; 8; 32
+    ++ map (closesBy (λ e. replyTo e 0 0 ++ replicate 8 0)) (bare ++ detailed)
     ++ map (closesBy (λ e. take 16 (replyTo e 0 0))) valued
     ++ map (closesBy (λ e. take 8 (replyTo e 0 0))) events
     ++ map (closesBy (λ e. replyTo e 0 0 ++ replicate 16 0)) (bare ++ detailed)
+    ++ map (closesBy (λ e. replyTo e 0 0 ++ replicate 8 0)) valued
     -- of CR: another seq, in its first and in its last byte; another event; another vCPU; padding; one byte fewer, one more; a second time
     ++ map (λ seq. wrong seq (replyTo cr3 0 0)) (1 ∷ 0x1000000 ∷ [])
     ++ map (λ number. wrong 0 (answerData 0 0 number ++ cr3 .rest)) (0 ∷ 2 ∷ 3 ∷ 9 ∷ 13 ∷ [])
     ++ map (λ vcpu. wrong 0 (replyTo cr3 vcpu 0)) (1 ∷ 2 ∷ 0x100 ∷ [])
     ++ map (λ at. wrong 0 (set (replyTo cr3 0 0) at 1)) (2 ∷ 7 ∷ 10 ∷ 15 ∷ [])
-    ++ map (λ d. wrong 0 d) (take 23 (replyTo cr3 0 0) ∷ (replyTo cr3 0 0 ++ (0 ∷ [])) ∷ answerData 0 0 3 ∷ [])
+    ++ map (wrong 0) (take 23 (replyTo cr3 0 0) ∷ (replyTo cr3 0 0 ++ (0 ∷ [])) ∷ answerData 0 0 3 ∷ [])
     ++ (sent cr3 (sendAs 0 16 (replyTo cr3 0 0) ∷ sendAs 0 16 (replyTo cr3 0 0) ∷ []) closing
     -- any new value
     ∷ sent cr3 (sendAs 0 16 (answerData 0 0 5 ++ replicate 8 0) ∷ []) (told (handled 0 (Resume 0 0 0)) [] (asking cr3 0) (beside On 1 nobody))
     ∷ sent cr3 (sendAs 0 16 (answerData 0 0 5 ++ replicate 8 0xFF) ∷ []) (told (handled 0 (Resume 0 0 0xFFFFFFFFFFFFFFFF)) [] (asking cr3 0) (beside On 1 nobody))
-    -- a switch turned off behind it does not matter
-    ∷ sent cr3 (controlEvent 0 5 0 ∷ sendAs 0 16 (replyTo cr3 0 0) ∷ []) (told (handled 0 (Resume 0 0 (cr3 .value))) [] (vm ++ vc 0 1 2 0 0 ++ idle 1 ++ en 3) (beside On 1 nobody))
-    ∷ sent cr3 (controlCr 0 3 0 ∷ sendAs 0 16 (replyTo cr3 0 0) ∷ []) (told (handled 0 (Resume 0 0 (cr3 .value))) [] (vm ++ vc 0 1 0 0x20 0 ++ idle 1 ++ en 3) (beside On 1 nobody))
-    ∷ sent efer (controlEvent 0 9 0 ∷ sendAs 0 16 (replyTo efer 0 0) ∷ []) (told (handled 0 (Resume 0 0 (efer .value))) [] (vm ++ vc 0 1 0 0 0 ++ idle 1 ++ ms 0 0xC0000080 ++ en 4) (beside On 1 nobody))
-    ∷ sent efer (controlMsr 0 0xC0000080 0 ∷ sendAs 0 16 (replyTo efer 0 0) ∷ []) (told (handled 0 (Resume 0 0 (efer .value))) [] (vm ++ vc 0 1 0 0x200 0 ++ idle 1 ++ en 3) (beside On 1 nobody))
-    ∷ sent createVcpu (controlVmEvent 12 0 ∷ sendAs 0 16 (replyTo createVcpu 0 0) ∷ []) (told (handled 0 (Resume 0 0 0)) [] (vm ++ vc 0 1 0 0 0 ++ idle 1 ++ en 3) (beside On 1 nobody))
-    -- in any reply mode
-    ∷ sent cr3 (responses 0 1 0 ∷ sendAs 0 16 (replyTo cr3 0 0) ∷ []) (told (handled 0 (Resume 0 0 (cr3 .value))) [] (asking cr3 0) (beside Off 1 nobody))
-    ∷ sent breakpoint (responses 0 1 1 ∷ sendAs 0 16 (replyTo breakpoint 0 1) ∷ []) (told (handled 0 (Resume 0 1 0)) [] (asking breakpoint 0) (beside ErrorsOnly 1 nobody))
+    -- a switch turned off since does not matter, nor does the reply mode
+    ∷ resumesBehind (controlEvent 0 5 0 ∷ []) (vm ++ vc 0 1 2 0 0 ++ idle 1 ++ en 3) On 0 cr3
+    ∷ resumesBehind (controlCr 0 3 0 ∷ []) (vm ++ vc 0 1 0 0x20 0 ++ idle 1 ++ en 3) On 0 cr3
+    ∷ resumesBehind (controlEvent 0 9 0 ∷ []) (vm ++ vc 0 1 0 0 0 ++ idle 1 ++ ms 0 0xC0000080 ++ en 4) On 0 efer
+    ∷ resumesBehind (controlMsr 0 0xC0000080 0 ∷ []) (vm ++ vc 0 1 0 0x200 0 ++ idle 1 ++ en 3) On 0 efer
+    ∷ resumesBehind (controlVmEvent 12 0 ∷ []) (vm ++ vc 0 1 0 0 0 ++ idle 1 ++ en 3) On 0 createVcpu
+    ∷ resumesBehind (responses 0 1 0 ∷ []) (asking cr3 0) Off 0 cr3
+    ∷ resumesBehind (responses 0 1 1 ∷ []) (asking breakpoint 0) ErrorsOnly 1 breakpoint
     -- after it the image is written, a queued pause goes, and the event goes again
     ∷ sent cr3 (sendAs 0 16 (replyTo cr3 0 0) ∷ writeImage (lent 34) ∷ []) (gave (handled 34 Quiet) (asking cr3 0) [] (asking cr3 0) (beside On 1 nobody))
     ∷ sent cr3 (sendAs 0 16 (replyTo cr3 0 0) ∷ pause 0 ∷ enters 0 ∷ []) (gave (handled 552 Quiet) (pauseBytes 1 0) (lent 576) (asking cr3 0) (beside On 2 (awaits 1 ∷ none ∷ [])))
