@@ -260,8 +260,8 @@ crashes e = sent e (sendAs 0 16 (replyTo e 0 2) ∷ []) (told (handled 0 (Crash 
 abbrev pub wrong : ℕ → List ℕ → Edge
 wrong seq d = sent cr3 (sendAs seq 16 d ∷ []) closing
 
-abbrev pub replyEdges : List Edge
-replyEdges =
+abbrev pub eventReplyEdges : List Edge
+eventReplyEdges =
     -- actions 0, 1, 2, 3
     map (resumes 0) events
     ++ map (resumes 1) (breakpoint ∷ descriptor ∷ [])
@@ -359,4 +359,4 @@ sequenceEdges =
     ∷ []
 
 abbrev pub ofEvents : List Edge
-ofEvents = offerEdges ++ registerEdges ++ orderEdges ++ replyEdges ++ sequenceEdges
+ofEvents = offerEdges ++ registerEdges ++ orderEdges ++ eventReplyEdges ++ sequenceEdges

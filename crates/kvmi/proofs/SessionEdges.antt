@@ -1,4 +1,4 @@
--- Edges of several calls: replies and the reply mode, events and their replies, the other host calls, closed sessions, beginnings, full tables.
+-- Edges of several calls: replies and the reply mode, pause events and their replies, the other host calls, closed sessions, beginnings, full tables.
 use Prim.Native.Nat.{ℕ, zero, suc}
 use mathlib.Core.List.{List, [], _∷_, _++_, map}
 use mathlib.Core.Bool.{Bool, true, false}
