@@ -5,7 +5,7 @@ use Rattle.kvmi.specs.declared.Answer.the-variants.{Handled, Closing, Cl
 use Rattle.kvmi.specs.declared.Signal.{Signal}
 use Rattle.kvmi.specs.declared.Signal.the-variants.{Quiet}
 
--- number, count of bytes written, signal (none, kick(vCPU, wait), crash(vCPU), resume(vCPU, action, value)), offset; what an answer has none of is 0 or none
+-- number, count of bytes written, signal (none, kick(vCPU, wait), crash(vCPU), and W1's resume(vCPU, action, value)), offset; what an answer has none of is 0 or none
 pub record Paper : Type 0 where
   pub number : ℕ
   pub count : ℕ

@@ -115,7 +115,7 @@ readyStep s m vcpu =
     (writing [] Quiet [] [] (onVcpu m vcpu (λ v. withReady v true))))
 
 -- ---- "Entry of a vCPU into the guest": "2, 4, 5, 3, 6"
--- an event that was sent with the next seq: "The awaited record now holds which event it is"
+-- an event that was sent with the next seq. W1: "The awaited record now holds which event it is"
 abbrev pub awaitingReply : Model → ℕ → ℕ → Model
 awaitingReply m vcpu event = withSeq (setAwaited m vcpu (some (awaiting event (m .seq)))) (nextSeq (m .seq))
 
@@ -123,17 +123,17 @@ awaitingReply m vcpu event = withSeq (setAwaited m vcpu (some (awaiting event (m
 unfoldable pub sending : Model → ℕ → List ℕ → ℕ → List ℕ → List ℕ → Step
 sending m vcpu state event own out = writing (eventBytes (m .seq) vcpu event state own) Quiet out [] (awaitingReply m vcpu event)
 
--- "with a pause queued, writes the pause event (552 bytes), one pause less, reply awaited; else 0 bytes"
+-- "with a pause queued, writes the pause event (552 bytes), one pause less, reply awaited"
 unfoldable pub pausing : Model → ℕ → List ℕ → List ℕ → Step
 pausing m vcpu state out =
     writing (pauseEvent (m .seq) vcpu state) Quiet out []
     (awaitingReply (onVcpu m vcpu (λ v. withPauses v (v .pauses - 1))) vcpu 2)
 
--- a queued pause, or nothing
+-- "else 0 bytes"
 unfoldable pub unqueueing : Model → ℕ → List ℕ → List ℕ → Step
 unqueueing m vcpu state out = cond (leb 1 (vcpuAt (m .tables) vcpu .pauses)) (pausing m vcpu state out) (writing [] Quiet out [] m)
 
--- "Entry order: offered event, then pause."; "a switched-off event is passed over and a queued pause goes instead"
+-- W1: "Entry order: offered event, then pause."; "a switched-off event is passed over and a queued pause goes instead"
 unfoldable pub entering : Model → ℕ → List ℕ → ℕ → List ℕ → List ℕ → Step
 entering m vcpu state event own out =
     cond (isAskedFor (m .tables) vcpu event own) (sending m vcpu state event own out) (unqueueing m vcpu state out)

@@ -89,8 +89,8 @@ apply m guest d (SetReplies now mode) = applied (withMode m mode) guest
 apply m guest d (EndWait resumes vcpu action value) = applied (setAwaited m vcpu none) guest
 
 -- ---- what else a change decides
--- of an event's reply: "A crash is signalled; the session stays open."; "Such a continue or retry, unlike a pause's, is signalled as resume(vCPU, action,
--- new value or 0)."
+-- of an event's reply: "A crash is signalled; the session stays open."; W1: "Such a continue or retry, unlike a pause's, is signalled as
+-- resume(vCPU, action, new value or 0)."
 abbrev pub replySignal : Bool → ℕ → ℕ → ℕ → Signal
 replySignal resumes vcpu action value = cond (eqb action 2) (Crash vcpu) (cond resumes (Resume vcpu action value) Quiet)
 

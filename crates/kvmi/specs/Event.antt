@@ -1,4 +1,5 @@
--- "W1. The other events": which events an entry is offered, the bytes that each has of its own, the switches that it asks for, and the reply that it takes.
+-- Document 02, "W1. The other events.": the events that an entry is offered, the bytes that each has of its own, the switches that it asks for, and
+-- the reply that it takes. Quotes are W1's, unless they are marked.
 use Prim.Native.Nat.{ℕ}
 use mathlib.Core.List.{List, [], _∷_}
 use mathlib.Core.Bool.{Bool, true, false, cond, _&&_, _||_}
@@ -12,15 +13,21 @@ use Rattle.kvmi.specs.Bits.{among}
 use Rattle.kvmi.specs.Tables.{Tables, vmEventOn, eventOn, crOn, msrOn}
 
 -- ---- the table of events
--- its own bytes ("the bytes after the first 544"), its reply's data bytes, "retry is taken", its reply has a value, the switch that it asks for
+-- how many bytes it has of its own ("The bytes after the first 544"), how many data bytes its reply has, whether "Retry is taken", whether its reply has
+-- a value, and the switch that it asks for
 abbrev pub eventRow : ℕ → ℕ → Bool → Bool → EventSwitch → EventRow
 eventRow own reply retry valued switch = record { switch = switch; retry = retry; valued = valued; own = own; reply = reply }
 
--- an event that an entry is not offered, and that takes no reply
+-- without a value or a retry
+abbrev pub plainEvent : ℕ → EventSwitch → EventRow
+plainEvent own switch = eventRow own 16 false false switch
+
+-- one that is not built: an entry is not offered it, and no reply to it is taken
 abbrev pub unoffered : EventRow
 unoffered = eventRow 0 0 false false Unoffered
 
--- events 0 to 14. "Replies carry 24 data bytes for CR and MSR, the new value last, and 16 otherwise."; "Retry is taken for BREAKPOINT and DESCRIPTOR only."
+-- events 0 to 14. "Replies carry 24 data bytes for CR and MSR, the new value last, and 16 otherwise."; "Retry is taken for BREAKPOINT and DESCRIPTOR
+-- only."
 abbrev pub events : List EventRow
 events =
     -- "or 0 for none with no bytes"
@@ -28,9 +35,9 @@ events =
     -- UNHOOK
     ∷ unoffered
     -- PAUSE_VCPU: it comes from the queue
-    ∷ eventRow 0 16 false false Unoffered
+    ∷ plainEvent 0 Unoffered
     -- HYPERCALL
-    ∷ eventRow 0 16 false false OfVcpu
+    ∷ plainEvent 0 OfVcpu
     -- BREAKPOINT: gpa u64, insn_len u8, padding
     ∷ eventRow 16 16 true false OfVcpu
     -- CR: cr u16, padding, old_value u64, new_value u64
@@ -38,7 +45,7 @@ events =
     -- TRAP
     ∷ unoffered
     -- XSETBV
-    ∷ eventRow 0 16 false false OfVcpu
+    ∷ plainEvent 0 OfVcpu
     -- DESCRIPTOR: descriptor u8, write u8, padding
     ∷ eventRow 8 16 true false OfVcpu
     -- MSR: msr u32, padding, old_value u64, new_value u64
@@ -46,13 +53,13 @@ events =
     -- PF
     ∷ unoffered
     -- SINGLESTEP: failed u8, padding; "The singlestep block goes with the event."
-    ∷ eventRow 8 16 false false OfVcpu
+    ∷ plainEvent 8 OfVcpu
     -- CREATE_VCPU: message 5's
-    ∷ eventRow 0 16 false false OfVm
+    ∷ plainEvent 0 OfVm
     -- CMD_ERROR
     ∷ unoffered
     -- CPUID: function u32, index u32, insn_length u8, padding
-    ∷ eventRow 16 16 false false OfVcpu
+    ∷ plainEvent 16 OfVcpu
     ∷ []
 
 -- an event's row
@@ -60,6 +67,7 @@ unfoldable pub eventRowOf : ℕ → EventRow
 eventRowOf event = getD events event unoffered
 
 -- ---- an offer at a vCPU's entry
+-- the numbers that are taken: 0, which offers nothing, is one of them
 abbrev pub isOffered : EventSwitch → Bool
 isOffered Unoffered = false
 isOffered NoEvent = true
@@ -79,7 +87,8 @@ crNamed own = load 2 own 0
 abbrev pub msrNamed : List ℕ → ℕ
 msrNamed own = load 4 own 0
 
--- "it is sent exactly if its switch is on, and for CR and MSR also that of the register its bytes name"
+-- "it is sent exactly if its switch is on, and for CR and MSR also that of the register its bytes name". A CR other than 0, 3 and 4 has none (`crOn`), and
+-- an MSR outside message 12's ranges is never on: no session has a record of it (Valid: `msForm`).
 unfoldable pub asksFor : Tables → ℕ → ℕ → List ℕ → EventSwitch → Bool
 asksFor t vcpu event own Unoffered = false
 asksFor t vcpu event own NoEvent = false
@@ -92,7 +101,7 @@ unfoldable pub isAskedFor : Tables → ℕ → ℕ → List ℕ → Bool
 isAskedFor t vcpu event own = asksFor t vcpu event own (eventRowOf event .switch)
 
 -- ---- its reply
--- "the action is 0 continue or 2 crash"; 1 is retry
+-- document 01: "the action is 0 continue or 2 crash (1 is retry)"
 abbrev pub takesAction : EventRow → ℕ → Bool
 takesAction r action = among action (0 ∷ 2 ∷ []) || eqb action 1 && r .retry
 

@@ -1,4 +1,4 @@
--- Document 01's fixed numbers.
+-- Document 01's fixed numbers, and W1's.
 use Prim.Native.Nat.{ℕ}
 
 -- "1,024 pages (all views together)"
@@ -13,7 +13,7 @@ pauseLimit = 8
 abbrev pub leastOut : ℕ
 leastOut = 4112
 
--- "entry output below 576 is answer 3": the bytes of a CR or an MSR event
+-- W1: "entry output below 576 is answer 3": the bytes of a CR or an MSR event
 abbrev pub eventOut : ℕ
 eventOut = 576
 

@@ -54,7 +54,7 @@ unfoldable pub sizeFits : SizeRule → List ℕ → Bool
 sizeFits (Exactly n) d = eqb (length d) n
 sizeFits SizeField d = leb 16 (length d) && eqb (length d) (16 + load 8 d 8)
 sizeFits Entries d = leb 8 (length d)
--- of EVENT_REPLY: that it is the awaited event's is asked with the rest of its rule, where every miss closes, too
+-- EVENT_REPLY: what every reply has; Verdict's `replyFits` asks for the awaited event's own size, and both close
 sizeFits ByEvent d = leb 16 (length d)
 sizeFits Unruled d = true
 

@@ -33,7 +33,8 @@ replyData s guest id d =
     (cond (eqb id 6) (take (sizeOf d) (drop (gpaOf d) guest))
     (cond (eqb id 8) (le 8 (s .tsc)) [])))
 
--- "Event data: common size 544, vCPU, event, three zeros, 536 copied state bytes."; "The bytes after the first 544 are lent beside the state block and copied."
+-- "Event data: common size 544, vCPU, event, three zeros, 536 copied state bytes."; W1: "The bytes after the first 544 are lent beside the state block
+-- and copied."
 unfoldable pub eventBytes : ℕ → ℕ → ℕ → List ℕ → List ℕ → List ℕ
 eventBytes seq vcpu event state own = messageBytes 17 seq (le 2 544 ++ le 2 vcpu ++ le 1 event ++ replicate 3 0 ++ state ++ own)
 

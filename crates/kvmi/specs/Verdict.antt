@@ -136,8 +136,8 @@ commandVerdict s f id d =
     (cond (isAbsent f id d) (Fails ENOENT)
     (cond (losesErrors s id d) Closes (Does (changeOf id d))))))))
 
--- ---- "An EVENT_REPLY closes unless padding is zero, the vCPU awaits one, seq and event match, and the action is 0 continue or 2 crash"; and W1: "Replies
--- carry 24 data bytes for CR and MSR [..], and 16 otherwise", "Retry is taken for BREAKPOINT and DESCRIPTOR only", "a wrong reply closes"
+-- ---- "An EVENT_REPLY closes unless padding is zero, the vCPU awaits one, seq and event match, and the action is 0 continue or 2 crash";
+-- W1: "Replies carry 24 data bytes for CR and MSR [..], and 16 otherwise", "Retry is taken for BREAKPOINT and DESCRIPTOR only", "a wrong reply closes"
 unfoldable pub isAwaited : Facts → ℕ → ℕ → Bool
 isAwaited f seq event = not (eqb (f .awaited) 0) && eqb (f .seq) seq && eqb (f .awaited) event
 
@@ -145,7 +145,8 @@ isAwaited f seq event = not (eqb (f .awaited) 0) && eqb (f .seq) seq && eqb (f .
 unfoldable pub replyFits : EventRow → List ℕ → Bool
 replyFits r d = eqb (length d) (r .reply) && takesAction r (actionOf d)
 
--- "Once taken, it is awaited no more. A crash is signalled"; "Such a continue or retry, unlike a pause's, is signalled": a pause is event 2
+-- "Once taken, it is awaited no more. A crash is signalled"; W1: "Such a continue or retry, unlike a
+-- pause's, is signalled": a pause is event 2
 unfoldable pub eventReplyVerdict : Facts → ℕ → List ℕ → Verdict
 eventReplyVerdict f seq d =
     cond (eqb (firstPadding 16 d) 0 && isAwaited f seq (repliedEvent d) && replyFits (eventRowOf (f .awaited)) d)
