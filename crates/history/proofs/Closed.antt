@@ -68,7 +68,7 @@ module _ (s : Settings) (m : Model) (rests : Rests s m) where
       pick R (isAskedFor (m .tables) vcpu event own) _ _ (λ _. still-lives lives _ refl)
       (λ _. pick R (leb 1 (vcpuAt (m .tables) vcpu .pauses)) _ _ (λ _. still-lives lives _ refl) (λ _. rests))
 
-  step-rests : (c : Call) → R (step s m c)
+  pub step-rests : (c : Call) → R (step s m c)
   unfolding step messageStep readyStep enterStep imageStep
   step-rests (message msg out guest) =
       pick R (m .closed) _ _ (λ _. rests)

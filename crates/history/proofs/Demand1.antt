@@ -4,11 +4,11 @@ use mathlib.Core.Logic.{_↔_, inl, inr, ⊎-elim}
 use Prim.Native.Nat.{ℕ, zero, suc, _≤_, _<_, min}
 use native.Mathlib.Omega.{arith}
 use mathlib.Core.List.{List, [], _∷_}
-use mathlib.Core.Bool.{Bool, true, false, cond, not, _&&_, _||_, So}
-use mathlib.Core.Option.{Option, none, some}
+use mathlib.Core.Bool.{Bool, true, false, not, _&&_, _||_, So}
+use mathlib.Core.Option.{Option, none}
 use lib.ListN.{length, getD, drop, List·getD-eq-default}
 use lib.Dec.{leb, ltb, eqb}
-use borrow.Author.Tests.{ltb-true, ltb-false, leb-true, leb-false, lt-ltb, le-ltb, le-leb, lt-leb, eqb-true, eqb-false, eq-eqb, ne-eqb, not-true, not-false}
+use borrow.Author.Tests.{ltb-true, ltb-false, leb-true, leb-false, lt-ltb, le-ltb, le-leb, lt-leb, eqb-true, eq-eqb, not-true, not-false}
 use Rattle.wire.specs.Header.{headerOf}
 use Rattle.wire.specs.declared.Header.{Header}
 use Rattle.wire.specs.declared.Header.the-variants.{Whole, Broken}
@@ -34,7 +34,7 @@ use Rattle.entry.specs.Entry.{enteredOf, enterOf}
 use Rattle.image_writer.specs.Write.{statedVcpus, statedTables, imageOf}
 use Rattle.image_reader.specs.Read.{toldLoaded, readOf}
 use Rattle.refine.specs.Frames.{Refuses, Past}
-use Rattle.history.specs.Demand1.{Answers, OneOf, Closed, Open, IsVcpu, NoVcpu, offers, Lent, Awaits, AwaitsAny, imageLength, InRange, saidOf, RuleCloses, FreshAnswers, ReadyAnswers, MessageAnswers, EntryAnswers, WriterAnswers, ReaderAnswers, Demand1}
+use Rattle.history.specs.Demand1.{Answers, OneOf, Closed, Open, IsVcpu, NoVcpu, offers, Offer, Lent, Awaits, AwaitsAny, imageLength, InRange, saidOf, RuleCloses, FreshAnswers, ReadyAnswers, MessageAnswers, EntryAnswers, WriterAnswers, ReaderAnswers, Demand1}
 use Rattle.wire.proofs.Laws.{le-or-lt}
 use Rattle.laws.proofs.Bool.{and-l, and-r, either, or-l, or-r, test, clash, same-test, among-every}
 use Rattle.laws.proofs.Verdicts.{pick}
@@ -158,19 +158,24 @@ offer-known event =
     (le-or-lt 15 event))
     (λ h. among-every (λ k. isOffered (eventRowOf k .switch)) event offers refl h)
 
--- the test of what an entry is lent
-lent-fits : (block : List ℕ) (event : ℕ) (own : List ℕ) → (eqb (length block) stateBytes && offerFits event own) ≡ true → Lent block event own
+-- the test of an offer
+pub fits-offer : (event : ℕ) (own : List ℕ) → offerFits event own ≡ true → Offer event own
 unfolding offerFits
+fits-offer event own h =
+    let known : So (isOffered (eventRowOf event .switch)) = search (and-l, and-r) in
+    (rw (offer-known event) at known, eqb-true (length own) (eventRowOf event .own) (search (and-l, and-r)))
+
+pub offer-fits : (event : ℕ) (own : List ℕ) → Offer event own → offerFits event own ≡ true
+unfolding offerFits
+offer-fits event own (k, o) = rw (offer-known event, k, eq-eqb (length own) (eventRowOf event .own) o)
+
+-- and of all that an entry is lent
+lent-fits : (block : List ℕ) (event : ℕ) (own : List ℕ) → (eqb (length block) stateBytes && offerFits event own) ≡ true → Lent block event own
 lent-fits block event own h =
-    let known : So (isOffered (eventRowOf event .switch)) = search (and-l, and-r) in (
-      eqb-true (length block) stateBytes (search (and-l, and-r)),
-      rw (offer-known event) at known,
-      eqb-true (length own) (eventRowOf event .own) (search (and-l, and-r)),
-    )
+    (eqb-true (length block) stateBytes (search (and-l, and-r)), fits-offer event own (and-r (eqb (length block) stateBytes) (offerFits event own) h))
 
 fits-lent : (block : List ℕ) (event : ℕ) (own : List ℕ) → Lent block event own → (eqb (length block) stateBytes && offerFits event own) ≡ true
-unfolding offerFits
-fits-lent block event own (b, k, o) = rw (eq-eqb (length block) stateBytes b, offer-known event, k, eq-eqb (length own) (eventRowOf event .own) o)
+fits-lent block event own (b, o) = rw (eq-eqb (length block) stateBytes b, offer-fits event own o)
 
 module _ (st : State) (vcpu : ℕ) (block : List ℕ) (event : ℕ) (own out : List ℕ) where
   abbrev r-enter : Told

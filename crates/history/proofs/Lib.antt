@@ -11,3 +11,4 @@ pub mod Carried
 pub mod Closed
 pub mod Lookups
 pub mod Pauses
+pub mod Events

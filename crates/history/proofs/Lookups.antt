@@ -19,7 +19,7 @@ stands-look s st m f rests =
     (λ shut. f .model ∙ rests (sym (ap (λ (k : Model). k .closed) (f .model)) ∙ shut) ∙ ap closedModel (sym (f .settings))))
 
 -- a session begins open
-began-rests : (s : Settings) (st : State) (m : Model) → BeganOn s st m → Rests s m
+pub began-rests : (s : Settings) (st : State) (m : Model) → BeganOn s st m → Rests s m
 began-rests s st m (anew vcpus pages v p ok) h = absurd (false≢true h)
 began-rests s st m (fromImage vcpus pages v p l t ok e) h = absurd (false≢true h)
 

@@ -45,7 +45,7 @@ use Rattle.session.specs.Calls.{Told, toldSame, toldWritten}
 use Rattle.session.specs.Meaning.{awaitedOf}
 use Rattle.change.specs.Change.{change}
 use Rattle.message.specs.Message.{factsIn, answeringOf, judgedOf, headedOf, messageOf}
-use Rattle.entry.specs.Entry.{crBitOn, askedForBy, isAskedForOf, Sent, sendingOf, pausingOf, unqueueingOf, sentOf, toldSent, enteredOf, enterOf}
+use Rattle.entry.specs.Entry.{askedForBy, isAskedForOf, Sent, sendingOf, pausingOf, unqueueingOf, sentOf, toldSent, enteredOf, enterOf}
 use Rattle.image_writer.specs.Write.{statedVcpus, statedTables, imageOf}
 use Rattle.history.specs.History.{stepOf, afterOf}
 use Rattle.history.specs.Unsteered.{written, ownBytes, Alike, messages, readies, enters, writes, SameFor, ButGuest, ended, more, answersOf, bytesOf, Unsteered}

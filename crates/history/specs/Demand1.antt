@@ -5,7 +5,7 @@
 -- which numbers a call answers with, each refusal's number exactly if its condition holds, behind those that are tested before it, and what it leaves.
 -- An answer has one number, so that of one call's conditions no two hold.
 use mathlib.Core.Path.{_≡_}
-use mathlib.Core.Logic.{_↔_, _≢_, _⊎_}
+use mathlib.Core.Logic.{_↔_, _⊎_}
 use Prim.Native.Nat.{ℕ, _≤_, _<_}
 use mathlib.Core.List.{List, [], _∷_}
 use mathlib.Core.Bool.{true, false, So}
@@ -59,9 +59,13 @@ NoVcpu st vcpu = st .session .settings .vcpus ≤ vcpu
 abbrev pub offers : List ℕ
 offers = 0 ∷ 3 ∷ 4 ∷ 5 ∷ 7 ∷ 8 ∷ 9 ∷ 11 ∷ 12 ∷ 14 ∷ []
 
--- what an entry is lent beside its output: a register block of 536 bytes, and one of these events with as many bytes of its own as its row says
+-- one of them, with as many bytes of its own as its row says
+abbrev pub Offer : ℕ → List ℕ → Type 0
+Offer event own = So (among event offers) × (length own ≡ eventRowOf event .own)
+
+-- what an entry is lent beside its output: a register block of 536 bytes, and an offer
 abbrev pub Lent : List ℕ → ℕ → List ℕ → Type 0
-Lent block event own = (length block ≡ stateBytes) × So (among event offers) × (length own ≡ eventRowOf event .own)
+Lent block event own = (length block ≡ stateBytes) × Offer event own
 
 -- "that vCPU's event reply is awaited"
 abbrev pub Awaits : State → ℕ → Type 0

@@ -6,3 +6,4 @@ pub mod Unsteered
 pub mod Exported
 pub mod Carried
 pub mod Pauses
+pub mod Events

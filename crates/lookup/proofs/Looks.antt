@@ -36,7 +36,7 @@ and-none true = refl
 and-none false = refl
 
 -- an element of a list of the same element, and what stands for those past its end
-replicated : {A : Type 0} (n : ℕ) (a : A) (i : ℕ) → getD (replicate n a) i a ≡ a
+pub replicated : {A : Type 0} (n : ℕ) (a : A) (i : ℕ) → getD (replicate n a) i a ≡ a
 replicated zero a i = refl
 replicated (suc n) a zero = refl
 replicated (suc n) a (suc i) = replicated n a i

@@ -19,7 +19,7 @@ use Rattle.kvmi.specs.Verdict.{isAccess}
 use Rattle.kvmi.specs.Change.{Run, pageOf, isSkipped, setPage, takeEntry, takeEntries}
 use Rattle.page_words.specs.PageWords.{wordKey, keyOf, bisect, placeOf, standsAt, insertWord, removeWord, PageTable, pageTable, changeWord, addWord, putEntry, nearPlace, putNear, hintAfter, putEntries, runEntries}
 use Rattle.page_words.specs.Meaning.{pageOfWord, pagesOf, goodWord, PagesGood}
-use Rattle.laws.proofs.Bool.{and-l, and-r, and-i, either, test, clash, every-head, every-tail, every-cons, small-among}
+use Rattle.laws.proofs.Bool.{and-l, and-r, and-i, test, every-head, every-tail, small-among}
 use Rattle.laws.proofs.Ascending.{has-past, Side, below, level, over, side, put-cases, forget-cases, has-cases, rising-low, rising-rest, rising-put, rising-forget, every-put, every-forget, forget-none}
 
 -- ---- bisection

@@ -5,13 +5,12 @@ use Prim.Native.Nat.{ℕ, zero, suc, _+_, _-_, _*_, _/_, _%_, _^_, _≤_, _<_, z
 use native.Mathlib.Omega.{arith}
 use mathlib.Core.List.{List, [], _∷_, _++_}
 use mathlib.Core.Bool.{Bool, true, false, cond, not, _&&_, So}
-use mathlib.Core.Option.{Option, none, some}
 use lib.IntN.{ℤ}
 use lib.ListN.{length, getD, set, take, drop, replicate, length-replicate, getD-replicate, List·getD-eq-default}
 use lib.Seq.{take-nil}
 use lib.Pow.{pow-pos}
 use lib.Dec.{ltb, leb, eqb}
-use borrow.Author.Tests.{ltb-true, ltb-false, leb-true, leb-false, lt-ltb, eqb-true, eqb-false, eq-eqb, ne-eqb, not-false}
+use borrow.Author.Tests.{ltb-false, leb-true, leb-false, lt-ltb, eqb-true, eqb-false, not-false}
 use Rattle.wire.specs.Bytes.{store}
 use Rattle.wire.specs.Header.{headerOf}
 use Rattle.wire.specs.declared.Header.{Header}
@@ -30,7 +29,7 @@ use Rattle.kvmi.specs.Bits.{every, among, putBit}
 use Rattle.kvmi.specs.Codes.{isError}
 use Rattle.kvmi.specs.Settings.{inRange}
 use Rattle.kvmi.specs.Tables.{Vcpu, vcpuAt, resting, emptyTables, withReady, withPauses, withVcpus, withMsrs, withPages}
-use Rattle.kvmi.specs.Model.{Awaited, awaiting, Model, fresh, closedModel, withTables, withSeq, withAwaited, nextSeq, onVcpu, setAwaited, awaitedBy, isSome}
+use Rattle.kvmi.specs.Model.{Model, fresh, closedModel, withTables, withSeq, withAwaited, nextSeq, onVcpu, awaitedBy, isSome}
 use Rattle.kvmi.specs.Message.{layoutOf, namesVcpu, vcpuOf, enables, eventOf, registerOf, gpaOf, sizeOf, countOf, countFits, viewOf, Entry, entriesOf, isVmEvent, isVcpuEvent, takesEvent}
 use Rattle.kvmi.specs.Verdict.{factsOf, isAccess, inOnePage, isInvalid, isBusy, modeOf, changeOf, verdict}
 use Rattle.kvmi.specs.Change.{Applied, applied, apply, signalOf, modeFor}
@@ -49,8 +48,8 @@ use Rattle.session.specs.Calls.{Told, toldSame, toldWritten, toldClosing, fresh
 use Rattle.change.specs.Change.{StateChanged, changed, change}
 use Rattle.change.proofs.Laws.{change-keeps}
 use Rattle.message.specs.Message.{factsIn, answeringOf, judgedOf, headedOf, messageOf}
-use Rattle.entry.specs.Entry.{isAskedForOf, Sent, awaitingWords, sendingOf, pausingOf, unqueueingOf, sentOf, toldSent, enteredOf, enterOf}
-use Rattle.session.specs.Meaning.{awaitedIn, awaitedOf, tablesOf, modelOf, WordsGood, WellFormed}
+use Rattle.entry.specs.Entry.{Sent, awaitingWords, sendingOf, pausingOf, unqueueingOf, sentOf, toldSent, enteredOf, enterOf}
+use Rattle.session.specs.Meaning.{awaitedOf, tablesOf, modelOf, WordsGood, WellFormed}
 use Rattle.laws.proofs.Bool.{and-l, and-r}
 use Rattle.laws.proofs.Bits.{put-below}
 use Rattle.laws.proofs.Verdicts.{pick, and-false, or-false-l, Passed, ending, verdict-cases, sound-of}

@@ -7,7 +7,7 @@ use native.Mathlib.Omega.{arith}
 use mathlib.Core.List.{List, [], _∷_}
 use mathlib.Core.Bool.{Bool, true, false, cond, not, _&&_, So, false≢true}
 use mathlib.Core.Option.{Option, none, some}
-use lib.ListN.{length, getD, take, drop, replicate, length-replicate}
+use lib.ListN.{length, take, drop, replicate, length-replicate}
 use lib.Dec.{ltb, leb, eqb}
 use borrow.Author.Tests.{eqb-true, not-false}
 use Rattle.wire.specs.Header.{headerOf}

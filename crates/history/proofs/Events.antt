@@ -1,0 +1,534 @@
+-- The other events, proved. Assumes nothing.
+use mathlib.Core.Path.{_≡_, refl, sym, ap, _∙_, subst}
+use mathlib.Core.Logic.{_↔_, _≢_}
+use Prim.Native.Nat.{ℕ, _+_, _-_, _%_, _≤_, _<_}
+use native.Mathlib.Omega.{arith}
+use mathlib.Core.List.{List, [], _∷_, _++_}
+use mathlib.Core.Bool.{Bool, true, false, cond, not, _&&_, _||_, So, and-false, true≢false, false≢true}
+use mathlib.Core.Option.{Option, none, some}
+use lib.ListN.{length, getD, set, take, drop, List·getD-eq-default}
+use lib.Seq.{getD-set-same, getD-set-other, set-out, take-append-seam}
+use lib.Dec.{leb, ltb, eqb}
+use borrow.Author.Tests.{leb-false, ltb-true, ltb-false, eqb-true, eqb-false, eq-eqb, ne-eqb, le-leb, le-ltb, not-false, not-true}
+use Rattle.wire.specs.Header.{headerOf}
+use Rattle.wire.specs.declared.Header.{Header}
+use Rattle.wire.specs.declared.Header.the-variants.{Whole, Broken}
+use Rattle.kvmi.specs.declared.Settings.{Settings}
+use Rattle.kvmi.specs.declared.Facts.{Facts}
+use Rattle.kvmi.specs.declared.EventRow.{EventRow}
+use Rattle.kvmi.specs.declared.ReplyMode.the-variants.{On}
+use Rattle.kvmi.specs.declared.Signal.the-variants.{Quiet, Crash, Resume}
+use Rattle.kvmi.specs.declared.Change.{Change}
+use Rattle.kvmi.specs.declared.Change.the-variants.{EndWait}
+use Rattle.kvmi.specs.declared.Verdict.{Verdict}
+use Rattle.kvmi.specs.declared.Verdict.the-variants.{Closes, Fails, Does}
+use Rattle.kvmi.specs.Answer.{Paper, handled, plain}
+use Rattle.kvmi.specs.Bits.{among}
+use Rattle.kvmi.specs.Limits.{leastOut, eventOut, stateBytes}
+use Rattle.kvmi.specs.Settings.{allowsCommand}
+use Rattle.kvmi.specs.Tables.{Tables, Vcpu, resting, vcpuAt, withPauses}
+use Rattle.kvmi.specs.Model.{Awaited, awaiting, Model, awaitedBy, isSome}
+use Rattle.kvmi.specs.Message.{layoutOf, sizeFits, vcpuOf, actionOf, repliedEvent, firstPadding}
+use Rattle.kvmi.specs.Event.{eventRowOf, offerFits, asksFor, isAskedFor, newValue}
+use Rattle.kvmi.specs.Verdict.{awaitedEvent, awaitedSeq, factsOf, repliesOn, isAwaited, replyFits, eventReplyVerdict, changeOf, verdict}
+use Rattle.kvmi.specs.Change.{apply, signalOf}
+use Rattle.kvmi.specs.Reply.{eventBytes, pauseEvent, answerOf}
+use Rattle.kvmi.specs.Pauses.{queued}
+use Rattle.kvmi.specs.Call.{Call, message, ready, enter, writeImage, Step, answering, judged, headed, messageStep, readyStep, sending, pausing, unqueueing, entering, enterStep, awaitsAny, imageStep, step, move, after}
+use Rattle.kvmi.specs.Image.{image}
+use Rattle.session.specs.State.{State}
+use Rattle.session.specs.Calls.{Told}
+use Rattle.session.specs.Meaning.{awaitedIn, modelOf}
+use Rattle.store.specs.Words.{field, AWAITED, AWAITED-SEQ}
+use Rattle.entry.specs.Entry.{askedForBy, isAskedForOf, sentOf, enteredOf, enterOf}
+use Rattle.refine.specs.Errors.{HasId}
+use Rattle.history.specs.History.{stepOf, afterOf, BeganOn}
+use Rattle.history.specs.Demand1.{offers, Offer, Open, Awaits}
+use Rattle.history.specs.Unsteered.{written}
+use Rattle.history.specs.Events.{switchesOn, SentExactly, PauseGoes, Replies, signalled, NoReply, NoReplies, Events}
+use Rattle.laws.proofs.Bool.{and-l, and-r, either, test, clash, among-every}
+use Rattle.laws.proofs.Verdicts.{pick, verdict-cases}
+use Rattle.laws.proofs.Events.{every-row, event-number, event-long}
+use Rattle.laws.proofs.Pauses.{closed-stays}
+use Rattle.laws.proofs.Same.{count-is}
+use Rattle.refine.proofs.Awaited.{awaited-length}
+use Rattle.refine.proofs.Words.{asked-means, awaited-means}
+use Rattle.refine.proofs.Simulate.{both}
+use Rattle.lookup.proofs.Looks.{replicated}
+use Rattle.history.proofs.Lists.{Stands, stands-valid, step-stands, after-stands, step-same, began-stands}
+use Rattle.history.proofs.Demand1.{fits-offer, offer-fits}
+use Rattle.history.proofs.Closed.{Rests, step-rests, after-rests}
+use Rattle.history.proofs.Lookups.{began-rests}
+
+-- ---- the switches
+-- a property of each number of a list
+abbrev Each : (ℕ → Type 0) → List ℕ → Type 0
+Each P [] = Unit {0}
+Each P (y ∷ ys) = P y × Each P ys
+
+each-among : (P : ℕ → Type 0) (x : ℕ) (ys : List ℕ) → Each P ys → So (among x ys) → P x
+each-among P x [] e h = clash h refl
+each-among P x (y ∷ ys) e h = either (eqb x y) (among x ys) h (λ q. rw (eqb-true x y q) (e .0)) (λ q. each-among P x ys (e .1) q)
+
+-- an offered event is asked for where its switches are on
+asked-on : (t : Tables) (vcpu event : ℕ) (own : List ℕ) → So (among event offers) → isAskedFor t vcpu event own ≡ switchesOn t vcpu event own
+unfolding isAskedFor asksFor eventRowOf switchesOn
+asked-on t vcpu event own h =
+    each-among (λ e. isAskedFor t vcpu e own ≡ switchesOn t vcpu e own) event offers (refl, (refl, (refl, (refl, (refl, (refl, (refl, (refl, (refl, (refl, tt)))))))))) h
+
+-- it is no pause
+no-pause : (event : ℕ) → So (among event offers) → event % 256 ≢ 2
+no-pause event h = eqb-false (event % 256) 2 (not-true _ (among-every (λ k. not (eqb (k % 256) 2)) event offers refl h))
+
+-- ---- an entry that is not refused
+module _ (s : Settings) (m : Model) (vcpu : ℕ) (block : List ℕ) (event : ℕ) (own out : List ℕ) where
+  record Entered (r : Step) : Type 0 where
+    below : vcpu < s .vcpus
+    known : So (among event offers)
+    idle : isSome (awaitedBy m vcpu) ≡ false
+    same : r ≡ entering m vcpu block event own out
+
+  abbrev If-handled : Step → Type 0
+  If-handled r = r .answer .number ≡ 0 → Entered r
+
+  entered : If-handled (enterStep s m vcpu block event own out)
+  unfolding enterStep
+  entered =
+      pick If-handled (m .closed) _ _ (λ _ h. absurd (omega arith))
+      (λ _. pick If-handled (leb (s .vcpus) vcpu) _ _ (λ _ h. absurd (omega arith))
+      (λ few. pick If-handled (not (eqb (length block) stateBytes && offerFits event own)) _ _ (λ _ h. absurd (omega arith))
+      (λ fits. pick If-handled (ltb (length out) eventOut) _ _ (λ _ h. absurd (omega arith))
+      (λ _. pick If-handled (isSome (awaitedBy m vcpu)) _ _ (λ _ h. absurd (omega arith))
+      (λ idle _. record {
+        below = leb-false (s .vcpus) vcpu few;
+        known = fits-offer event own (and-r (eqb (length block) stateBytes) (offerFits event own) (not-false _ fits)) .0;
+        idle = idle;
+        same = refl;
+      })))))
+
+-- what a step wrote
+abbrev wrote : Step → List ℕ
+wrote r = take (r .answer .count) (r .out)
+
+module _ (m : Model) (vcpu : ℕ) (block : List ℕ) (event : ℕ) (own out : List ℕ) (inside : vcpu < length (m .awaited)) where
+  abbrev asked : Bool
+  asked = isAskedFor (m .tables) vcpu event own
+
+  -- the awaited record that is set
+  awaits-now : (a : Option Awaited) → getD (set (m .awaited) vcpu a) vcpu none ≡ a
+  awaits-now a = getD-set-same (m .awaited) vcpu a none inside
+
+  abbrev Exactly : Step → Type 0
+  Exactly r =
+      ((wrote r ≡ eventBytes (m .seq) vcpu event block own) ↔ (asked ≡ true))
+      × ((awaitedBy (r .model) vcpu ≡ some (awaiting event (m .seq))) ↔ (asked ≡ true))
+
+  entering-exactly : event % 256 ≢ 2 → isSome (awaitedBy m vcpu) ≡ false → Exactly (entering m vcpu block event own out)
+  unfolding entering sending unqueueing pausing pauseEvent
+  entering-exactly other idle =
+      let bytes = eventBytes (m .seq) vcpu event block own in
+      let pause = eventBytes (m .seq) vcpu 2 block [] in
+      pick Exactly asked _ _
+      (λ a. ((λ _. a, λ _. take-append-seam bytes (drop (length bytes) out)), (λ _. a, λ _. awaits-now (some (awaiting event (m .seq))))))
+      (λ a. pick Exactly (leb 1 (vcpuAt (m .tables) vcpu .pauses)) _ _
+      (λ _. (
+        (
+          λ e. let same : pause ≡ bytes = sym (take-append-seam pause (drop (length pause) out)) ∙ e in
+              let number : 2 ≡ event % 256 = sym (event-number (m .seq) vcpu 2 block [] []) ∙ ap (λ (l : List ℕ). getD (l ++ []) 12 0) same ∙ event-number (m .seq) vcpu event block own [] in
+              absurd (other (sym number)),
+          λ t. clash t a,
+        ),
+        (
+          λ e. let number : 2 ≡ event = ap awaitedEvent (sym (awaits-now (some (awaiting 2 (m .seq)))) ∙ e) in
+              absurd (other (ap (λ (k : ℕ). k % 256) (sym number))),
+          λ t. clash t a,
+        ),
+      ))
+      (λ _. ((λ e. clash (sym (ap (λ (l : List ℕ). eqb (length l) 0) e)) (event-long (m .seq) vcpu event block own), λ t. clash t a), (λ e. clash (ap isSome e) idle, λ t. clash t a))))
+
+  abbrev Goes : Step → Type 0
+  Goes r = (wrote r ≡ pauseEvent (m .seq) vcpu block) × (awaitedBy (r .model) vcpu ≡ some (awaiting 2 (m .seq))) × (queued vcpu (r .model) + 1 ≡ queued vcpu m)
+
+  entering-pauses : vcpu < length (m .tables .vcpus) → asked ≡ false → 1 ≤ queued vcpu m → Goes (entering m vcpu block event own out)
+  unfolding entering unqueueing pausing queued
+  entering-pauses here a one =
+      let v = vcpuAt (m .tables) vcpu in
+      let pause = pauseEvent (m .seq) vcpu block in
+      let less = ap (λ (x : Vcpu). x .pauses) (getD-set-same (m .tables .vcpus) vcpu (withPauses v (v .pauses - 1)) resting here) in
+      rw (a, le-leb 1 (v .pauses) one) (take-append-seam pause (drop (length pause) out), awaits-now (some (awaiting 2 (m .seq))), omega arith)
+
+-- an event that is asked for leaves the tables as they are, refused or not
+asked-keeps : (s : Settings) (m : Model) (vcpu : ℕ) (block : List ℕ) (event : ℕ) (own out : List ℕ) → isAskedFor (m .tables) vcpu event own ≡ true
+    → enterStep s m vcpu block event own out .model .tables ≡ m .tables
+unfolding enterStep entering sending
+asked-keeps s m vcpu block event own out a =
+    let K : Step → Type 0 = λ r. r .model .tables ≡ m .tables in
+    pick K (m .closed) _ _ (λ _. refl)
+    (λ _. pick K (leb (s .vcpus) vcpu) _ _ (λ _. refl)
+    (λ _. pick K (not (eqb (length block) stateBytes && offerFits event own)) _ _ (λ _. refl)
+    (λ _. pick K (ltb (length out) eventOut) _ _ (λ _. refl)
+    (λ _. pick K (isSome (awaitedBy m vcpu)) _ _ (λ _. refl)
+    (λ _. pick K (isAskedFor (m .tables) vcpu event own) _ _ (λ _. refl) (λ f. clash a f))))))
+
+-- ---- an entry on the words that passes its offer over
+none-fits : offerFits 0 [] ≡ true
+unfolding offerFits eventRowOf
+none-fits = refl
+
+none-asked : (vmEvents : ℕ) (w : List ℕ) (vcpu : ℕ) → isAskedForOf vmEvents w vcpu 0 [] ≡ false
+unfolding isAskedForOf askedForBy eventRowOf
+none-asked vmEvents w vcpu = refl
+
+over : (st : State) (vcpu : ℕ) (block : List ℕ) (event : ℕ) (own out : List ℕ) → offerFits event own ≡ true → isAskedForOf (st .session .tool .events) (st .vcpus) vcpu event own ≡ false
+    → enterOf st vcpu block event own out ≡ enterOf st vcpu block 0 [] out
+unfolding enterOf enteredOf sentOf
+over st vcpu block event own out fits a = rw (fits, none-fits, a, none-asked)
+
+-- ---- a call between: the awaited record of a vCPU stays
+module _ (s : Settings) (m : Model) (vcpu : ℕ) (waits : isSome (awaitedBy m vcpu) ≡ true) where
+  abbrev Waits : Step → Type 0
+  Waits r = r .model .closed ≡ false → awaitedBy (r .model) vcpu ≡ awaitedBy m vcpu
+
+  -- no command ends a wait
+  change-waits : (guest d : List ℕ) (id : ℕ) → apply m guest d (changeOf id d) .model .awaited ≡ m .awaited
+  unfolding changeOf apply
+  change-waits guest d id =
+      let K : Change → Type 0 = λ c. apply m guest d c .model .awaited ≡ m .awaited in
+      pick K (eqb id 5) _ _ (λ _. refl)
+      (λ _. pick K (eqb id 7) _ _ (λ _. refl)
+      (λ _. pick K (eqb id 9) _ _ (λ _. refl)
+      (λ _. pick K (eqb id 10) _ _ (λ _. refl)
+      (λ _. pick K (eqb id 11) _ _ (λ _. refl)
+      (λ _. pick K (eqb id 12) _ _ (λ _. refl)
+      (λ _. pick K (eqb id 13) _ _ (λ _. refl)
+      (λ _. pick K (eqb id 14) _ _ (λ _. refl)
+      (λ _. pick K (eqb id 15) _ _ (λ _. refl) (λ _. refl)))))))))
+
+  headed-waits : (msg out guest : List ℕ) → (HasId msg 16 → vcpuOf (drop 8 msg) ≢ vcpu) → (h : Header) → headerOf msg ≡ h → Waits (headed s m (drop 8 msg) out guest h)
+  unfolding headed judged answering apply
+  headed-waits msg out guest other Broken w = λ o. absurd (true≢false o)
+  headed-waits msg out guest other (Whole id size seq) w =
+      let d = drop 8 msg in
+      verdict-cases (λ v. Waits (judged s m id seq d out guest v)) s (factsOf m (length guest) (vcpuOf d)) id seq d (λ o. absurd (true≢false o)) (λ code _ _. refl)
+      (λ _ _. ap (λ (l : List (Option Awaited)). getD l vcpu none) (change-waits guest d id))
+      (λ p _. let gone = other (size, seq, w ∙ ap (λ (n : ℕ). Whole n size seq) (p .reply)) in
+      getD-set-other (m .awaited) (vcpuOf d) vcpu none none (λ e. gone (sym e)))
+
+  -- an entry of that vCPU is refused, and one of another leaves its record
+  enter-waits : (v : ℕ) (block : List ℕ) (event : ℕ) (own out : List ℕ) → Waits (enterStep s m v block event own out)
+  unfolding enterStep entering sending unqueueing pausing
+  enter-waits v block event own out =
+      pick Waits (m .closed) _ _ (λ _ _. refl)
+      (λ _. pick Waits (leb (s .vcpus) v) _ _ (λ _ _. refl)
+      (λ _. pick Waits (not (eqb (length block) stateBytes && offerFits event own)) _ _ (λ _ _. refl)
+      (λ _. pick Waits (ltb (length out) eventOut) _ _ (λ _ _. refl)
+      (λ _. pick Waits (isSome (awaitedBy m v)) _ _ (λ _ _. refl)
+      (λ idle. let set-other : (a : Option Awaited) → getD (set (m .awaited) v a) vcpu none ≡ awaitedBy m vcpu
+      = λ a. getD-set-other (m .awaited) v vcpu a none (λ e. clash waits (ap (λ (k : ℕ). isSome (awaitedBy m k)) e ∙ idle)) in
+      pick Waits (isAskedFor (m .tables) v event own) _ _ (λ _ _. set-other _)
+      (λ _. pick Waits (leb 1 (vcpuAt (m .tables) v .pauses)) _ _ (λ _ _. set-other _) (λ _ _. refl)))))))
+
+  step-waits : (c : Call) → NoReply vcpu c → Waits (step s m c)
+  unfolding step messageStep readyStep imageStep
+  step-waits (message msg out guest) other =
+      pick Waits (m .closed) _ _ (λ _ _. refl)
+      (λ _. pick Waits (ltb (length out) leastOut) _ _ (λ _ _. refl) (λ _. headed-waits msg out guest other (headerOf msg) refl))
+  step-waits (ready v) other = pick Waits (m .closed) _ _ (λ _ _. refl) (λ _. pick Waits (leb (s .vcpus) v) _ _ (λ _ _. refl) (λ _ _. refl))
+  step-waits (enter v block event own out) other = enter-waits v block event own out
+  step-waits (writeImage out) other =
+      pick Waits (m .closed) _ _ (λ _ _. refl)
+      (λ _. pick Waits (awaitsAny (m .awaited)) _ _ (λ _ _. refl) (λ _. pick Waits (ltb (length out) (length (image (m .tables)))) _ _ (λ _ _. refl) (λ _ _. refl)))
+
+after-waits : (s : Settings) (m : Model) (vcpu : ℕ) (cs : List Call) → isSome (awaitedBy m vcpu) ≡ true → NoReplies vcpu cs → after s m cs .closed ≡ false
+    → awaitedBy (after s m cs) vcpu ≡ awaitedBy m vcpu
+unfolding after move
+after-waits s m vcpu [] waits other o = refl
+after-waits s m vcpu (c ∷ cs) waits other o =
+    let k = step s m c .model in
+    let opened : k .closed ≡ false = test (k .closed) (λ e. clash (closed-stays s k cs e) o) (λ e. e) in
+    let one : awaitedBy k vcpu ≡ awaitedBy m vcpu = step-waits s m vcpu waits c (other .0) opened in
+    after-waits s k vcpu cs (ap isSome one ∙ waits) (other .1) o ∙ one
+
+-- ---- the answer to an EVENT_REPLY
+-- what its rule asks
+abbrev asks : Option Awaited → Facts
+asks a = record { mode = On; guest = 0; ready = false; pauses = 0; awaited = awaitedEvent a; seq = awaitedSeq a }
+
+abbrev saysOf : Option Awaited → ℕ → List ℕ → Verdict
+saysOf a seq d = cond (leb 16 (length d)) (eventReplyVerdict (asks a) seq d) Closes
+
+abbrev answerBy : Verdict → Paper
+answerBy Closes = plain 1
+answerBy (Fails code) = handled 0 Quiet
+answerBy (Does c) = handled 0 (signalOf c)
+
+-- of the tests, only its own rule is left
+reply-verdict : (s : Settings) (m : Model) (guest vcpu seq : ℕ) (d : List ℕ) → verdict s (factsOf m guest vcpu) 16 seq d ≡ saysOf (awaitedBy m vcpu) seq d
+unfolding verdict allowsCommand layoutOf sizeFits eventReplyVerdict isAwaited
+reply-verdict s m guest vcpu seq d = rw (and-false (not (repliesOn (m .mode)))) (test (leb 16 (length d)) (λ e. rw e) (λ e. rw e))
+
+reply-answers : (s : Settings) (m : Model) (seq : ℕ) (d out guest : List ℕ) (v : Verdict) → judged s m 16 seq d out guest v .answer ≡ answerBy v
+unfolding judged answering answerOf layoutOf
+reply-answers s m seq d out guest Closes = refl
+reply-answers s m seq d out guest (Fails code) = refl
+reply-answers s m seq d out guest (Does c) = refl
+
+-- by whether it is closed, the length of the output and the awaited record
+abbrev replyAnswer : Bool → List ℕ → Option Awaited → ℕ → List ℕ → Paper
+replyAnswer closed out a seq d = cond closed (plain 2) (cond (ltb (length out) leastOut) (plain 3) (answerBy (saysOf a seq d)))
+
+reply-answer : (s : Settings) (m : Model) (msg out guest : List ℕ) (size seq : ℕ) → headerOf msg ≡ Whole 16 size seq
+    → step s m (message msg out guest) .answer ≡ replyAnswer (m .closed) out (awaitedBy m (vcpuOf (drop 8 msg))) seq (drop 8 msg)
+unfolding step messageStep headed
+reply-answer s m msg out guest size seq w =
+    let d = drop 8 msg in
+    let own : judged s m 16 seq d out guest (verdict s (factsOf m (length guest) (vcpuOf d)) 16 seq d) .answer ≡ answerBy (saysOf (awaitedBy m (vcpuOf d)) seq d)
+    = reply-answers s m seq d out guest _ ∙ ap answerBy (reply-verdict s m (length guest) (vcpuOf d) seq d) in
+    let Same : Step → Paper → Type 0 = λ r p. r .answer ≡ p in
+    rw w (both Same (m .closed) _ _ _ _ (λ _. refl) (λ _. both Same (ltb (length out) leastOut) _ _ _ _ (λ _. refl) (λ _. own)))
+
+-- only what it reads counts
+reads-same : (s s′ : Settings) (m k : Model) (msg out guest guest′ : List ℕ) → HasId msg 16 → m .closed ≡ k .closed
+    → awaitedBy m (vcpuOf (drop 8 msg)) ≡ awaitedBy k (vcpuOf (drop 8 msg))
+    → step s m (message msg out guest) .answer ≡ step s′ k (message msg out guest′) .answer
+reads-same s s′ m k msg out guest guest′ (size, seq, w) closed awaited =
+    reply-answer s m msg out guest size seq w
+    ∙ (λ j. replyAnswer (closed j) out (awaited j) seq (drop 8 msg))
+    ∙ sym (reply-answer s′ k msg out guest′ size seq w)
+
+-- ---- a reply that fits
+-- a row whose replies have data has 16 bytes of them or more
+reply-long : (event : ℕ) (d : List ℕ) → event ≢ 0 → repliedEvent d ≡ event → length d ≡ eventRowOf event .reply → leb 16 (length d) ≡ true
+reply-long event d some-event replied size =
+    let n = eventRowOf event .reply in
+    either (eqb n 0) (leb 16 n) (every-row (λ (r : EventRow). eqb (r .reply) 0 || leb 16 (r .reply)) refl refl event)
+    (λ e. let z = eqb-true n 0 e in absurd (some-event (sym replied ∙ List·getD-eq-default d 0 {n = 9} (omega arith))))
+    (λ l. rw size l)
+
+abbrev ended : ℕ → List ℕ → Change
+ended event d = EndWait (not (eqb event 2)) (vcpuOf d) (actionOf d) (newValue (eventRowOf event) d)
+
+reply-does : (s : Settings) (m : Model) (guest vcpu event seq : ℕ) (msg : List ℕ) → awaitedBy m vcpu ≡ some (awaiting event seq) → event ≢ 0 → Replies vcpu event seq msg
+    → verdict s (factsOf m guest (vcpuOf (drop 8 msg))) 16 seq (drop 8 msg) ≡ Does (ended event (drop 8 msg))
+unfolding eventReplyVerdict isAwaited replyFits
+reply-does s m guest vcpu event seq msg waits some-event q =
+    let d = drop 8 msg in
+    reply-verdict s m guest (vcpuOf d) seq d
+    ∙ ap (λ (a : Option Awaited). saysOf a seq d) (ap (λ (v : ℕ). awaitedBy m v) (q .names) ∙ waits)
+    ∙ rw (
+      reply-long event d some-event (q .replied) (q .size),
+      eq-eqb (firstPadding 16 d) 0 (q .padding),
+      ne-eqb event 0 some-event,
+      eq-eqb seq seq refl,
+      eq-eqb event (repliedEvent d) (sym (q .replied)),
+      eq-eqb (length d) (eventRowOf event .reply) (q .size),
+      q .action,
+    )
+
+-- no record is awaited where none is set
+none-set : (l : List (Option Awaited)) (v : ℕ) → getD (set l v none) v none ≡ none
+none-set l v =
+    test (ltb v (length l)) (λ h. getD-set-same l v none none (ltb-true v (length l) h))
+    (λ h. let far = ltb-false v (length l) h in ap (λ (x : List (Option Awaited)). getD x v none) (set-out l v none far) ∙ List·getD-eq-default l none {n = v} far)
+
+reply-taken : (s : Settings) (m : Model) (vcpu event seq : ℕ) (msg out guest : List ℕ) → m .closed ≡ false → awaitedBy m vcpu ≡ some (awaiting event seq) → event ≢ 0
+    → Replies vcpu event seq msg → leastOut ≤ length out
+    → let r = step s m (message msg out guest) in (r .answer ≡ handled 0 (signalled vcpu event (drop 8 msg))) × (awaitedBy (r .model) vcpu ≡ none)
+unfolding step messageStep headed judged answering answerOf layoutOf apply
+reply-taken s m vcpu event seq msg out guest o waits some-event q long =
+    let d = drop 8 msg in
+    let does = reply-does s m (length guest) vcpu event seq msg waits some-event q in
+    let taken : step s m (message msg out guest) ≡ judged s m 16 seq d out guest (Does (ended event d)) = rw (o, le-ltb (length out) leastOut long, q .header .1, does) in
+    let signal : signalOf (ended event d) ≡ signalled vcpu event d = rw (q .names) (test (eqb event 2) (λ e. rw e) (λ e. rw e)) in (
+      ap (λ (r : Step). r .answer) taken ∙ ap (handled 0) signal,
+      ap (λ (r : Step). awaitedBy (r .model) vcpu) taken ∙ ap (λ (v : ℕ). getD (set (m .awaited) v none) vcpu none) (q .names) ∙ none-set (m .awaited) vcpu,
+    )
+
+-- ---- a reply that does not
+reply-closes : (s : Settings) (m : Model) (msg out guest : List ℕ) → HasId msg 16 → m .closed ≡ false → leastOut ≤ length out
+    → ((vcpu event seq : ℕ) → awaitedBy m vcpu ≡ some (awaiting event seq) → Replies vcpu event seq msg → ⊥) → step s m (message msg out guest) .answer ≡ plain 1
+unfolding eventReplyVerdict isAwaited replyFits
+reply-closes s m msg out guest (size, seq, w) o long misses =
+    reply-answer s m msg out guest size seq w ∙ rw (o, le-ltb (length out) leastOut long) (by (awaitedBy m (vcpuOf (drop 8 msg))) refl)
+  where
+    d : List ℕ
+    d = drop 8 msg
+
+    Shuts : Verdict → Type 0
+    Shuts v = answerBy v ≡ plain 1
+
+    fits : Option Awaited → Bool
+    fits a = eqb (firstPadding 16 (drop 8 msg)) 0 && isAwaited (asks a) seq (repliedEvent (drop 8 msg)) && replyFits (eventRowOf (awaitedEvent a)) (drop 8 msg)
+
+    never : (a : Option Awaited) → awaitedBy m (vcpuOf (drop 8 msg)) ≡ a → fits a ≡ true → ⊥
+    never none e h =
+        let z : isAwaited (asks none) seq (repliedEvent (drop 8 msg)) ≡ true = search (and-l, and-r) in
+        false≢true z
+    never (some a) e h =
+        let same : a .seq ≡ seq = eqb-true (a .seq) seq (search (and-l, and-r)) in
+        misses (vcpuOf (drop 8 msg)) (a .event) (a .seq) e
+        (record {
+          header = (size, w ∙ ap (λ (n : ℕ). Whole 16 size n) (sym same));
+          names = refl;
+          padding = eqb-true (firstPadding 16 (drop 8 msg)) 0 (search (and-l, and-r));
+          replied = sym (eqb-true (a .event) (repliedEvent (drop 8 msg)) (search (and-l, and-r)));
+          size = eqb-true (length (drop 8 msg)) (eventRowOf (a .event) .reply) (search (and-l, and-r));
+          action = search (and-l, and-r);
+        })
+
+    by : (a : Option Awaited) → awaitedBy m (vcpuOf (drop 8 msg)) ≡ a → answerBy (saysOf a seq (drop 8 msg)) ≡ plain 1
+    by a e =
+        pick Shuts (leb 16 (length (drop 8 msg))) _ _ (λ _. pick Shuts (fits a) _ _ (λ h. absurd (never a e h)) (λ _. refl)) (λ _. refl)
+
+-- ---- a session that stands for a model
+module _ (s : Settings) (st : State) (m : Model) (f : Stands s st m) where
+  -- as many records are awaited as there are vCPUs
+  awaited-count : length (m .awaited) ≡ s .vcpus
+  awaited-count =
+      sym (ap (λ (k : Model). length (k .awaited)) (f .model)) ∙ awaited-length (st .vcpus) 0 (st .session .settings .vcpus) ∙ ap (λ (x : Settings). x .vcpus) (f .settings)
+
+  -- 0 is no event
+  awaited-event : (vcpu event seq : ℕ) → awaitedBy m vcpu ≡ some (awaiting event seq) → event ≢ 0
+  unfolding awaitedIn
+  awaited-event vcpu event seq e z =
+      let own : awaitedIn (st .vcpus) vcpu ≡ some (awaiting event seq) = sym (awaited-means st (f .formed .words) vcpu) ∙ ap (λ (k : Model). awaitedBy k vcpu) (f .model) ∙ e in
+      by (eqb (field (st .vcpus) vcpu AWAITED) 0) refl own
+    where
+      by : (b : Bool) → eqb (field (st .vcpus) vcpu AWAITED) 0 ≡ b → cond b none (some (awaiting (field (st .vcpus) vcpu AWAITED) (field (st .vcpus) vcpu AWAITED-SEQ))) ≡ some (awaiting event seq) → ⊥
+      by true q own = false≢true (ap isSome own)
+      by false q own = eqb-false (field (st .vcpus) vcpu AWAITED) 0 q (ap awaitedEvent own ∙ z)
+
+  -- a closed one awaits nothing
+  waiting-open : Rests s m → (vcpu : ℕ) → isSome (awaitedBy m vcpu) ≡ true → m .closed ≡ false
+  waiting-open rests vcpu waits =
+      test (m .closed)
+      (λ e. clash waits (ap (λ (k : Model). isSome (awaitedBy k vcpu)) (rests e) ∙ ap isSome (replicated (s .vcpus) none vcpu)))
+      (λ e. e)
+
+  -- ---- an entry
+  module _ (vcpu : ℕ) (block : List ℕ) (event : ℕ) (own out : List ℕ) where
+    abbrev call : Call
+    call = enter vcpu block event own out
+
+    abbrev r : Told
+    r = stepOf st call
+
+    -- what is written and awaited, and the model's tables
+    stands-wrote : written r ≡ wrote (step s m call)
+    stands-wrote = let same = step-same s st m call f in λ j. take (same .0 j .count) (same .1 j)
+
+    stands-awaits : awaitedBy (modelOf (r .state)) vcpu ≡ awaitedBy (step s m call .model) vcpu
+    stands-awaits = ap (λ (k : Model). awaitedBy k vcpu) (step-stands s st m call f .model)
+
+    stands-entered : r .answer .number ≡ 0 → Entered s m vcpu block event own out (step s m call)
+    unfolding step
+    stands-entered h = entered s m vcpu block event own out (sym (ap (λ (p : Paper). p .number) (step-same s st m call f .0)) ∙ h)
+
+    abbrev on : Bool
+    on = switchesOn (m .tables) vcpu event own
+
+    stands-sent : r .answer .number ≡ 0 → SentExactly m vcpu block event own r
+    stands-sent h =
+        let e = stands-entered h in
+        let count = awaited-count in
+        let inside : vcpu < length (m .awaited) = let b = e .below in omega arith in
+        let x = subst (Exactly m vcpu block event own out inside) (sym (e .same)) (entering-exactly m vcpu block event own out inside (no-pause event (e .known)) (e .idle)) in
+        let asks-on = asked-on (m .tables) vcpu event own (e .known) in
+        record {
+          bytes = (λ q. sym asks-on ∙ x .0 .0 (sym stands-wrote ∙ q), λ q. stands-wrote ∙ x .0 .1 (asks-on ∙ q));
+          awaited = (λ q. sym asks-on ∙ x .1 .0 (sym stands-awaits ∙ q), λ q. stands-awaits ∙ x .1 .1 (asks-on ∙ q));
+        }
+
+    stands-pauses : r .answer .number ≡ 0 → on ≡ false → 1 ≤ queued vcpu m → PauseGoes m vcpu block r
+    stands-pauses h off one =
+        let e = stands-entered h in
+        let count = awaited-count in
+        let inside : vcpu < length (m .awaited) = let b = e .below in omega arith in
+        let there : vcpu < length (m .tables .vcpus) = let b = e .below in let c = count-is s (m .tables) (stands-valid s st m f) in omega arith in
+        let x = subst (Goes m vcpu block event own out inside) (sym (e .same))
+        (entering-pauses m vcpu block event own out inside there (asked-on (m .tables) vcpu event own (e .known) ∙ off) one) in
+        record {
+          bytes = stands-wrote ∙ x .0;
+          awaited = stands-awaits ∙ x .1;
+          queue = ap (λ (k : Model). queued vcpu k + 1) (step-stands s st m call f .model) ∙ x .2;
+        }
+
+    stands-keeps : Offer event own → on ≡ true → modelOf (r .state) .tables ≡ m .tables
+    unfolding step
+    stands-keeps o q =
+        ap (λ (k : Model). k .tables) (step-stands s st m call f .model) ∙ asked-keeps s m vcpu block event own out (asked-on (m .tables) vcpu event own (o .0) ∙ q)
+
+    stands-over : Offer event own → on ≡ false → r ≡ stepOf st (enter vcpu block 0 [] out)
+    unfolding stepOf
+    stands-over o q =
+        over st vcpu block event own out (offer-fits event own o)
+        (asked-means st (f .formed .words) vcpu event own ∙ ap (λ (k : Model). isAskedFor (k .tables) vcpu event own) (f .model) ∙ asked-on (m .tables) vcpu event own (o .0) ∙ q)
+
+  -- ---- a reply
+  stands-taken : Rests s m → (vcpu event seq : ℕ) (msg out guest : List ℕ) → awaitedBy m vcpu ≡ some (awaiting event seq) → Replies vcpu event seq msg → leastOut ≤ length out
+      → let r = stepOf st (message msg out guest) in (r .answer ≡ handled 0 (signalled vcpu event (drop 8 msg))) × (awaitedBy (modelOf (r .state)) vcpu ≡ none)
+  stands-taken rests vcpu event seq msg out guest waits q long =
+      let c = message msg out guest in
+      let t = reply-taken s m vcpu event seq msg out guest (waiting-open rests vcpu (ap isSome waits)) waits (awaited-event vcpu event seq waits) q long in
+      (step-same s st m c f .0 ∙ t .0, ap (λ (k : Model). awaitedBy k vcpu) (step-stands s st m c f .model) ∙ t .1)
+
+  stands-later : Rests s m → (between : List Call) (msg out guest : List ℕ) → HasId msg 16 → let vcpu = vcpuOf (drop 8 msg) in
+      Awaits st vcpu → NoReplies vcpu between → Open (afterOf st between)
+      → stepOf (afterOf st between) (message msg out guest) .answer ≡ stepOf st (message msg out guest) .answer
+  stands-later rests between msg out guest id waits none-replies o =
+      let c = message msg out guest in
+      let vcpu = vcpuOf (drop 8 msg) in
+      let g = after-stands s st m between f in
+      let awaits : isSome (awaitedBy m vcpu) ≡ true = sym (ap (λ (k : Model). isSome (awaitedBy k vcpu)) (f .model)) ∙ waits in
+      let opened : after s m between .closed ≡ false = sym (ap (λ (k : Model). k .closed) (g .model)) ∙ o in
+      step-same s (afterOf st between) (after s m between) c g .0
+      ∙ reads-same s s (after s m between) m msg out guest guest id (opened ∙ sym (waiting-open rests vcpu awaits)) (after-waits s m vcpu between awaits none-replies opened)
+      ∙ sym (step-same s st m c f .0)
+
+  stands-closes : (msg out guest : List ℕ) → HasId msg 16 → Open st → leastOut ≤ length out
+      → ((vcpu event seq : ℕ) → awaitedBy m vcpu ≡ some (awaiting event seq) → Replies vcpu event seq msg → ⊥) → stepOf st (message msg out guest) .answer ≡ plain 1
+  stands-closes msg out guest id o long misses =
+      step-same s st m (message msg out guest) f .0
+      ∙ reply-closes s m msg out guest id (sym (ap (λ (k : Model). k .closed) (f .model)) ∙ o) long misses
+
+-- ---- one event, from the entry to its reply
+stands-resumed : (s : Settings) (st : State) (m : Model) → Stands s st m → Rests s m → (vcpu : ℕ) (block : List ℕ) (event : ℕ) (own out : List ℕ)
+    → let r = stepOf st (enter vcpu block event own out) in
+    r .answer .number ≡ 0 → switchesOn (m .tables) vcpu event own ≡ true
+    → (between : List Call) → NoReplies vcpu between → Open (afterOf (r .state) between)
+    → (msg out′ guest : List ℕ) → Replies vcpu event (m .seq) msg → leastOut ≤ length out′
+    → stepOf (afterOf (r .state) between) (message msg out′ guest) .answer
+    ≡ handled 0 (cond (eqb (actionOf (drop 8 msg)) 2) (Crash vcpu) (Resume vcpu (actionOf (drop 8 msg)) (newValue (eventRowOf event) (drop 8 msg))))
+stands-resumed s st m f rests vcpu block event own out h on between none-replies o msg out′ guest q long =
+    let c = enter vcpu block event own out in
+    let k = step s m c .model in
+    let g = step-stands s st m c f in
+    let e = after-stands s (stepOf st c .state) k between g in
+    let awaits : awaitedBy k vcpu ≡ some (awaiting event (m .seq)) = sym (stands-awaits s st m f vcpu block event own out) ∙ stands-sent s st m f vcpu block event own out h .awaited .1 on in
+    let opened : after s k between .closed ≡ false = sym (ap (λ (x : Model). x .closed) (e .model)) ∙ o in
+    let still = after-waits s k vcpu between (ap isSome awaits) none-replies opened ∙ awaits in
+    let taken = stands-taken s (afterOf (stepOf st c .state) between) (after s k between) e (after-rests s k between (step-rests s m rests c)) vcpu event (m .seq) msg out′ guest still q long .0 in
+    let other : eqb event 2 ≡ false = ne-eqb event 2 (λ z. no-pause event (stands-entered s st m f vcpu block event own out h .known) (ap (λ (n : ℕ). n % 256) z)) in
+    rw other at taken
+
+-- ---- the other events
+module _ (s : Settings) (st : State) (m : Model) (b : BeganOn s st m) (cs : List Call) where
+  stands : Stands s (afterOf st cs) (after s m cs)
+  stands = after-stands s st m cs (began-stands s st m b)
+
+  rests : Rests s (after s m cs)
+  rests = after-rests s m cs (began-rests s st m b)
+
+pub other-events : Events
+other-events =
+    record {
+      sent = λ s st m b cs. stands-sent s (afterOf st cs) (after s m cs) (stands s st m b cs);
+      passedOver = λ s st m b cs. stands-over s (afterOf st cs) (after s m cs) (stands s st m b cs);
+      pauseInstead = λ s st m b cs. stands-pauses s (afterOf st cs) (after s m cs) (stands s st m b cs);
+      keeps = λ s st m b cs. stands-keeps s (afterOf st cs) (after s m cs) (stands s st m b cs);
+      reads = reads-same;
+      later = λ s st m b cs. stands-later s (afterOf st cs) (after s m cs) (stands s st m b cs) (rests s st m b cs);
+      taken = λ s st m b cs. stands-taken s (afterOf st cs) (after s m cs) (stands s st m b cs) (rests s st m b cs);
+      closes = λ s st m b cs. stands-closes s (afterOf st cs) (after s m cs) (stands s st m b cs);
+      resumed = λ s st m b cs. stands-resumed s (afterOf st cs) (after s m cs) (stands s st m b cs) (rests s st m b cs);
+    }
