@@ -19,7 +19,7 @@ use Rattle.reply.proofs.Lengths.{length-event}
 use Rattle.session.specs.declared.Session.{Session}
 use Rattle.session.specs.State.{state, withTool, withToolSeq}
 use Rattle.session.specs.Calls.{told}
-use Rattle.entry.specs.Entry.{awaitingWords, sendingOf, pausingOf, unqueueingOf, Went, sentOf, enteredOf}
+use Rattle.entry.specs.Entry.{awaitingWords, sendingOf, pausingOf, dequeuingOf, Went, sentOf, enteredOf}
 
 -- an event's number goes out as one byte
 number-byte : (event : ℕ) → le 1 (event % 256) ≡ le 1 event
@@ -51,14 +51,14 @@ module _ (w after out wrote block : List ℕ) (vcpu seq next count : ℕ) where
 
   pub paused-as : (queued : ℕ) (fewer : List ℕ) → queued ≡ field w vcpu PAUSES → (queued ≡ 0 → ⊥) → Written out wrote count (pauseEvent seq vcpu block)
       → fewer ≡ setField w vcpu PAUSES (queued - 1) → after ≡ awaitingWords fewer vcpu 2 seq → next ≡ nextSeq seq
-      → Went after out wrote (record { count = count; next = next }) (unqueueingOf w vcpu seq block)
-  unfolding unqueueingOf pausingOf
+      → Went after out wrote (record { count = count; next = next }) (dequeuingOf w vcpu seq block)
+  unfolding dequeuingOf pausingOf
   paused-as queued fewer q some o f a e =
       rw (← q, le-leb 1 queued (omega (arith, some))) (record { written = record { written = o; next = e }; words = a ∙ ap (λ (l : List ℕ). awaitingWords l vcpu 2 seq) f })
 
 pub nothing-queued : (w out block : List ℕ) (vcpu seq queued : ℕ) → queued ≡ field w vcpu PAUSES → queued ≡ 0
-    → Went w out out (record { count = 0; next = seq }) (unqueueingOf w vcpu seq block)
-unfolding unqueueingOf
+    → Went w out out (record { count = 0; next = seq }) (dequeuingOf w vcpu seq block)
+unfolding dequeuingOf
 nothing-queued w out block vcpu seq queued q none =
     rw (← q, lt-leb 1 queued (omega arith))
     (record { written = record { written = record { count = refl; there = sym (store-none out 0) }; next = refl }; words = refl })

@@ -65,8 +65,8 @@ abbrev pub nothingSent : List ℕ → ℕ → Sent
 nothingSent w seq = record { bytes = []; vcpus = w; next = seq }
 
 -- a queued pause, or nothing
-unfoldable pub unqueueingOf : List ℕ → ℕ → ℕ → List ℕ → Sent
-unqueueingOf w vcpu seq block = cond (leb 1 (field w vcpu PAUSES)) (pausingOf w vcpu seq block) (nothingSent w seq)
+unfoldable pub dequeuingOf : List ℕ → ℕ → ℕ → List ℕ → Sent
+dequeuingOf w vcpu seq block = cond (leb 1 (field w vcpu PAUSES)) (pausingOf w vcpu seq block) (nothingSent w seq)
 
 -- what a function that writes it has done: the words after it, the output before and after, and what is returned
 pub record Went (vcpus before after : List ℕ) (r : Answered) (x : Sent) : Type 0 where
@@ -78,7 +78,7 @@ unfoldable pub sentOf : State → ℕ → List ℕ → ℕ → List ℕ → Sent
 sentOf st vcpu block event own =
     cond (isAskedForOf (st .session .tool .events) (st .vcpus) vcpu event own)
     (sendingOf (st .vcpus) vcpu (st .session .tool .seq) block event own)
-    (unqueueingOf (st .vcpus) vcpu (st .session .tool .seq) block)
+    (dequeuingOf (st .vcpus) vcpu (st .session .tool .seq) block)
 
 -- ---- the call
 abbrev pub toldSent : State → Sent → List ℕ → Told

@@ -12,7 +12,7 @@ ghost use lib.ListN.{length};
 ghost use Rattle.kvmi.specs.Event.{offerFits};
 ghost use Rattle.session.specs.State.{state};
 ghost use Rattle.session.specs.Calls.{told};
-ghost use Rattle.entry.specs.Entry.{isAskedForOf, crBitOn, awaitingWords, Went, sendingOf, unqueueingOf, sentOf, enteredOf, enterOf};
+ghost use Rattle.entry.specs.Entry.{isAskedForOf, crBitOn, awaitingWords, Went, sendingOf, dequeuingOf, sentOf, enteredOf, enterOf};
 
 // The least output that an entry is given: the bytes of a CR or an MSR event.
 pub const EVENT_OUT: usize = 576;
@@ -94,8 +94,8 @@ fn send(
 }
 
 // A queued pause goes out, if there is one.
-fn unqueue(vcpus: &mut [u64], vcpu: u16, seq: u32, block: &[u8], out: &mut [u8]) -> Answered
-    ensures { λ r. ⌜ Went (now (vcpus .exit)) (now (out .entry)) (now (out .exit)) r (unqueueingOf (now (vcpus .entry)) vcpu seq (now (block .entry))) ⌝ }
+fn dequeue(vcpus: &mut [u64], vcpu: u16, seq: u32, block: &[u8], out: &mut [u8]) -> Answered
+    ensures { λ r. ⌜ Went (now (vcpus .exit)) (now (out .entry)) (now (out .exit)) r (dequeuingOf (now (vcpus .entry)) vcpu seq (now (block .entry))) ⌝ }
 {
     let queued = store::words::read_field(vcpus, vcpu, store::words::PAUSES);
     if queued == 0 {
@@ -130,7 +130,7 @@ fn hand_out(
     if is_asked_for(s.tool.events, vcpus, vcpu, event, own) {
         return send(vcpus, vcpu, seq, block, event, own, out);
     }
-    unqueue(vcpus, vcpu, seq, block, out)
+    dequeue(vcpus, vcpu, seq, block, out)
 }
 
 // The rest of an entry whose arguments are in order.

@@ -20,7 +20,7 @@ use Rattle.kvmi.specs.Message.{vcpuOf}
 use Rattle.kvmi.specs.Event.{offerFits, isAskedFor}
 use Rattle.kvmi.specs.Verdict.{factsOf, verdict}
 use Rattle.kvmi.specs.Change.{apply}
-use Rattle.kvmi.specs.Call.{Step, Call, message, ready, enter, writeImage, unchanged, answering, judged, headed, messageStep, readyStep, sending, pausing, unqueueing, entering, enterStep, awaitsAny, imageStep, step, move, after}
+use Rattle.kvmi.specs.Call.{Step, Call, message, ready, enter, writeImage, unchanged, answering, judged, headed, messageStep, readyStep, sending, pausing, dequeuing, entering, enterStep, awaitsAny, imageStep, step, move, after}
 use Rattle.laws.proofs.Bool.{clash}
 use Rattle.laws.proofs.Verdicts.{pick}
 
@@ -63,7 +63,7 @@ module _ (s : Settings) (m : Model) (rests : Rests s m) where
   headed-rests d out guest lives (Whole id size seq) = judged-rests id seq d out guest lives (verdict s (factsOf m (length guest) (vcpuOf d)) id seq d)
 
   entering-rests : (vcpu : ℕ) (block : List ℕ) (event : ℕ) (own out : List ℕ) → m .closed ≡ false → R (entering m vcpu block event own out)
-  unfolding entering sending unqueueing pausing
+  unfolding entering sending dequeuing pausing
   entering-rests vcpu block event own out lives =
       pick R (isAskedFor (m .tables) vcpu event own) _ _ (λ _. still-lives lives _ refl)
       (λ _. pick R (leb 1 (vcpuAt (m .tables) vcpu .pauses)) _ _ (λ _. still-lives lives _ refl) (λ _. rests))

@@ -34,7 +34,7 @@ use Rattle.kvmi.specs.Verdict.{awaitedEvent, awaitedSeq, factsOf, repliesOn, is
 use Rattle.kvmi.specs.Change.{apply, signalOf}
 use Rattle.kvmi.specs.Reply.{eventBytes, pauseEvent, answerOf}
 use Rattle.kvmi.specs.Pauses.{queued}
-use Rattle.kvmi.specs.Call.{Call, message, ready, enter, writeImage, Step, answering, judged, headed, messageStep, readyStep, sending, pausing, unqueueing, entering, enterStep, awaitsAny, imageStep, step, move, after}
+use Rattle.kvmi.specs.Call.{Call, message, ready, enter, writeImage, Step, answering, judged, headed, messageStep, readyStep, sending, pausing, dequeuing, entering, enterStep, awaitsAny, imageStep, step, move, after}
 use Rattle.kvmi.specs.Image.{image}
 use Rattle.session.specs.State.{State}
 use Rattle.session.specs.Calls.{Told}
@@ -124,7 +124,7 @@ module _ (m : Model) (vcpu : ℕ) (block : List ℕ) (event : ℕ) (own out : Li
       × ((awaitedBy (r .model) vcpu ≡ some (awaiting event (m .seq))) ↔ (asked ≡ true))
 
   entering-exactly : event % 256 ≢ 2 → isSome (awaitedBy m vcpu) ≡ false → Exactly (entering m vcpu block event own out)
-  unfolding entering sending unqueueing pausing pauseEvent
+  unfolding entering sending dequeuing pausing pauseEvent
   entering-exactly other idle =
       let bytes = eventBytes (m .seq) vcpu event block own in
       let pause = eventBytes (m .seq) vcpu 2 block [] in
@@ -150,7 +150,7 @@ module _ (m : Model) (vcpu : ℕ) (block : List ℕ) (event : ℕ) (own out : Li
   Goes r = (wrote r ≡ pauseEvent (m .seq) vcpu block) × (awaitedBy (r .model) vcpu ≡ some (awaiting 2 (m .seq))) × (queued vcpu (r .model) + 1 ≡ queued vcpu m)
 
   entering-pauses : vcpu < length (m .tables .vcpus) → asked ≡ false → 1 ≤ queued vcpu m → Goes (entering m vcpu block event own out)
-  unfolding entering unqueueing pausing queued
+  unfolding entering dequeuing pausing queued
   entering-pauses here a one =
       let v = vcpuAt (m .tables) vcpu in
       let pause = pauseEvent (m .seq) vcpu block in
@@ -216,7 +216,7 @@ module _ (s : Settings) (m : Model) (vcpu : ℕ) (waits : isSome (awaitedBy m vc
 
   -- an entry of that vCPU is refused, and one of another leaves its record
   enter-waits : (v : ℕ) (block : List ℕ) (event : ℕ) (own out : List ℕ) → Waits (enterStep s m v block event own out)
-  unfolding enterStep entering sending unqueueing pausing
+  unfolding enterStep entering sending dequeuing pausing
   enter-waits v block event own out =
       pick Waits (m .closed) _ _ (λ _ _. refl)
       (λ _. pick Waits (leb (s .vcpus) v) _ _ (λ _ _. refl)

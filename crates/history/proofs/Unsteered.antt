@@ -45,7 +45,7 @@ use Rattle.session.specs.Calls.{Told, toldSame, toldWritten}
 use Rattle.session.specs.Meaning.{awaitedOf}
 use Rattle.change.specs.Change.{change}
 use Rattle.message.specs.Message.{factsIn, answeringOf, judgedOf, headedOf, messageOf}
-use Rattle.entry.specs.Entry.{askedForBy, isAskedForOf, Sent, sendingOf, pausingOf, unqueueingOf, sentOf, toldSent, enteredOf, enterOf}
+use Rattle.entry.specs.Entry.{askedForBy, isAskedForOf, Sent, sendingOf, pausingOf, dequeuingOf, sentOf, toldSent, enteredOf, enterOf}
 use Rattle.image_writer.specs.Write.{statedVcpus, statedTables, imageOf}
 use Rattle.history.specs.History.{stepOf, afterOf}
 use Rattle.history.specs.Unsteered.{written, ownBytes, Alike, messages, readies, enters, writes, SameFor, ButGuest, ended, more, answersOf, bytesOf, Unsteered}
@@ -303,7 +303,7 @@ module _ (vcpu : ℕ) (block block′ : List ℕ) (event : ℕ) (own own′ out 
       by OfMsr = rw msr
 
   sent-same : SentAlike (sentOf st vcpu block event own) (sentOf st vcpu block′ event own′)
-  unfolding sentOf sendingOf unqueueingOf pausingOf pauseEvent
+  unfolding sentOf sendingOf dequeuingOf pausingOf pauseEvent
   sent-same =
       let seq = st .session .tool .seq in
       rw (← asked-same (st .session .tool .events) (st .vcpus))

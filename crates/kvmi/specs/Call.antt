@@ -130,13 +130,13 @@ pausing m vcpu state out =
     (awaitingReply (onVcpu m vcpu (λ v. withPauses v (v .pauses - 1))) vcpu 2)
 
 -- "else 0 bytes"
-unfoldable pub unqueueing : Model → ℕ → List ℕ → List ℕ → Step
-unqueueing m vcpu state out = cond (leb 1 (vcpuAt (m .tables) vcpu .pauses)) (pausing m vcpu state out) (writing [] Quiet out [] m)
+unfoldable pub dequeuing : Model → ℕ → List ℕ → List ℕ → Step
+dequeuing m vcpu state out = cond (leb 1 (vcpuAt (m .tables) vcpu .pauses)) (pausing m vcpu state out) (writing [] Quiet out [] m)
 
 -- W1: "Entry order: offered event, then pause."; "a switched-off event is passed over and a queued pause goes instead"
 unfoldable pub entering : Model → ℕ → List ℕ → ℕ → List ℕ → List ℕ → Step
 entering m vcpu state event own out =
-    cond (isAskedFor (m .tables) vcpu event own) (sending m vcpu state event own out) (unqueueing m vcpu state out)
+    cond (isAskedFor (m .tables) vcpu event own) (sending m vcpu state event own out) (dequeuing m vcpu state out)
 
 -- 2 closed; 4 bad vCPU; 5 bad state block, not 536 bytes, or an offer that does not fit; 3 short out, below 576; 6 waiting
 unfoldable pub enterStep : Settings → Model → ℕ → List ℕ → ℕ → List ℕ → List ℕ → Step

@@ -32,7 +32,7 @@ use Rattle.kvmi.specs.Event.{offerFits, isAskedFor}
 use Rattle.kvmi.specs.Reply.{eventBytes, pauseEvent}
 use Rattle.kvmi.specs.Valid.{Valid}
 use Rattle.kvmi.specs.Image.{image}
-use Rattle.kvmi.specs.Call.{Call, message, ready, enter, writeImage, Step, answering, judged, headed, unchanged, messageStep, readyStep, sending, pausing, unqueueing, entering, enterStep, awaitsAny, imageStep, step, move, after}
+use Rattle.kvmi.specs.Call.{Call, message, ready, enter, writeImage, Step, answering, judged, headed, unchanged, messageStep, readyStep, sending, pausing, dequeuing, entering, enterStep, awaitsAny, imageStep, step, move, after}
 use Rattle.kvmi.specs.Answer.{plain}
 use Rattle.kvmi.specs.Pauses.{kicks, accepted, sent, queued, acceptedIn, sentIn}
 use Rattle.laws.proofs.Bool.{test, clash}
@@ -152,7 +152,7 @@ module _ (s : Settings) (vcpu : ℕ) where
 
   enter-balanced : (m : Model) (v : ℕ) (block : List ℕ) (event : ℕ) (own out : List ℕ) → Valid s (m .tables)
       → Balanced vcpu m (enter v block event own out) (enterStep s m v block event own out)
-  unfolding enterStep entering sending unqueueing pausing pauseEvent accepted sent queued
+  unfolding enterStep entering sending dequeuing pausing pauseEvent accepted sent queued
   enter-balanced m v block event own out a =
       pick B (m .closed) _ _ (λ _. b 2)
       (λ _. pick B (leb (s .vcpus) v) _ _ (λ _. b 4)

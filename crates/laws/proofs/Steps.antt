@@ -31,7 +31,7 @@ use Rattle.kvmi.specs.Verdict.{factsOf, isAccess, isInvalid, isUnready, isDenie
 use Rattle.kvmi.specs.Limits.{pageLimit}
 use Rattle.kvmi.specs.Change.{Run, pageOf, isSkipped, setPage, takeEntry, takeEntries, setMsr, Applied, apply}
 use Rattle.kvmi.specs.Image.{vmForm, msForm, paForm, vmMay, mayEnable, paMay, image, Loaded, loaded, loadImage}
-use Rattle.kvmi.specs.Call.{Began, anew, fromImage, Call, message, ready, enter, writeImage, Step, answering, judged, headed, messageStep, readyStep, sending, pausing, unqueueing, entering, enterStep, awaitsAny, imageStep, step, move, after}
+use Rattle.kvmi.specs.Call.{Began, anew, fromImage, Call, message, ready, enter, writeImage, Step, answering, judged, headed, messageStep, readyStep, sending, pausing, dequeuing, entering, enterStep, awaitsAny, imageStep, step, move, after}
 use Rattle.laws.proofs.Bool.{and-l, and-r, and-i, or-l, or-r, either, test, clash, every-head, every-tail, every-and}
 use Rattle.laws.proofs.Bits.{bits-put}
 use Rattle.laws.proofs.Ascending.{rising-put, rising-forget, length-put, length-put-found, length-put-new, length-forget, every-put, every-forget}
@@ -248,7 +248,7 @@ module _ (s : Settings) (ok : So (inRange s)) where
       (λ _. vcpu-valid s (m .tables) vcpu _ (ready-good s (vcpuAt (m .tables) vcpu) (vcpu-good s (m .tables) vcpu a)) (λ _. refl) a))
 
   pub enter-kept : (m : Model) (vcpu : ℕ) (block : List ℕ) (event : ℕ) (own out : List ℕ) → Valid s (m .tables) → Kept (enterStep s m vcpu block event own out)
-  unfolding enterStep entering sending unqueueing pausing
+  unfolding enterStep entering sending dequeuing pausing
   enter-kept m vcpu block event own out a =
       pick Kept (m .closed) _ _ (λ _. a)
       (λ _. pick Kept (leb (s .vcpus) vcpu) _ _ (λ _. a)

@@ -36,7 +36,7 @@ use Rattle.session.specs.State.{State, isClosed}
 use Rattle.session.specs.Calls.{Told, toldSame, toldWritten, toldClosing, readyOf}
 use Rattle.change.specs.Change.{change}
 use Rattle.message.specs.Message.{factsIn, answeringOf, judgedOf, headedOf, messageOf}
-use Rattle.entry.specs.Entry.{isAskedForOf, Sent, sendingOf, pausingOf, unqueueingOf, sentOf, enteredOf, enterOf}
+use Rattle.entry.specs.Entry.{isAskedForOf, Sent, sendingOf, pausingOf, dequeuingOf, sentOf, enteredOf, enterOf}
 use Rattle.laws.proofs.Bool.{and-l, and-r, test}
 use Rattle.laws.proofs.Verdicts.{pick, Passed, ending, verdict-cases, sound-of}
 use Rattle.laws.proofs.Events.{own-few}
@@ -148,7 +148,7 @@ message-past st msg out guest =
 -- 576 bytes hold what an entry sends
 pub sent-length : (st : State) (vcpu : ℕ) (block : List ℕ) (event : ℕ) (own : List ℕ) → (eqb (length block) 536 && offerFits event own) ≡ true
     → length (sentOf st vcpu block event own .bytes) ≤ 576
-unfolding sentOf sendingOf unqueueingOf pausingOf
+unfolding sentOf sendingOf dequeuingOf pausingOf
 sent-length st vcpu block event own fits =
     let seq = st .session .tool .seq in
     let whole = eqb-true (length block) 536 (and-l (eqb (length block) 536) (offerFits event own) fits) in

@@ -48,7 +48,7 @@ use Rattle.session.specs.Calls.{Told, toldSame, toldWritten, toldClosing, fresh
 use Rattle.change.specs.Change.{StateChanged, changed, change}
 use Rattle.change.proofs.Laws.{change-keeps}
 use Rattle.message.specs.Message.{factsIn, answeringOf, judgedOf, headedOf, messageOf}
-use Rattle.entry.specs.Entry.{Sent, awaitingWords, sendingOf, pausingOf, unqueueingOf, sentOf, toldSent, enteredOf, enterOf}
+use Rattle.entry.specs.Entry.{Sent, awaitingWords, sendingOf, pausingOf, dequeuingOf, sentOf, toldSent, enteredOf, enterOf}
 use Rattle.session.specs.Meaning.{awaitedOf, tablesOf, modelOf, WordsGood, WellFormed}
 use Rattle.laws.proofs.Bool.{and-l, and-r}
 use Rattle.laws.proofs.Bits.{put-below}
@@ -324,15 +324,15 @@ module _ (st : State) (f : WellFormed st) (v : ℕ) (inside : v < st .session .s
   few-here = few-vcpus (st .session .settings) (f .settings)
 
   -- one pause less
-  abbrev unqueued : State
-  unqueued = withField st v PAUSES less
+  abbrev dequeued : State
+  dequeued = withField st v PAUSES less
 
-  unqueued-words : WordsGood unqueued
-  unqueued-words = field-kept st (f .words) few-here v inside PAUSES less (omega arith) (λ e. absurd (omega arith))
+  dequeued-words : WordsGood dequeued
+  dequeued-words = field-kept st (f .words) few-here v inside PAUSES less (omega arith) (λ e. absurd (omega arith))
 
-  unqueued-model : modelOf unqueued ≡ onVcpu (modelOf st) v (λ x. withPauses x (x .pauses - 1))
+  dequeued-model : modelOf dequeued ≡ onVcpu (modelOf st) v (λ x. withPauses x (x .pauses - 1))
   unfolding vcpuOfWords
-  unqueued-model =
+  dequeued-model =
       field-model st (f .words) few-here [] [] v PAUSES less (λ x. withPauses x (x .pauses - 1)) (omega arith) inside
       (vcpus-pauses (st .session .shared .ready) (st .vcpus) v less (st .session .settings .vcpus) (block-inside st (f .words) few-here v inside) inside)
 
@@ -351,8 +351,8 @@ module _ (st : State) (f : WellFormed st) (v : ℕ) (inside : v < st .session .s
       → Simulates st (toldSent st (pausingOf (st .vcpus) v (st .session .tool .seq) block) out) (model.pausing (modelOf st) v block out)
   unfolding pausingOf model.pausing
   pausing-simulates l =
-      let waits = awaiting-simulates unqueued unqueued-words few-here v 2 inside (λ e. omega arith) in
-      told-simulates _ _ l (waits .0 ∙ ap (λ (m : Model). model.awaitingReply m v 2) unqueued-model, waits .1)
+      let waits = awaiting-simulates dequeued dequeued-words few-here v 2 inside (λ e. omega arith) in
+      told-simulates _ _ l (waits .0 ∙ ap (λ (m : Model). model.awaitingReply m v 2) dequeued-model, waits .1)
 
   -- the queued pauses are the model's
   own-pauses : vcpuAt (tablesOf st) v .pauses ≡ field (st .vcpus) v PAUSES
@@ -361,7 +361,7 @@ module _ (st : State) (f : WellFormed st) (v : ℕ) (inside : v < st .session .s
 
   entering-simulates : (event : ℕ) (own : List ℕ) → length (sentOf st v block event own .bytes) ≤ length out
       → Simulates st (toldSent st (sentOf st v block event own) out) (model.entering (modelOf st) v block event own out)
-  unfolding sentOf unqueueingOf model.entering model.unqueueing
+  unfolding sentOf dequeuingOf model.entering model.dequeuing
   entering-simulates event own =
       rw (asked-means st (f .words) v event own, own-pauses)
       (both (λ (x : Sent) (q : model.Step). length (x .bytes) ≤ length out → Simulates st (toldSent st x out) q) (isAskedFor (tablesOf st) v event own) _ _ _ _

@@ -20,8 +20,8 @@ returns : tie.Need-returns
 unfolding sentOf
 returns c p = rw (← c .before .before .before .before .before .before .before .before .is-asked-for .ensures, c .before .before .before .before .before .before .before .if1 .taken) (c .before .before .before .before .send .ensures)
 
-unqueue-requires : tie.Need-unqueue-requires
-unqueue-requires c κs = search needs
+dequeue-requires : tie.Need-dequeue-requires
+dequeue-requires c κs = search needs
 
 same-length-3 : tie.Need-same-length-3
 same-length-3 c = search needs
@@ -31,7 +31,7 @@ same-length-4 c = search needs
 
 returns-2 : tie.Need-returns-2
 unfolding sentOf
-returns-2 c p = rw (← c .before .before .before .before .before .before .before .before .is-asked-for .ensures, c .before .before .before .before .before .before .before .if1 .left) (c .before .before .before .before .unqueue .ensures)
+returns-2 c p = rw (← c .before .before .before .before .before .before .before .before .is-asked-for .ensures, c .before .before .before .before .before .before .before .if1 .left) (c .before .before .before .before .dequeue .ensures)
 
 pub hand-out-spec : {M : Type 1} → statement M
 hand-out-spec =
@@ -42,7 +42,7 @@ hand-out-spec =
     same-length
     same-length-2
     returns
-    unqueue-requires
+    dequeue-requires
     same-length-3
     same-length-4
     returns-2)

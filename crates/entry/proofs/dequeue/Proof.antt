@@ -1,8 +1,8 @@
 -- Nothing queued, or a pause taken from the queue. Assumes nothing.
 use Rattle.entry.proofs.Laws.{nothing-queued, paused-as}
 use borrow.Author.Needs.{needs}
-use Rattle.entry.proofs.unqueue.Statement.{statement}
-use Rattle.entry.proofs.unqueue.Tie as tie
+use Rattle.entry.proofs.dequeue.Statement.{statement}
+use Rattle.entry.proofs.dequeue.Tie as tie
 
 read-field-requires : tie.Need-read-field-requires
 read-field-requires c κs = search needs
@@ -37,8 +37,8 @@ same-length-3 c = search needs
 returns-2 : tie.Need-returns-2
 returns-2 c = paused-as _ _ _ _ _ _ _ _ _ _ _ (c .before .before .before .before .before .before .before .before .before .before .before .before .before .before .read-field .ensures) (c .before .before .before .before .before .before .before .before .before .before .before .before .before .if1 .left) (c .before .before .before .before .before .before .before .before .before .before .before .pause-event .ensures) (c .before .before .before .before .before .before .before .write-field .ensures) (c .before .before .before .await-reply .ensures) (c .next-seq .ensures)
 
-pub unqueue-spec : {M : Type 1} → statement M
-unqueue-spec =
+pub dequeue-spec : {M : Type 1} → statement M
+dequeue-spec =
     tie.close
     (tie.spec
     read-field-requires
