@@ -20,7 +20,8 @@ lineId msg = cond (leb 2 (length msg)) (Shown (load 2 msg 0)) Missing
 unfoldable pub seqOf : List ℕ → Number
 seqOf msg = cond (leb 8 (length msg)) (Shown (load 4 msg 4)) Missing
 
--- A CMD_ERROR among what a message can have written: the id of outgoing events, 17, and the 568 bytes that no other message with this id has.
+-- A CMD_ERROR among what a message can have written: the id of outgoing events, 17, and 568 bytes, where the reply to an unknown message with this id has 16.
+-- (BREAKPOINT and CPUID have 568 bytes, too; only entries write them.)
 unfoldable pub isCommandError : List ℕ → ℕ → Bool
 isCommandError out count = eqb count 568 && eqb (load 2 out 0) 17
 
