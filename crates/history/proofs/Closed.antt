@@ -1,10 +1,9 @@
 -- "Closing makes all this fresh, drops awaited events and stays closed": over every list of calls, a model that is closed is the closed one. Assumes nothing.
-use mathlib.Core.Path.{_≡_, refl, sym, _∙_}
+use mathlib.Core.Path.{_≡_, refl, _∙_}
 use Prim.Native.Nat.{ℕ}
 use mathlib.Core.List.{List, [], _∷_}
-use mathlib.Core.Bool.{Bool, true, false, cond, not, _&&_}
+use mathlib.Core.Bool.{Bool, true, false}
 use lib.ListN.{length, drop}
-use lib.Dec.{leb, ltb, eqb}
 use Rattle.wire.specs.declared.Header.{Header}
 use Rattle.wire.specs.declared.Header.the-variants.{Whole, Broken}
 use Rattle.wire.specs.Header.{headerOf}
@@ -13,16 +12,13 @@ use Rattle.kvmi.specs.declared.Change.{Change}
 use Rattle.kvmi.specs.declared.Change.the-variants.{Nothing, SetVmEvent, WritePhysical, QueuePause, SetVcpuEvent, SetCr, SetMsr, SetPages, SetSinglestep, SetReplies, EndWait}
 use Rattle.kvmi.specs.declared.Verdict.{Verdict}
 use Rattle.kvmi.specs.declared.Verdict.the-variants.{Closes, Fails, Does}
-use Rattle.kvmi.specs.Model.{Model, closedModel, awaitedBy, isSome}
-use Rattle.kvmi.specs.Tables.{vcpuAt}
-use Rattle.kvmi.specs.Image.{image}
+use Rattle.kvmi.specs.Model.{Model, closedModel}
 use Rattle.kvmi.specs.Message.{vcpuOf}
-use Rattle.kvmi.specs.Event.{offerFits, isAskedFor}
 use Rattle.kvmi.specs.Verdict.{factsOf, verdict}
 use Rattle.kvmi.specs.Change.{apply}
-use Rattle.kvmi.specs.Call.{Step, Call, message, ready, enter, writeImage, unchanged, answering, judged, headed, messageStep, readyStep, sending, pausing, dequeuing, entering, enterStep, awaitsAny, imageStep, step, move, after}
+use Rattle.kvmi.specs.Call.{Step, Call, answering, judged, headed, sending, pausing, entering, step, move, after}
 use Rattle.laws.proofs.Bool.{clash}
-use Rattle.laws.proofs.Verdicts.{pick}
+use Rattle.history.proofs.Cases.{entering-cases, step-cases}
 
 -- a model that is closed is the closed one
 abbrev pub Rests : Settings → Model → Type 0
@@ -63,30 +59,14 @@ module _ (s : Settings) (m : Model) (rests : Rests s m) where
   headed-rests d out guest lives (Whole id size seq) = judged-rests id seq d out guest lives (verdict s (factsOf m (length guest) (vcpuOf d)) id seq d)
 
   entering-rests : (vcpu : ℕ) (block : List ℕ) (event : ℕ) (own out : List ℕ) → m .closed ≡ false → R (entering m vcpu block event own out)
-  unfolding entering sending dequeuing pausing
+  unfolding sending pausing
   entering-rests vcpu block event own out lives =
-      pick R (isAskedFor (m .tables) vcpu event own) _ _ (λ _. still-lives lives _ refl)
-      (λ _. pick R (leb 1 (vcpuAt (m .tables) vcpu .pauses)) _ _ (λ _. still-lives lives _ refl) (λ _. rests))
+      entering-cases R m vcpu block event own out (λ _. still-lives lives _ refl) (λ _ _. still-lives lives _ refl) (λ _. rests)
 
   pub step-rests : (c : Call) → R (step s m c)
-  unfolding step messageStep readyStep enterStep imageStep
-  step-rests (message msg out guest) =
-      pick R (m .closed) _ _ (λ _. rests)
-      (λ lives. pick R (ltb (length out) 4112) _ _ (λ _. rests) (λ _. headed-rests (drop 8 msg) out guest lives (headerOf msg)))
-  step-rests (ready vcpu) =
-      pick R (m .closed) _ _ (λ _. rests)
-      (λ lives. pick R (leb (s .vcpus) vcpu) _ _ (λ _. rests) (λ _. still-lives lives _ refl))
-  step-rests (enter vcpu block event own out) =
-      pick R (m .closed) _ _ (λ _. rests)
-      (λ lives. pick R (leb (s .vcpus) vcpu) _ _ (λ _. rests)
-      (λ _. pick R (not (eqb (length block) 536 && offerFits event own)) _ _ (λ _. rests)
-      (λ _. pick R (ltb (length out) 576) _ _ (λ _. rests)
-      (λ _. pick R (isSome (awaitedBy m vcpu)) _ _ (λ _. rests)
-      (λ _. entering-rests vcpu block event own out lives)))))
-  step-rests (writeImage out) =
-      pick R (m .closed) _ _ (λ _. rests)
-      (λ _. pick R (awaitsAny (m .awaited)) _ _ (λ _. rests)
-      (λ _. pick R (ltb (length out) (length (image (m .tables)))) _ _ (λ _. rests) (λ _. rests)))
+  step-rests c =
+      step-cases R s m c (λ _ _ _. rests) (λ lives msg out guest _. headed-rests (drop 8 msg) out guest lives (headerOf msg)) (λ lives _. still-lives lives _ refl)
+      (λ lives vcpu block event own out _ _. entering-rests vcpu block event own out lives) (λ _. rests)
 
 pub after-rests : (s : Settings) (m : Model) (cs : List Call) → Rests s m → Rests s (after s m cs)
 unfolding after move

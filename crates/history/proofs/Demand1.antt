@@ -34,7 +34,7 @@ use Rattle.entry.specs.Entry.{enteredOf, enterOf}
 use Rattle.image_writer.specs.Write.{statedVcpus, statedTables, imageOf}
 use Rattle.image_reader.specs.Read.{toldLoaded, readOf}
 use Rattle.refine.specs.Frames.{Refuses, Past}
-use Rattle.history.specs.Demand1.{Answers, OneOf, Closed, Open, IsVcpu, NoVcpu, offers, Offer, Lent, Awaits, AwaitsAny, imageLength, InRange, saidOf, RuleCloses, FreshAnswers, ReadyAnswers, MessageAnswers, EntryAnswers, WriterAnswers, ReaderAnswers, Demand1}
+use Rattle.history.specs.Demand1.{Answers, OneOf, Closed, Open, IsVcpu, NoVcpu, offers, ownLength, Offer, Lent, Awaits, AwaitsAny, imageLength, InRange, saidOf, RuleCloses, FreshAnswers, ReadyAnswers, MessageAnswers, EntryAnswers, WriterAnswers, ReaderAnswers, Demand1}
 use Rattle.wire.proofs.Laws.{le-or-lt}
 use Rattle.laws.proofs.Bool.{and-l, and-r, either, or-l, or-r, test, clash, same-test, among-every}
 use Rattle.laws.proofs.Verdicts.{pick}
@@ -158,16 +158,22 @@ offer-known event =
     (le-or-lt 15 event))
     (λ h. among-every (λ k. isOffered (eventRowOf k .switch)) event offers refl h)
 
+-- the lengths of the rows
+own-lengths : (event : ℕ) → So (among event offers) → eventRowOf event .own ≡ ownLength event
+unfolding eventRowOf
+own-lengths event h = eqb-true _ _ (among-every (λ e. eqb (eventRowOf e .own) (ownLength e)) event offers refl h)
+
 -- the test of an offer
 pub fits-offer : (event : ℕ) (own : List ℕ) → offerFits event own ≡ true → Offer event own
 unfolding offerFits
 fits-offer event own h =
-    let known : So (isOffered (eventRowOf event .switch)) = search (and-l, and-r) in
-    (rw (offer-known event) at known, eqb-true (length own) (eventRowOf event .own) (search (and-l, and-r)))
+    let offered : So (isOffered (eventRowOf event .switch)) = search (and-l, and-r) in
+    let known : So (among event offers) = rw (offer-known event) at offered in
+    (known, eqb-true (length own) (eventRowOf event .own) (search (and-l, and-r)) ∙ own-lengths event known)
 
 pub offer-fits : (event : ℕ) (own : List ℕ) → Offer event own → offerFits event own ≡ true
 unfolding offerFits
-offer-fits event own (k, o) = rw (offer-known event, k, eq-eqb (length own) (eventRowOf event .own) o)
+offer-fits event own (k, o) = rw (offer-known event, k, eq-eqb (length own) (eventRowOf event .own) (o ∙ sym (own-lengths event k)))
 
 -- and of all that an entry is lent
 lent-fits : (block : List ℕ) (event : ℕ) (own : List ℕ) → (eqb (length block) stateBytes && offerFits event own) ≡ true → Lent block event own

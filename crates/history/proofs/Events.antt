@@ -6,10 +6,11 @@ use native.Mathlib.Omega.{arith}
 use mathlib.Core.List.{List, [], _∷_, _++_}
 use mathlib.Core.Bool.{Bool, true, false, cond, not, _&&_, _||_, So, and-false, true≢false, false≢true}
 use mathlib.Core.Option.{Option, none, some}
-use lib.ListN.{length, getD, set, take, drop, List·getD-eq-default}
+use lib.ListN.{length, getD, set, take, drop, replicate, List·getD-eq-default}
 use lib.Seq.{getD-set-same, getD-set-other, set-out, take-append-seam}
 use lib.Dec.{leb, ltb, eqb}
-use borrow.Author.Tests.{leb-false, ltb-true, ltb-false, eqb-true, eqb-false, eq-eqb, ne-eqb, le-leb, le-ltb, not-false, not-true}
+use borrow.Author.Tests.{ltb-true, ltb-false, eqb-true, eqb-false, eq-eqb, ne-eqb, le-leb, le-ltb, not-true}
+use Rattle.wire.specs.Bytes.{load}
 use Rattle.wire.specs.Header.{headerOf}
 use Rattle.wire.specs.declared.Header.{Header}
 use Rattle.wire.specs.declared.Header.the-variants.{Whole, Broken}
@@ -23,45 +24,44 @@ use Rattle.kvmi.specs.declared.Change.the-variants.{EndWait}
 use Rattle.kvmi.specs.declared.Verdict.{Verdict}
 use Rattle.kvmi.specs.declared.Verdict.the-variants.{Closes, Fails, Does}
 use Rattle.kvmi.specs.Answer.{Paper, handled, plain}
-use Rattle.kvmi.specs.Bits.{among}
-use Rattle.kvmi.specs.Limits.{leastOut, eventOut, stateBytes}
+use Rattle.kvmi.specs.Bits.{every, among}
+use Rattle.kvmi.specs.Limits.{leastOut}
 use Rattle.kvmi.specs.Settings.{allowsCommand}
 use Rattle.kvmi.specs.Tables.{Tables, Vcpu, resting, vcpuAt, withPauses}
 use Rattle.kvmi.specs.Model.{Awaited, awaiting, Model, awaitedBy, isSome}
 use Rattle.kvmi.specs.Message.{layoutOf, sizeFits, vcpuOf, actionOf, repliedEvent, firstPadding}
-use Rattle.kvmi.specs.Event.{eventRowOf, offerFits, asksFor, isAskedFor, newValue}
+use Rattle.kvmi.specs.Event.{eventRowOf, offerFits, asksFor, isAskedFor, takesAction, newValue}
 use Rattle.kvmi.specs.Verdict.{awaitedEvent, awaitedSeq, factsOf, repliesOn, isAwaited, replyFits, eventReplyVerdict, changeOf, verdict}
 use Rattle.kvmi.specs.Change.{apply, signalOf}
 use Rattle.kvmi.specs.Reply.{eventBytes, pauseEvent, answerOf}
 use Rattle.kvmi.specs.Pauses.{queued}
-use Rattle.kvmi.specs.Call.{Call, message, ready, enter, writeImage, Step, answering, judged, headed, messageStep, readyStep, sending, pausing, dequeuing, entering, enterStep, awaitsAny, imageStep, step, move, after}
-use Rattle.kvmi.specs.Image.{image}
+use Rattle.kvmi.specs.Call.{Call, message, ready, enter, Step, answering, judged, headed, messageStep, sending, pausing, dequeuing, entering, enterStep, step, move, after}
 use Rattle.session.specs.State.{State}
 use Rattle.session.specs.Calls.{Told}
-use Rattle.session.specs.Meaning.{awaitedIn, modelOf}
-use Rattle.store.specs.Words.{field, AWAITED, AWAITED-SEQ}
+use Rattle.session.specs.Meaning.{modelOf}
 use Rattle.entry.specs.Entry.{askedForBy, isAskedForOf, sentOf, enteredOf, enterOf}
 use Rattle.refine.specs.Errors.{HasId}
-use Rattle.history.specs.History.{stepOf, afterOf, BeganOn}
+use Rattle.history.specs.History.{stepOf, afterOf, BeganOn, anew, fromImage}
 use Rattle.history.specs.Demand1.{offers, Offer, Open, Awaits}
 use Rattle.history.specs.Unsteered.{written}
-use Rattle.history.specs.Events.{switchesOn, SentExactly, PauseGoes, Replies, signalled, NoReply, NoReplies, Events}
-use Rattle.laws.proofs.Bool.{and-l, and-r, either, test, clash, among-every}
+use Rattle.history.specs.Events.{switchesOn, SentExactly, PauseGoes, replied, hasValue, replyLength, valueIn, isTaken, Replies, signalled, NoReply, NoReplies, Events}
+use Rattle.laws.proofs.Bool.{and-l, and-r, either, test, clash, every-getD, every-set, every-replicate, among-every}
 use Rattle.laws.proofs.Verdicts.{pick, verdict-cases}
-use Rattle.laws.proofs.Events.{every-row, event-number, event-long}
+use Rattle.laws.proofs.Events.{asked-some, event-number, event-long}
 use Rattle.laws.proofs.Pauses.{closed-stays}
 use Rattle.laws.proofs.Same.{count-is}
 use Rattle.refine.proofs.Awaited.{awaited-length}
-use Rattle.refine.proofs.Words.{asked-means, awaited-means}
+use Rattle.refine.proofs.Words.{asked-means}
 use Rattle.refine.proofs.Simulate.{both}
 use Rattle.lookup.proofs.Looks.{replicated}
 use Rattle.history.proofs.Lists.{Stands, stands-valid, step-stands, after-stands, step-same, began-stands}
 use Rattle.history.proofs.Demand1.{fits-offer, offer-fits}
+use Rattle.history.proofs.Cases.{entering-cases, enter-cases, step-cases}
 use Rattle.history.proofs.Closed.{Rests, step-rests, after-rests}
 use Rattle.history.proofs.Lookups.{began-rests}
 
 -- ---- the switches
--- a property of each number of a list
+-- what holds of each number of a list holds of one that stands in it
 abbrev Each : (ℕ → Type 0) → List ℕ → Type 0
 Each P [] = Unit {0}
 Each P (y ∷ ys) = P y × Each P ys
@@ -88,23 +88,10 @@ module _ (s : Settings) (m : Model) (vcpu : ℕ) (block : List ℕ) (event : ℕ
     idle : isSome (awaitedBy m vcpu) ≡ false
     same : r ≡ entering m vcpu block event own out
 
-  abbrev If-handled : Step → Type 0
-  If-handled r = r .answer .number ≡ 0 → Entered r
-
-  entered : If-handled (enterStep s m vcpu block event own out)
-  unfolding enterStep
+  entered : enterStep s m vcpu block event own out .answer .number ≡ 0 → Entered (enterStep s m vcpu block event own out)
   entered =
-      pick If-handled (m .closed) _ _ (λ _ h. absurd (omega arith))
-      (λ _. pick If-handled (leb (s .vcpus) vcpu) _ _ (λ _ h. absurd (omega arith))
-      (λ few. pick If-handled (not (eqb (length block) stateBytes && offerFits event own)) _ _ (λ _ h. absurd (omega arith))
-      (λ fits. pick If-handled (ltb (length out) eventOut) _ _ (λ _ h. absurd (omega arith))
-      (λ _. pick If-handled (isSome (awaitedBy m vcpu)) _ _ (λ _ h. absurd (omega arith))
-      (λ idle _. record {
-        below = leb-false (s .vcpus) vcpu few;
-        known = fits-offer event own (and-r (eqb (length block) stateBytes) (offerFits event own) (not-false _ fits)) .0;
-        idle = idle;
-        same = refl;
-      })))))
+      enter-cases (λ r. r .answer .number ≡ 0 → Entered r) m vcpu block event own out s (λ k l h. absurd (omega arith))
+      (λ _ below fits idle _. record { below = below; known = fits-offer event own fits .0; idle = idle; same = refl })
 
 -- what a step wrote
 abbrev wrote : Step → List ℕ
@@ -124,14 +111,13 @@ module _ (m : Model) (vcpu : ℕ) (block : List ℕ) (event : ℕ) (own out : Li
       × ((awaitedBy (r .model) vcpu ≡ some (awaiting event (m .seq))) ↔ (asked ≡ true))
 
   entering-exactly : event % 256 ≢ 2 → isSome (awaitedBy m vcpu) ≡ false → Exactly (entering m vcpu block event own out)
-  unfolding entering sending dequeuing pausing pauseEvent
+  unfolding sending pausing pauseEvent
   entering-exactly other idle =
       let bytes = eventBytes (m .seq) vcpu event block own in
       let pause = eventBytes (m .seq) vcpu 2 block [] in
-      pick Exactly asked _ _
+      entering-cases Exactly m vcpu block event own out
       (λ a. ((λ _. a, λ _. take-append-seam bytes (drop (length bytes) out)), (λ _. a, λ _. awaits-now (some (awaiting event (m .seq))))))
-      (λ a. pick Exactly (leb 1 (vcpuAt (m .tables) vcpu .pauses)) _ _
-      (λ _. (
+      (λ a _. (
         (
           λ e. let same : pause ≡ bytes = sym (take-append-seam pause (drop (length pause) out)) ∙ e in
               let number : 2 ≡ event % 256 = sym (event-number (m .seq) vcpu 2 block [] []) ∙ ap (λ (l : List ℕ). getD (l ++ []) 12 0) same ∙ event-number (m .seq) vcpu event block own [] in
@@ -144,7 +130,7 @@ module _ (m : Model) (vcpu : ℕ) (block : List ℕ) (event : ℕ) (own out : Li
           λ t. clash t a,
         ),
       ))
-      (λ _. ((λ e. clash (sym (ap (λ (l : List ℕ). eqb (length l) 0) e)) (event-long (m .seq) vcpu event block own), λ t. clash t a), (λ e. clash (ap isSome e) idle, λ t. clash t a))))
+      (λ a. ((λ e. clash (sym (ap (λ (l : List ℕ). eqb (length l) 0) e)) (event-long (m .seq) vcpu event block own), λ t. clash t a), (λ e. clash (ap isSome e) idle, λ t. clash t a)))
 
   abbrev Goes : Step → Type 0
   Goes r = (wrote r ≡ pauseEvent (m .seq) vcpu block) × (awaitedBy (r .model) vcpu ≡ some (awaiting 2 (m .seq))) × (queued vcpu (r .model) + 1 ≡ queued vcpu m)
@@ -160,15 +146,10 @@ module _ (m : Model) (vcpu : ℕ) (block : List ℕ) (event : ℕ) (own out : Li
 -- an event that is asked for leaves the tables as they are, refused or not
 asked-keeps : (s : Settings) (m : Model) (vcpu : ℕ) (block : List ℕ) (event : ℕ) (own out : List ℕ) → isAskedFor (m .tables) vcpu event own ≡ true
     → enterStep s m vcpu block event own out .model .tables ≡ m .tables
-unfolding enterStep entering sending
+unfolding sending
 asked-keeps s m vcpu block event own out a =
     let K : Step → Type 0 = λ r. r .model .tables ≡ m .tables in
-    pick K (m .closed) _ _ (λ _. refl)
-    (λ _. pick K (leb (s .vcpus) vcpu) _ _ (λ _. refl)
-    (λ _. pick K (not (eqb (length block) stateBytes && offerFits event own)) _ _ (λ _. refl)
-    (λ _. pick K (ltb (length out) eventOut) _ _ (λ _. refl)
-    (λ _. pick K (isSome (awaitedBy m vcpu)) _ _ (λ _. refl)
-    (λ _. pick K (isAskedFor (m .tables) vcpu event own) _ _ (λ _. refl) (λ f. clash a f))))))
+    enter-cases K m vcpu block event own out s (λ _ _. refl) (λ _ _ _ _. entering-cases K m vcpu block event own out (λ _. refl) (λ n _. clash a n) (λ n. clash a n))
 
 -- ---- an entry on the words that passes its offer over
 none-fits : offerFits 0 [] ≡ true
@@ -185,24 +166,24 @@ unfolding enterOf enteredOf sentOf
 over st vcpu block event own out fits a = rw (fits, none-fits, a, none-asked)
 
 -- ---- a call between: the awaited record of a vCPU stays
+-- no command ends a wait
+change-waits : (m : Model) (guest d : List ℕ) (id : ℕ) → apply m guest d (changeOf id d) .model .awaited ≡ m .awaited
+unfolding changeOf apply
+change-waits m guest d id =
+    let K : Change → Type 0 = λ c. apply m guest d c .model .awaited ≡ m .awaited in
+    pick K (eqb id 5) _ _ (λ _. refl)
+    (λ _. pick K (eqb id 7) _ _ (λ _. refl)
+    (λ _. pick K (eqb id 9) _ _ (λ _. refl)
+    (λ _. pick K (eqb id 10) _ _ (λ _. refl)
+    (λ _. pick K (eqb id 11) _ _ (λ _. refl)
+    (λ _. pick K (eqb id 12) _ _ (λ _. refl)
+    (λ _. pick K (eqb id 13) _ _ (λ _. refl)
+    (λ _. pick K (eqb id 14) _ _ (λ _. refl)
+    (λ _. pick K (eqb id 15) _ _ (λ _. refl) (λ _. refl)))))))))
+
 module _ (s : Settings) (m : Model) (vcpu : ℕ) (waits : isSome (awaitedBy m vcpu) ≡ true) where
   abbrev Waits : Step → Type 0
   Waits r = r .model .closed ≡ false → awaitedBy (r .model) vcpu ≡ awaitedBy m vcpu
-
-  -- no command ends a wait
-  change-waits : (guest d : List ℕ) (id : ℕ) → apply m guest d (changeOf id d) .model .awaited ≡ m .awaited
-  unfolding changeOf apply
-  change-waits guest d id =
-      let K : Change → Type 0 = λ c. apply m guest d c .model .awaited ≡ m .awaited in
-      pick K (eqb id 5) _ _ (λ _. refl)
-      (λ _. pick K (eqb id 7) _ _ (λ _. refl)
-      (λ _. pick K (eqb id 9) _ _ (λ _. refl)
-      (λ _. pick K (eqb id 10) _ _ (λ _. refl)
-      (λ _. pick K (eqb id 11) _ _ (λ _. refl)
-      (λ _. pick K (eqb id 12) _ _ (λ _. refl)
-      (λ _. pick K (eqb id 13) _ _ (λ _. refl)
-      (λ _. pick K (eqb id 14) _ _ (λ _. refl)
-      (λ _. pick K (eqb id 15) _ _ (λ _. refl) (λ _. refl)))))))))
 
   headed-waits : (msg out guest : List ℕ) → (HasId msg 16 → vcpuOf (drop 8 msg) ≢ vcpu) → (h : Header) → headerOf msg ≡ h → Waits (headed s m (drop 8 msg) out guest h)
   unfolding headed judged answering apply
@@ -210,34 +191,23 @@ module _ (s : Settings) (m : Model) (vcpu : ℕ) (waits : isSome (awaitedBy m vc
   headed-waits msg out guest other (Whole id size seq) w =
       let d = drop 8 msg in
       verdict-cases (λ v. Waits (judged s m id seq d out guest v)) s (factsOf m (length guest) (vcpuOf d)) id seq d (λ o. absurd (true≢false o)) (λ code _ _. refl)
-      (λ _ _. ap (λ (l : List (Option Awaited)). getD l vcpu none) (change-waits guest d id))
+      (λ _ _. ap (λ (l : List (Option Awaited)). getD l vcpu none) (change-waits m guest d id))
       (λ p _. let gone = other (size, seq, w ∙ ap (λ (n : ℕ). Whole n size seq) (p .reply)) in
       getD-set-other (m .awaited) (vcpuOf d) vcpu none none (λ e. gone (sym e)))
 
-  -- an entry of that vCPU is refused, and one of another leaves its record
-  enter-waits : (v : ℕ) (block : List ℕ) (event : ℕ) (own out : List ℕ) → Waits (enterStep s m v block event own out)
-  unfolding enterStep entering sending dequeuing pausing
-  enter-waits v block event own out =
-      pick Waits (m .closed) _ _ (λ _ _. refl)
-      (λ _. pick Waits (leb (s .vcpus) v) _ _ (λ _ _. refl)
-      (λ _. pick Waits (not (eqb (length block) stateBytes && offerFits event own)) _ _ (λ _ _. refl)
-      (λ _. pick Waits (ltb (length out) eventOut) _ _ (λ _ _. refl)
-      (λ _. pick Waits (isSome (awaitedBy m v)) _ _ (λ _ _. refl)
-      (λ idle. let set-other : (a : Option Awaited) → getD (set (m .awaited) v a) vcpu none ≡ awaitedBy m vcpu
+  -- an entry of another vCPU leaves its record
+  entering-waits : (v : ℕ) (block : List ℕ) (event : ℕ) (own out : List ℕ) → isSome (awaitedBy m v) ≡ false → Waits (entering m v block event own out)
+  unfolding sending pausing
+  entering-waits v block event own out idle =
+      let stays : (a : Option Awaited) → getD (set (m .awaited) v a) vcpu none ≡ awaitedBy m vcpu
       = λ a. getD-set-other (m .awaited) v vcpu a none (λ e. clash waits (ap (λ (k : ℕ). isSome (awaitedBy m k)) e ∙ idle)) in
-      pick Waits (isAskedFor (m .tables) v event own) _ _ (λ _ _. set-other _)
-      (λ _. pick Waits (leb 1 (vcpuAt (m .tables) v .pauses)) _ _ (λ _ _. set-other _) (λ _ _. refl)))))))
+      entering-cases Waits m v block event own out (λ _ _. stays _) (λ _ _ _. stays _) (λ _ _. refl)
 
+  -- and one of its own is refused
   step-waits : (c : Call) → NoReply vcpu c → Waits (step s m c)
-  unfolding step messageStep readyStep imageStep
-  step-waits (message msg out guest) other =
-      pick Waits (m .closed) _ _ (λ _ _. refl)
-      (λ _. pick Waits (ltb (length out) leastOut) _ _ (λ _ _. refl) (λ _. headed-waits msg out guest other (headerOf msg) refl))
-  step-waits (ready v) other = pick Waits (m .closed) _ _ (λ _ _. refl) (λ _. pick Waits (leb (s .vcpus) v) _ _ (λ _ _. refl) (λ _ _. refl))
-  step-waits (enter v block event own out) other = enter-waits v block event own out
-  step-waits (writeImage out) other =
-      pick Waits (m .closed) _ _ (λ _ _. refl)
-      (λ _. pick Waits (awaitsAny (m .awaited)) _ _ (λ _ _. refl) (λ _. pick Waits (ltb (length out) (length (image (m .tables)))) _ _ (λ _ _. refl) (λ _ _. refl)))
+  step-waits c other =
+      step-cases Waits s m c (λ _ _ _ _. refl) (λ _ msg out guest e. headed-waits msg out guest (subst (NoReply vcpu) e other) (headerOf msg) refl) (λ _ _ _. refl)
+      (λ _ v block event own out _ idle. entering-waits v block event own out idle) (λ _ _. refl)
 
 after-waits : (s : Settings) (m : Model) (vcpu : ℕ) (cs : List Call) → isSome (awaitedBy m vcpu) ≡ true → NoReplies vcpu cs → after s m cs .closed ≡ false
     → awaitedBy (after s m cs) vcpu ≡ awaitedBy m vcpu
@@ -248,6 +218,57 @@ after-waits s m vcpu (c ∷ cs) waits other o =
     let opened : k .closed ≡ false = test (k .closed) (λ e. clash (closed-stays s k cs e) o) (λ e. e) in
     let one : awaitedBy k vcpu ≡ awaitedBy m vcpu = step-waits s m vcpu waits c (other .0) opened in
     after-waits s k vcpu cs (ap isSome one ∙ waits) (other .1) o ∙ one
+
+-- ---- the awaited events are those that take a reply
+abbrev isKnown : Option Awaited → Bool
+isKnown none = true
+isKnown (some a) = among (a .event) replied
+
+abbrev KnownEvents : Model → Type 0
+KnownEvents m = So (every isKnown (m .awaited))
+
+known-at : (m : Model) → KnownEvents m → (vcpu event seq : ℕ) → awaitedBy m vcpu ≡ some (awaiting event seq) → So (among event replied)
+known-at m k vcpu event seq e = sym (ap isKnown e) ∙ every-getD isKnown (m .awaited) vcpu none refl k
+
+-- an offered event that is asked for
+sent-known : (t : Tables) (vcpu event : ℕ) (own : List ℕ) → So (among event offers) → isAskedFor t vcpu event own ≡ true → So (among event replied)
+sent-known t vcpu event own h a =
+    either (eqb event 0) (among event replied) (among-every (λ k. eqb k 0 || among k replied) event offers refl h) (λ z. clash z (asked-some t vcpu event own a)) (λ k. k)
+
+module _ (s : Settings) (m : Model) (known : KnownEvents m) where
+  abbrev K : Step → Type 0
+  K r = KnownEvents (r .model)
+
+  set-known : (v : ℕ) (a : Option Awaited) → So (isKnown a) → So (every isKnown (set (m .awaited) v a))
+  set-known v a h = every-set isKnown (m .awaited) v a h known
+
+  headed-known : (d out guest : List ℕ) (h : Header) → K (headed s m d out guest h)
+  unfolding headed judged answering apply
+  headed-known d out guest Broken = every-replicate isKnown (s .vcpus) none refl
+  headed-known d out guest (Whole id size seq) =
+      verdict-cases (λ v. K (judged s m id seq d out guest v)) s (factsOf m (length guest) (vcpuOf d)) id seq d (every-replicate isKnown (s .vcpus) none refl) (λ _ _. known)
+      (λ _. subst (λ (l : List (Option Awaited)). So (every isKnown l)) (sym (change-waits m guest d id)) known) (λ _. set-known (vcpuOf d) none refl)
+
+  entering-known : (v : ℕ) (block : List ℕ) (event : ℕ) (own out : List ℕ) → offerFits event own ≡ true → K (entering m v block event own out)
+  unfolding sending pausing
+  entering-known v block event own out fits =
+      entering-cases K m v block event own out
+      (λ a. set-known v (some (awaiting event (m .seq))) (sent-known (m .tables) v event own (fits-offer event own fits .0) a))
+      (λ _ _. set-known v (some (awaiting 2 (m .seq))) refl) (λ _. known)
+
+  step-known : (c : Call) → K (step s m c)
+  step-known c =
+      step-cases K s m c (λ _ _ _. known) (λ _ msg out guest _. headed-known (drop 8 msg) out guest (headerOf msg)) (λ _ _. known)
+      (λ _ v block event own out fits _. entering-known v block event own out fits) (λ _. known)
+
+after-known : (s : Settings) (m : Model) (cs : List Call) → KnownEvents m → KnownEvents (after s m cs)
+unfolding after move
+after-known s m [] k = k
+after-known s m (c ∷ cs) k = after-known s (step s m c .model) cs (step-known s m k c)
+
+began-known : (s : Settings) (st : State) (m : Model) → BeganOn s st m → KnownEvents m
+began-known s st m (anew vcpus pages v p ok) = every-replicate isKnown (length (replicate (s .vcpus) resting)) none refl
+began-known s st m (fromImage vcpus pages v p l t ok e) = every-replicate isKnown (length (t .vcpus)) none refl
 
 -- ---- the answer to an EVENT_REPLY
 -- what its rule asks
@@ -297,32 +318,63 @@ reads-same s s′ m k msg out guest guest′ (size, seq, w) closed awaited =
     ∙ sym (reply-answer s′ k msg out guest′ size seq w)
 
 -- ---- a reply that fits
--- a row whose replies have data has 16 bytes of them or more
-reply-long : (event : ℕ) (d : List ℕ) → event ≢ 0 → repliedEvent d ≡ event → length d ≡ eventRowOf event .reply → leb 16 (length d) ≡ true
-reply-long event d some-event replied size =
-    let n = eventRowOf event .reply in
-    either (eqb n 0) (leb 16 n) (every-row (λ (r : EventRow). eqb (r .reply) 0 || leb 16 (r .reply)) refl refl event)
-    (λ e. let z = eqb-true n 0 e in absurd (some-event (sym replied ∙ List·getD-eq-default d 0 {n = 9} (omega arith))))
-    (λ l. rw size l)
+-- two tests are equal
+abbrev alike : Bool → Bool → Bool
+alike a b = cond a b (not b)
+
+alike-true : (a b : Bool) → alike a b ≡ true → a ≡ b
+alike-true true b h = sym h
+alike-true false true h = h
+alike-true false false h = refl
+
+-- the rows of the events that take one
+abbrev rowRight : ℕ → EventRow → Bool
+rowRight event r = eqb (r .reply) (replyLength event) && alike (r .retry) (among event (4 ∷ 8 ∷ [])) && alike (r .valued) (hasValue event)
+
+module _ (event : ℕ) (known : So (among event replied)) where
+  row-right : So (rowRight event (eventRowOf event))
+  unfolding eventRowOf
+  row-right = among-every (λ e. rowRight e (eventRowOf e)) event replied refl known
+
+  reply-length : eventRowOf event .reply ≡ replyLength event
+  reply-length = let h = row-right in eqb-true (eventRowOf event .reply) (replyLength event) (search (and-l, and-r))
+
+  reply-actions : (action : ℕ) → takesAction (eventRowOf event) action ≡ isTaken event action
+  reply-actions action =
+      let h = row-right in
+      ap (λ (b : Bool). among action (0 ∷ 2 ∷ []) || eqb action 1 && b) (alike-true (eventRowOf event .retry) (among event (4 ∷ 8 ∷ [])) (search (and-l, and-r)))
+
+  reply-value : (d : List ℕ) → newValue (eventRowOf event) d ≡ valueIn event d
+  reply-value d = let h = row-right in ap (λ (b : Bool). cond b (load 8 d 16) 0) (alike-true (eventRowOf event .valued) (hasValue event) (search (and-l, and-r)))
+
+  some-event : event ≢ 0
+  some-event = eqb-false event 0 (not-true _ (among-every (λ k. not (eqb k 0)) event replied refl known))
+
+  reply-long : leb 16 (replyLength event) ≡ true
+  reply-long = pick (λ (n : ℕ). leb 16 n ≡ true) (hasValue event) 24 16 (λ _. refl) (λ _. refl)
 
 abbrev ended : ℕ → List ℕ → Change
-ended event d = EndWait (not (eqb event 2)) (vcpuOf d) (actionOf d) (newValue (eventRowOf event) d)
+ended event d = EndWait (not (eqb event 2)) (vcpuOf d) (actionOf d) (valueIn event d)
 
-reply-does : (s : Settings) (m : Model) (guest vcpu event seq : ℕ) (msg : List ℕ) → awaitedBy m vcpu ≡ some (awaiting event seq) → event ≢ 0 → Replies vcpu event seq msg
+reply-does : (s : Settings) (m : Model) (guest vcpu event seq : ℕ) (msg : List ℕ) → awaitedBy m vcpu ≡ some (awaiting event seq) → So (among event replied) → Replies vcpu event seq msg
     → verdict s (factsOf m guest (vcpuOf (drop 8 msg))) 16 seq (drop 8 msg) ≡ Does (ended event (drop 8 msg))
 unfolding eventReplyVerdict isAwaited replyFits
-reply-does s m guest vcpu event seq msg waits some-event q =
+reply-does s m guest vcpu event seq msg waits known q =
     let d = drop 8 msg in
     reply-verdict s m guest (vcpuOf d) seq d
     ∙ ap (λ (a : Option Awaited). saysOf a seq d) (ap (λ (v : ℕ). awaitedBy m v) (q .names) ∙ waits)
     ∙ rw (
-      reply-long event d some-event (q .replied) (q .size),
+      q .size,
+      reply-long event known,
       eq-eqb (firstPadding 16 d) 0 (q .padding),
-      ne-eqb event 0 some-event,
+      ne-eqb event 0 (some-event event known),
       eq-eqb seq seq refl,
-      eq-eqb event (repliedEvent d) (sym (q .replied)),
-      eq-eqb (length d) (eventRowOf event .reply) (q .size),
+      eq-eqb event (repliedEvent d) (sym (q .of)),
+      reply-length event known,
+      eq-eqb (replyLength event) (replyLength event) refl,
+      reply-actions event known (actionOf d),
       q .action,
+      reply-value event known d,
     )
 
 -- no record is awaited where none is set
@@ -331,13 +383,13 @@ none-set l v =
     test (ltb v (length l)) (λ h. getD-set-same l v none none (ltb-true v (length l) h))
     (λ h. let far = ltb-false v (length l) h in ap (λ (x : List (Option Awaited)). getD x v none) (set-out l v none far) ∙ List·getD-eq-default l none {n = v} far)
 
-reply-taken : (s : Settings) (m : Model) (vcpu event seq : ℕ) (msg out guest : List ℕ) → m .closed ≡ false → awaitedBy m vcpu ≡ some (awaiting event seq) → event ≢ 0
-    → Replies vcpu event seq msg → leastOut ≤ length out
+reply-taken : (s : Settings) (m : Model) (vcpu event seq : ℕ) (msg out guest : List ℕ) → m .closed ≡ false → awaitedBy m vcpu ≡ some (awaiting event seq)
+    → So (among event replied) → Replies vcpu event seq msg → leastOut ≤ length out
     → let r = step s m (message msg out guest) in (r .answer ≡ handled 0 (signalled vcpu event (drop 8 msg))) × (awaitedBy (r .model) vcpu ≡ none)
 unfolding step messageStep headed judged answering answerOf layoutOf apply
-reply-taken s m vcpu event seq msg out guest o waits some-event q long =
+reply-taken s m vcpu event seq msg out guest o waits known q long =
     let d = drop 8 msg in
-    let does = reply-does s m (length guest) vcpu event seq msg waits some-event q in
+    let does = reply-does s m (length guest) vcpu event seq msg waits known q in
     let taken : step s m (message msg out guest) ≡ judged s m 16 seq d out guest (Does (ended event d)) = rw (o, le-ltb (length out) leastOut long, q .header .1, does) in
     let signal : signalOf (ended event d) ≡ signalled vcpu event d = rw (q .names) (test (eqb event 2) (λ e. rw e) (λ e. rw e)) in (
       ap (λ (r : Step). r .answer) taken ∙ ap (handled 0) signal,
@@ -345,10 +397,10 @@ reply-taken s m vcpu event seq msg out guest o waits some-event q long =
     )
 
 -- ---- a reply that does not
-reply-closes : (s : Settings) (m : Model) (msg out guest : List ℕ) → HasId msg 16 → m .closed ≡ false → leastOut ≤ length out
+reply-closes : (s : Settings) (m : Model) → KnownEvents m → (msg out guest : List ℕ) → HasId msg 16 → m .closed ≡ false → leastOut ≤ length out
     → ((vcpu event seq : ℕ) → awaitedBy m vcpu ≡ some (awaiting event seq) → Replies vcpu event seq msg → ⊥) → step s m (message msg out guest) .answer ≡ plain 1
 unfolding eventReplyVerdict isAwaited replyFits
-reply-closes s m msg out guest (size, seq, w) o long misses =
+reply-closes s m known msg out guest (size, seq, w) o long misses =
     reply-answer s m msg out guest size seq w ∙ rw (o, le-ltb (length out) leastOut long) (by (awaitedBy m (vcpuOf (drop 8 msg))) refl)
   where
     d : List ℕ
@@ -366,14 +418,16 @@ reply-closes s m msg out guest (size, seq, w) o long misses =
         false≢true z
     never (some a) e h =
         let same : a .seq ≡ seq = eqb-true (a .seq) seq (search (and-l, and-r)) in
+        let k : So (among (a .event) replied) = known-at m known (vcpuOf (drop 8 msg)) (a .event) (a .seq) e in
+        let action : takesAction (eventRowOf (a .event)) (actionOf (drop 8 msg)) ≡ true = search (and-l, and-r) in
         misses (vcpuOf (drop 8 msg)) (a .event) (a .seq) e
         (record {
           header = (size, w ∙ ap (λ (n : ℕ). Whole 16 size n) (sym same));
           names = refl;
           padding = eqb-true (firstPadding 16 (drop 8 msg)) 0 (search (and-l, and-r));
-          replied = sym (eqb-true (a .event) (repliedEvent (drop 8 msg)) (search (and-l, and-r)));
-          size = eqb-true (length (drop 8 msg)) (eventRowOf (a .event) .reply) (search (and-l, and-r));
-          action = search (and-l, and-r);
+          of = sym (eqb-true (a .event) (repliedEvent (drop 8 msg)) (search (and-l, and-r)));
+          size = eqb-true (length (drop 8 msg)) (eventRowOf (a .event) .reply) (search (and-l, and-r)) ∙ reply-length (a .event) k;
+          action = sym (reply-actions (a .event) k (actionOf (drop 8 msg))) ∙ action;
         })
 
     by : (a : Option Awaited) → awaitedBy m (vcpuOf (drop 8 msg)) ≡ a → answerBy (saysOf a seq (drop 8 msg)) ≡ plain 1
@@ -386,17 +440,6 @@ module _ (s : Settings) (st : State) (m : Model) (f : Stands s st m) where
   awaited-count : length (m .awaited) ≡ s .vcpus
   awaited-count =
       sym (ap (λ (k : Model). length (k .awaited)) (f .model)) ∙ awaited-length (st .vcpus) 0 (st .session .settings .vcpus) ∙ ap (λ (x : Settings). x .vcpus) (f .settings)
-
-  -- 0 is no event
-  awaited-event : (vcpu event seq : ℕ) → awaitedBy m vcpu ≡ some (awaiting event seq) → event ≢ 0
-  unfolding awaitedIn
-  awaited-event vcpu event seq e z =
-      let own : awaitedIn (st .vcpus) vcpu ≡ some (awaiting event seq) = sym (awaited-means st (f .formed .words) vcpu) ∙ ap (λ (k : Model). awaitedBy k vcpu) (f .model) ∙ e in
-      by (eqb (field (st .vcpus) vcpu AWAITED) 0) refl own
-    where
-      by : (b : Bool) → eqb (field (st .vcpus) vcpu AWAITED) 0 ≡ b → cond b none (some (awaiting (field (st .vcpus) vcpu AWAITED) (field (st .vcpus) vcpu AWAITED-SEQ))) ≡ some (awaiting event seq) → ⊥
-      by true q own = false≢true (ap isSome own)
-      by false q own = eqb-false (field (st .vcpus) vcpu AWAITED) 0 q (ap awaitedEvent own ∙ z)
 
   -- a closed one awaits nothing
   waiting-open : Rests s m → (vcpu : ℕ) → isSome (awaitedBy m vcpu) ≡ true → m .closed ≡ false
@@ -465,11 +508,11 @@ module _ (s : Settings) (st : State) (m : Model) (f : Stands s st m) where
         (asked-means st (f .formed .words) vcpu event own ∙ ap (λ (k : Model). isAskedFor (k .tables) vcpu event own) (f .model) ∙ asked-on (m .tables) vcpu event own (o .0) ∙ q)
 
   -- ---- a reply
-  stands-taken : Rests s m → (vcpu event seq : ℕ) (msg out guest : List ℕ) → awaitedBy m vcpu ≡ some (awaiting event seq) → Replies vcpu event seq msg → leastOut ≤ length out
+  stands-taken : Rests s m → KnownEvents m → (vcpu event seq : ℕ) (msg out guest : List ℕ) → awaitedBy m vcpu ≡ some (awaiting event seq) → Replies vcpu event seq msg → leastOut ≤ length out
       → let r = stepOf st (message msg out guest) in (r .answer ≡ handled 0 (signalled vcpu event (drop 8 msg))) × (awaitedBy (modelOf (r .state)) vcpu ≡ none)
-  stands-taken rests vcpu event seq msg out guest waits q long =
+  stands-taken rests known vcpu event seq msg out guest waits q long =
       let c = message msg out guest in
-      let t = reply-taken s m vcpu event seq msg out guest (waiting-open rests vcpu (ap isSome waits)) waits (awaited-event vcpu event seq waits) q long in
+      let t = reply-taken s m vcpu event seq msg out guest (waiting-open rests vcpu (ap isSome waits)) waits (known-at m known vcpu event seq waits) q long in
       (step-same s st m c f .0 ∙ t .0, ap (λ (k : Model). awaitedBy k vcpu) (step-stands s st m c f .model) ∙ t .1)
 
   stands-later : Rests s m → (between : List Call) (msg out guest : List ℕ) → HasId msg 16 → let vcpu = vcpuOf (drop 8 msg) in
@@ -485,21 +528,21 @@ module _ (s : Settings) (st : State) (m : Model) (f : Stands s st m) where
       ∙ reads-same s s (after s m between) m msg out guest guest id (opened ∙ sym (waiting-open rests vcpu awaits)) (after-waits s m vcpu between awaits none-replies opened)
       ∙ sym (step-same s st m c f .0)
 
-  stands-closes : (msg out guest : List ℕ) → HasId msg 16 → Open st → leastOut ≤ length out
+  stands-closes : KnownEvents m → (msg out guest : List ℕ) → HasId msg 16 → Open st → leastOut ≤ length out
       → ((vcpu event seq : ℕ) → awaitedBy m vcpu ≡ some (awaiting event seq) → Replies vcpu event seq msg → ⊥) → stepOf st (message msg out guest) .answer ≡ plain 1
-  stands-closes msg out guest id o long misses =
+  stands-closes known msg out guest id o long misses =
       step-same s st m (message msg out guest) f .0
-      ∙ reply-closes s m msg out guest id (sym (ap (λ (k : Model). k .closed) (f .model)) ∙ o) long misses
+      ∙ reply-closes s m known msg out guest id (sym (ap (λ (k : Model). k .closed) (f .model)) ∙ o) long misses
 
 -- ---- one event, from the entry to its reply
-stands-resumed : (s : Settings) (st : State) (m : Model) → Stands s st m → Rests s m → (vcpu : ℕ) (block : List ℕ) (event : ℕ) (own out : List ℕ)
+stands-resumed : (s : Settings) (st : State) (m : Model) → Stands s st m → Rests s m → KnownEvents m → (vcpu : ℕ) (block : List ℕ) (event : ℕ) (own out : List ℕ)
     → let r = stepOf st (enter vcpu block event own out) in
     r .answer .number ≡ 0 → switchesOn (m .tables) vcpu event own ≡ true
     → (between : List Call) → NoReplies vcpu between → Open (afterOf (r .state) between)
     → (msg out′ guest : List ℕ) → Replies vcpu event (m .seq) msg → leastOut ≤ length out′
     → stepOf (afterOf (r .state) between) (message msg out′ guest) .answer
-    ≡ handled 0 (cond (eqb (actionOf (drop 8 msg)) 2) (Crash vcpu) (Resume vcpu (actionOf (drop 8 msg)) (newValue (eventRowOf event) (drop 8 msg))))
-stands-resumed s st m f rests vcpu block event own out h on between none-replies o msg out′ guest q long =
+    ≡ handled 0 (cond (eqb (actionOf (drop 8 msg)) 2) (Crash vcpu) (Resume vcpu (actionOf (drop 8 msg)) (valueIn event (drop 8 msg))))
+stands-resumed s st m f rests known vcpu block event own out h on between none-replies o msg out′ guest q long =
     let c = enter vcpu block event own out in
     let k = step s m c .model in
     let g = step-stands s st m c f in
@@ -507,7 +550,7 @@ stands-resumed s st m f rests vcpu block event own out h on between none-replies
     let awaits : awaitedBy k vcpu ≡ some (awaiting event (m .seq)) = sym (stands-awaits s st m f vcpu block event own out) ∙ stands-sent s st m f vcpu block event own out h .awaited .1 on in
     let opened : after s k between .closed ≡ false = sym (ap (λ (x : Model). x .closed) (e .model)) ∙ o in
     let still = after-waits s k vcpu between (ap isSome awaits) none-replies opened ∙ awaits in
-    let taken = stands-taken s (afterOf (stepOf st c .state) between) (after s k between) e (after-rests s k between (step-rests s m rests c)) vcpu event (m .seq) msg out′ guest still q long .0 in
+    let taken = stands-taken s (afterOf (stepOf st c .state) between) (after s k between) e (after-rests s k between (step-rests s m rests c)) (after-known s k between (step-known s m known c)) vcpu event (m .seq) msg out′ guest still q long .0 in
     let other : eqb event 2 ≡ false = ne-eqb event 2 (λ z. no-pause event (stands-entered s st m f vcpu block event own out h .known) (ap (λ (n : ℕ). n % 256) z)) in
     rw other at taken
 
@@ -519,16 +562,20 @@ module _ (s : Settings) (st : State) (m : Model) (b : BeganOn s st m) (cs : List
   rests : Rests s (after s m cs)
   rests = after-rests s m cs (began-rests s st m b)
 
-pub other-events : Events
-other-events =
+  known : KnownEvents (after s m cs)
+  known = after-known s m cs (began-known s st m b)
+
+pub events : Events
+events =
     record {
       sent = λ s st m b cs. stands-sent s (afterOf st cs) (after s m cs) (stands s st m b cs);
       passedOver = λ s st m b cs. stands-over s (afterOf st cs) (after s m cs) (stands s st m b cs);
       pauseInstead = λ s st m b cs. stands-pauses s (afterOf st cs) (after s m cs) (stands s st m b cs);
       keeps = λ s st m b cs. stands-keeps s (afterOf st cs) (after s m cs) (stands s st m b cs);
+      known = λ s st m b cs vcpu event seq e. known-at (after s m cs) (known s st m b cs) vcpu event seq (sym (ap (λ (k : Model). awaitedBy k vcpu) (stands s st m b cs .model)) ∙ e);
       reads = reads-same;
       later = λ s st m b cs. stands-later s (afterOf st cs) (after s m cs) (stands s st m b cs) (rests s st m b cs);
-      taken = λ s st m b cs. stands-taken s (afterOf st cs) (after s m cs) (stands s st m b cs) (rests s st m b cs);
-      closes = λ s st m b cs. stands-closes s (afterOf st cs) (after s m cs) (stands s st m b cs);
-      resumed = λ s st m b cs. stands-resumed s (afterOf st cs) (after s m cs) (stands s st m b cs) (rests s st m b cs);
+      taken = λ s st m b cs. stands-taken s (afterOf st cs) (after s m cs) (stands s st m b cs) (rests s st m b cs) (known s st m b cs);
+      closes = λ s st m b cs. stands-closes s (afterOf st cs) (after s m cs) (stands s st m b cs) (known s st m b cs);
+      resumed = λ s st m b cs. stands-resumed s (afterOf st cs) (after s m cs) (stands s st m b cs) (rests s st m b cs) (known s st m b cs);
     }

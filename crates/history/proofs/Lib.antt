@@ -8,6 +8,7 @@ pub mod Demand3
 pub mod Unsteered
 pub mod Exported
 pub mod Carried
+pub mod Cases
 pub mod Closed
 pub mod Lookups
 pub mod Pauses

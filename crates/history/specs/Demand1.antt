@@ -8,7 +8,7 @@ use mathlib.Core.Path.{_≡_}
 use mathlib.Core.Logic.{_↔_, _⊎_}
 use Prim.Native.Nat.{ℕ, _≤_, _<_}
 use mathlib.Core.List.{List, [], _∷_}
-use mathlib.Core.Bool.{true, false, So}
+use mathlib.Core.Bool.{true, false, cond, So}
 use lib.ListN.{length, drop}
 use Rattle.wire.specs.Header.{headerOf}
 use Rattle.wire.specs.declared.Header.the-variants.{Whole, Broken}
@@ -20,7 +20,6 @@ use Rattle.kvmi.specs.Bits.{among}
 use Rattle.kvmi.specs.Limits.{leastOut, eventOut, stateBytes}
 use Rattle.kvmi.specs.Model.{awaitedBy, isSome}
 use Rattle.kvmi.specs.Message.{vcpuOf}
-use Rattle.kvmi.specs.Event.{eventRowOf}
 use Rattle.kvmi.specs.Verdict.{verdict}
 use Rattle.kvmi.specs.Image.{image, badForm, forbidden, loadImage}
 use Rattle.session.specs.State.{State, closedSession}
@@ -59,9 +58,13 @@ NoVcpu st vcpu = st .session .settings .vcpus ≤ vcpu
 abbrev pub offers : List ℕ
 offers = 0 ∷ 3 ∷ 4 ∷ 5 ∷ 7 ∷ 8 ∷ 9 ∷ 11 ∷ 12 ∷ 14 ∷ []
 
--- one of them, with as many bytes of its own as its row says
+-- how many bytes each has of its own: 24 for CR and MSR, 16 for BREAKPOINT and CPUID, 8 for DESCRIPTOR and SINGLESTEP
+abbrev pub ownLength : ℕ → ℕ
+ownLength event = cond (among event (5 ∷ 9 ∷ [])) 24 (cond (among event (4 ∷ 14 ∷ [])) 16 (cond (among event (8 ∷ 11 ∷ [])) 8 0))
+
+-- an event with its own bytes, as an entry is offered one
 abbrev pub Offer : ℕ → List ℕ → Type 0
-Offer event own = So (among event offers) × (length own ≡ eventRowOf event .own)
+Offer event own = So (among event offers) × (length own ≡ ownLength event)
 
 -- what an entry is lent beside its output: a register block of 536 bytes, and an offer
 abbrev pub Lent : List ℕ → ℕ → List ℕ → Type 0

@@ -4,7 +4,7 @@ use mathlib.Core.Path.{_≡_}
 use mathlib.Core.Logic.{_↔_, _≢_}
 use Prim.Native.Nat.{ℕ, _+_, _≤_}
 use mathlib.Core.List.{List, [], _∷_}
-use mathlib.Core.Bool.{Bool, true, false, cond, _&&_}
+use mathlib.Core.Bool.{Bool, true, false, cond, _&&_, _||_, So}
 use mathlib.Core.Option.{none, some}
 use lib.ListN.{length, drop}
 use lib.Dec.{eqb}
@@ -15,11 +15,11 @@ use Rattle.kvmi.specs.declared.Settings.{Settings}
 use Rattle.kvmi.specs.declared.Signal.{Signal}
 use Rattle.kvmi.specs.declared.Signal.the-variants.{Quiet, Crash, Resume}
 use Rattle.kvmi.specs.Answer.{handled, plain}
+use Rattle.kvmi.specs.Bits.{among}
 use Rattle.kvmi.specs.Limits.{leastOut}
 use Rattle.kvmi.specs.Tables.{Tables, vmEventOn, eventOn, crOn, msrOn}
 use Rattle.kvmi.specs.Model.{Model, awaiting, awaitedBy}
 use Rattle.kvmi.specs.Message.{vcpuOf, actionOf, repliedEvent, firstPadding}
-use Rattle.kvmi.specs.Event.{eventRowOf, takesAction, newValue}
 use Rattle.kvmi.specs.Reply.{eventBytes, pauseEvent}
 use Rattle.kvmi.specs.Pauses.{queued}
 use Rattle.kvmi.specs.Call.{Call, message, ready, enter, writeImage, step, after}
@@ -54,19 +54,36 @@ pub record PauseGoes (m : Model) (vcpu : ℕ) (block : List ℕ) (r : Told) : Ty
   pub queue : queued vcpu (modelOf (r .state)) + 1 ≡ queued vcpu m
 
 -- ---- its reply
--- a message that replies to an event of a vCPU with a seq: "padding is zero, [..] seq and event match", and its data size and its action are those of the
--- event's row
+-- the events that take one: a pause, and those that an entry is offered
+abbrev pub replied : List ℕ
+replied = 2 ∷ 3 ∷ 4 ∷ 5 ∷ 7 ∷ 8 ∷ 9 ∷ 11 ∷ 12 ∷ 14 ∷ []
+
+-- "Replies carry 24 data bytes for CR and MSR, the new value last, and 16 otherwise."
+abbrev pub hasValue : ℕ → Bool
+hasValue event = among event (5 ∷ 9 ∷ [])
+
+abbrev pub replyLength : ℕ → ℕ
+replyLength event = cond (hasValue event) 24 16
+
+abbrev pub valueIn : ℕ → List ℕ → ℕ
+valueIn event d = cond (hasValue event) (load 8 d 16) 0
+
+-- "the action is 0 continue or 2 crash"; 1: "Retry is taken for BREAKPOINT and DESCRIPTOR only."
+abbrev pub isTaken : ℕ → ℕ → Bool
+isTaken event action = among action (0 ∷ 2 ∷ []) || eqb action 1 && among event (4 ∷ 8 ∷ [])
+
+-- a message that replies to an event of a vCPU with a seq: "padding is zero, [..] seq and event match", and its data size and its action are the event's
 pub record Replies (vcpu event seq : ℕ) (msg : List ℕ) : Type 0 where
   pub header : (size : ℕ) × (headerOf msg ≡ Whole 16 size seq)
   pub names : vcpuOf (drop 8 msg) ≡ vcpu
   pub padding : firstPadding 16 (drop 8 msg) ≡ 0
-  pub replied : repliedEvent (drop 8 msg) ≡ event
-  pub size : length (drop 8 msg) ≡ eventRowOf event .reply
-  pub action : takesAction (eventRowOf event) (actionOf (drop 8 msg)) ≡ true
+  pub of : repliedEvent (drop 8 msg) ≡ event
+  pub size : length (drop 8 msg) ≡ replyLength event
+  pub action : isTaken event (actionOf (drop 8 msg)) ≡ true
 
 -- what is signalled for its data, of a crash (action 2), of a pause (event 2) and of any other: "resume(vCPU, action, new value or 0)"
 abbrev pub signalled : ℕ → ℕ → List ℕ → Signal
-signalled vcpu event d = cond (eqb (actionOf d) 2) (Crash vcpu) (cond (eqb event 2) Quiet (Resume vcpu (actionOf d) (newValue (eventRowOf event) d)))
+signalled vcpu event d = cond (eqb (actionOf d) 2) (Crash vcpu) (cond (eqb event 2) Quiet (Resume vcpu (actionOf d) (valueIn event d)))
 
 -- a call that is no reply to an event of a vCPU, and a list of them
 abbrev pub NoReply : ℕ → Call → Type 0
@@ -97,6 +114,9 @@ pub record Events : Type 0 where
   pub keeps : (s : Settings) (st : State) (m : Model) → BeganOn s st m → (cs : List Call) (vcpu : ℕ) (block : List ℕ) (event : ℕ) (own out : List ℕ)
       → Offer event own → switchesOn (after s m cs .tables) vcpu event own ≡ true
       → modelOf (stepOf (afterOf st cs) (enter vcpu block event own out) .state) .tables ≡ after s m cs .tables
+  -- "The awaited record now holds which event it is": one that takes a reply
+  pub known : (s : Settings) (st : State) (m : Model) → BeganOn s st m → (cs : List Call) (vcpu event seq : ℕ)
+      → awaitedBy (modelOf (afterOf st cs)) vcpu ≡ some (awaiting event seq) → So (among event replied)
   -- of the session, the answer to an EVENT_REPLY reads whether it is closed and the awaited record of the vCPU that it names: no table, mode or setting
   pub reads : (s s′ : Settings) (m k : Model) (msg out guest guest′ : List ℕ) → HasId msg 16 → m .closed ≡ k .closed
       → awaitedBy m (vcpuOf (drop 8 msg)) ≡ awaitedBy k (vcpuOf (drop 8 msg))
@@ -125,4 +145,4 @@ pub record Events : Type 0 where
       → (between : List Call) → NoReplies vcpu between → Open (afterOf (r .state) between)
       → (msg out′ guest : List ℕ) → Replies vcpu event (after s m cs .seq) msg → leastOut ≤ length out′
       → stepOf (afterOf (r .state) between) (message msg out′ guest) .answer
-      ≡ handled 0 (cond (eqb (actionOf (drop 8 msg)) 2) (Crash vcpu) (Resume vcpu (actionOf (drop 8 msg)) (newValue (eventRowOf event) (drop 8 msg))))
+      ≡ handled 0 (cond (eqb (actionOf (drop 8 msg)) 2) (Crash vcpu) (Resume vcpu (actionOf (drop 8 msg)) (valueIn event (drop 8 msg))))
