@@ -38,15 +38,15 @@ fn cr_on(vcpus: &[u64], vcpu: u16, cr: u32) -> bool
 }
 
 // Whether the tool asked for an event: what its row names is on among the VM's switches or the vCPU's.
-fn is_asked_for(switches: u64, vcpus: &[u64], vcpu: u16, event: u32, own: &[u8]) -> bool
-    ensures { λ r. ⌜ r ≡ isAskedForOf switches (now (vcpus .entry)) vcpu event (now (own .entry)) ⌝ }
+fn is_asked_for(vm_events: u64, vcpus: &[u64], vcpu: u16, event: u32, own: &[u8]) -> bool
+    ensures { λ r. ⌜ r ≡ isAskedForOf «vm_events» (now (vcpus .entry)) vcpu event (now (own .entry)) ⌝ }
 {
     let row = kvmi::events::row(event as u64);
     let switch = row.switch;
     match switch {
         EventSwitch::Unoffered => false,
         EventSwitch::NoEvent => false,
-        EventSwitch::OfVm => kvmi::bits::is_on(switches, event),
+        EventSwitch::OfVm => kvmi::bits::is_on(vm_events, event),
         EventSwitch::OfVcpu => {
             let events = store::words::read_field(vcpus, vcpu, store::words::EVENTS);
             kvmi::bits::is_on(events, event)
@@ -85,6 +85,7 @@ fn send(
     requires { ⌜ length (now own) ≤ 65535 ⌝ }
     ensures { λ r. ⌜ Went (now (vcpus .exit)) (now (out .entry)) (now (out .exit)) r (sendingOf (now (vcpus .entry)) vcpu seq (now (block .entry)) event (now (own .entry))) ⌝ }
 {
+    // numbers that are offered are below 15
     reply::event(out, seq, vcpu as u32, (event % 256) as u8, block, own);
     await_reply(vcpus, vcpu, event, seq);
     Answered {
@@ -160,8 +161,8 @@ fn enter_open(
     }
 }
 
-// A vCPU enters the guest, with its register block. It is offered an event by its number (0: none), with the event's own bytes. What goes
-// out is awaited.
+// A vCPU enters the guest, with its register block. It is offered an event by its number (0: none), with the event's own bytes. The
+// reply to what goes out is awaited.
 pub fn enter(
     s: Session,
     vcpus: &mut VcpuWords,

@@ -28,7 +28,7 @@ use Rattle.kvmi.specs.Bits.{every, among}
 use Rattle.kvmi.specs.Limits.{leastOut}
 use Rattle.kvmi.specs.Settings.{allowsCommand}
 use Rattle.kvmi.specs.Tables.{Tables, Vcpu, resting, vcpuAt, withPauses}
-use Rattle.kvmi.specs.Model.{Awaited, awaiting, Model, awaitedBy, isSome}
+use Rattle.kvmi.specs.Model.{Awaited, awaiting, Model, awaitedBy, isSome, nextSeq}
 use Rattle.kvmi.specs.Message.{layoutOf, sizeFits, vcpuOf, actionOf, repliedEvent, firstPadding}
 use Rattle.kvmi.specs.Event.{eventRowOf, offerFits, asksFor, isAskedFor, takesAction, newValue}
 use Rattle.kvmi.specs.Verdict.{awaitedEvent, awaitedSeq, factsOf, repliesOn, isAwaited, replyFits, eventReplyVerdict, changeOf, verdict}
@@ -109,6 +109,7 @@ module _ (m : Model) (vcpu : ℕ) (block : List ℕ) (event : ℕ) (own out : Li
   Exactly r =
       ((wrote r ≡ eventBytes (m .seq) vcpu event block own) ↔ (asked ≡ true))
       × ((awaitedBy (r .model) vcpu ≡ some (awaiting event (m .seq))) ↔ (asked ≡ true))
+      × (asked ≡ true → r .model .seq ≡ nextSeq (m .seq))
 
   entering-exactly : event % 256 ≢ 2 → isSome (awaitedBy m vcpu) ≡ false → Exactly (entering m vcpu block event own out)
   unfolding sending pausing pauseEvent
@@ -116,7 +117,7 @@ module _ (m : Model) (vcpu : ℕ) (block : List ℕ) (event : ℕ) (own out : Li
       let bytes = eventBytes (m .seq) vcpu event block own in
       let pause = eventBytes (m .seq) vcpu 2 block [] in
       entering-cases Exactly m vcpu block event own out
-      (λ a. ((λ _. a, λ _. take-append-seam bytes (drop (length bytes) out)), (λ _. a, λ _. awaits-now (some (awaiting event (m .seq))))))
+      (λ a. ((λ _. a, λ _. take-append-seam bytes (drop (length bytes) out)), (λ _. a, λ _. awaits-now (some (awaiting event (m .seq)))), λ _. refl))
       (λ a _. (
         (
           λ e. let same : pause ≡ bytes = sym (take-append-seam pause (drop (length pause) out)) ∙ e in
@@ -129,11 +130,13 @@ module _ (m : Model) (vcpu : ℕ) (block : List ℕ) (event : ℕ) (own out : Li
               absurd (other (ap (λ (k : ℕ). k % 256) (sym number))),
           λ t. clash t a,
         ),
+        λ t. clash t a,
       ))
-      (λ a. ((λ e. clash (sym (ap (λ (l : List ℕ). eqb (length l) 0) e)) (event-long (m .seq) vcpu event block own), λ t. clash t a), (λ e. clash (ap isSome e) idle, λ t. clash t a)))
+      (λ a. ((λ e. clash (sym (ap (λ (l : List ℕ). eqb (length l) 0) e)) (event-long (m .seq) vcpu event block own), λ t. clash t a), (λ e. clash (ap isSome e) idle, λ t. clash t a), λ t. clash t a))
 
   abbrev Goes : Step → Type 0
   Goes r = (wrote r ≡ pauseEvent (m .seq) vcpu block) × (awaitedBy (r .model) vcpu ≡ some (awaiting 2 (m .seq))) × (queued vcpu (r .model) + 1 ≡ queued vcpu m)
+      × (r .model .seq ≡ nextSeq (m .seq))
 
   entering-pauses : vcpu < length (m .tables .vcpus) → asked ≡ false → 1 ≤ queued vcpu m → Goes (entering m vcpu block event own out)
   unfolding entering dequeuing pausing queued
@@ -141,7 +144,7 @@ module _ (m : Model) (vcpu : ℕ) (block : List ℕ) (event : ℕ) (own out : Li
       let v = vcpuAt (m .tables) vcpu in
       let pause = pauseEvent (m .seq) vcpu block in
       let less = ap (λ (x : Vcpu). x .pauses) (getD-set-same (m .tables .vcpus) vcpu (withPauses v (v .pauses - 1)) resting here) in
-      rw (a, le-leb 1 (v .pauses) one) (take-append-seam pause (drop (length pause) out), awaits-now (some (awaiting 2 (m .seq))), omega arith)
+      rw (a, le-leb 1 (v .pauses) one) (take-append-seam pause (drop (length pause) out), awaits-now (some (awaiting 2 (m .seq))), omega arith, refl)
 
 -- an event that is asked for leaves the tables as they are, refused or not
 asked-keeps : (s : Settings) (m : Model) (vcpu : ℕ) (block : List ℕ) (event : ℕ) (own out : List ℕ) → isAskedFor (m .tables) vcpu event own ≡ true
@@ -463,6 +466,9 @@ module _ (s : Settings) (st : State) (m : Model) (f : Stands s st m) where
     stands-awaits : awaitedBy (modelOf (r .state)) vcpu ≡ awaitedBy (step s m call .model) vcpu
     stands-awaits = ap (λ (k : Model). awaitedBy k vcpu) (step-stands s st m call f .model)
 
+    stands-seq : modelOf (r .state) .seq ≡ step s m call .model .seq
+    stands-seq = ap (λ (k : Model). k .seq) (step-stands s st m call f .model)
+
     stands-entered : r .answer .number ≡ 0 → Entered s m vcpu block event own out (step s m call)
     unfolding step
     stands-entered h = entered s m vcpu block event own out (sym (ap (λ (p : Paper). p .number) (step-same s st m call f .0)) ∙ h)
@@ -480,6 +486,7 @@ module _ (s : Settings) (st : State) (m : Model) (f : Stands s st m) where
         record {
           bytes = (λ q. sym asks-on ∙ x .0 .0 (sym stands-wrote ∙ q), λ q. stands-wrote ∙ x .0 .1 (asks-on ∙ q));
           awaited = (λ q. sym asks-on ∙ x .1 .0 (sym stands-awaits ∙ q), λ q. stands-awaits ∙ x .1 .1 (asks-on ∙ q));
+          next = λ q. stands-seq ∙ x .2 (asks-on ∙ q);
         }
 
     stands-pauses : r .answer .number ≡ 0 → on ≡ false → 1 ≤ queued vcpu m → PauseGoes m vcpu block r
@@ -494,6 +501,7 @@ module _ (s : Settings) (st : State) (m : Model) (f : Stands s st m) where
           bytes = stands-wrote ∙ x .0;
           awaited = stands-awaits ∙ x .1;
           queue = ap (λ (k : Model). queued vcpu k + 1) (step-stands s st m call f .model) ∙ x .2;
+          next = stands-seq ∙ x .3;
         }
 
     stands-keeps : Offer event own → on ≡ true → modelOf (r .state) .tables ≡ m .tables

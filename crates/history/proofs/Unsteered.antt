@@ -1,6 +1,6 @@
 -- The guest can't steer the filter. Assumes nothing.
 use mathlib.Core.Path.{_≡_, refl, sym, ap, _∙_, subst}
-use Prim.Native.Nat.{ℕ, _+_, _≤_}
+use Prim.Native.Nat.{ℕ, zero, suc, _+_, _≤_}
 use native.Mathlib.Omega.{arith}
 use mathlib.Core.List.{List, [], _∷_, _++_, append-assoc}
 use mathlib.Core.Bool.{Bool, true, false, cond, not, _&&_}
@@ -33,8 +33,6 @@ use Rattle.kvmi.specs.Mode.{modeOfNumber}
 use Rattle.kvmi.specs.Message.{layoutOf, vcpuOf}
 use Rattle.kvmi.specs.Verdict.{verdict}
 use Rattle.kvmi.specs.Change.{signalOf, modeFor}
-use Rattle.kvmi.specs.declared.EventSwitch.{EventSwitch}
-use Rattle.kvmi.specs.declared.EventSwitch.the-variants.{Unoffered, NoEvent, OfVm, OfVcpu, OfCr, OfMsr}
 use Rattle.kvmi.specs.Event.{eventRowOf, isOffered, offerFits, crNamed, msrNamed}
 use Rattle.kvmi.specs.Reply.{messageBytes, replyBytes, replyData, eventBytes, pauseEvent, answerBytes, answerOf}
 use Rattle.kvmi.specs.Image.{image}
@@ -281,32 +279,40 @@ events-alike seq vcpu event block block′ own own′ lb lw words next =
       next = refl;
     }
 
+-- of its own bytes the switches that an event asks for know the register that CR and MSR name
+asked-alike : (vmEvents : ℕ) (w : List ℕ) (vcpu event : ℕ) (own own′ : List ℕ) → (event ≡ 5 → crNamed own ≡ crNamed own′)
+    → (event ≡ 9 → msrNamed own ≡ msrNamed own′) → isAskedForOf vmEvents w vcpu event own ≡ isAskedForOf vmEvents w vcpu event own′
+unfolding isAskedForOf askedForBy eventRowOf
+asked-alike vmEvents w vcpu zero own own′ cr msr = refl
+asked-alike vmEvents w vcpu (suc (zero)) own own′ cr msr = refl
+asked-alike vmEvents w vcpu (suc (suc (zero))) own own′ cr msr = refl
+asked-alike vmEvents w vcpu (suc (suc (suc (zero)))) own own′ cr msr = refl
+asked-alike vmEvents w vcpu (suc (suc (suc (suc (zero))))) own own′ cr msr = refl
+asked-alike vmEvents w vcpu (suc (suc (suc (suc (suc (zero)))))) own own′ cr msr = rw (cr refl)
+asked-alike vmEvents w vcpu (suc (suc (suc (suc (suc (suc (zero))))))) own own′ cr msr = refl
+asked-alike vmEvents w vcpu (suc (suc (suc (suc (suc (suc (suc (zero)))))))) own own′ cr msr = refl
+asked-alike vmEvents w vcpu (suc (suc (suc (suc (suc (suc (suc (suc (zero))))))))) own own′ cr msr = refl
+asked-alike vmEvents w vcpu (suc (suc (suc (suc (suc (suc (suc (suc (suc (zero)))))))))) own own′ cr msr = rw (msr refl)
+asked-alike vmEvents w vcpu (suc (suc (suc (suc (suc (suc (suc (suc (suc (suc (zero))))))))))) own own′ cr msr = refl
+asked-alike vmEvents w vcpu (suc (suc (suc (suc (suc (suc (suc (suc (suc (suc (suc (zero)))))))))))) own own′ cr msr = refl
+asked-alike vmEvents w vcpu (suc (suc (suc (suc (suc (suc (suc (suc (suc (suc (suc (suc (zero))))))))))))) own own′ cr msr = refl
+asked-alike vmEvents w vcpu (suc (suc (suc (suc (suc (suc (suc (suc (suc (suc (suc (suc (suc (zero)))))))))))))) own own′ cr msr = refl
+asked-alike vmEvents w vcpu (suc (suc (suc (suc (suc (suc (suc (suc (suc (suc (suc (suc (suc (suc (zero))))))))))))))) own own′ cr msr = refl
+asked-alike vmEvents w vcpu (suc (suc (suc (suc (suc (suc (suc (suc (suc (suc (suc (suc (suc (suc (suc (n)))))))))))))))) own own′ cr msr = refl
+
 module _ (vcpu : ℕ) (block block′ : List ℕ) (event : ℕ) (own own′ out out′ : List ℕ) (lb : length block ≡ length block′) (lw : length own ≡ length own′)
-    (cr : crNamed own ≡ crNamed own′) (msr : msrNamed own ≡ msrNamed own′) (lo : length out ≡ length out′) (st : State) where
+    (cr : event ≡ 5 → crNamed own ≡ crNamed own′) (msr : event ≡ 9 → msrNamed own ≡ msrNamed own′) (lo : length out ≡ length out′) (st : State) where
   abbrev Enters : Told → Told → Type 0
   Enters = SameFor (enter vcpu block event own out)
 
   stays : (k : ℕ) → Enters (toldSame k st out []) (toldSame k st out′ [])
   stays k = idle (enter vcpu block event own out) (plain k) refl st out out′ [] []
 
-  -- of its own bytes the switches that an event asks for know the register alone
-  asked-same : (vmEvents : ℕ) (w : List ℕ) → isAskedForOf vmEvents w vcpu event own ≡ isAskedForOf vmEvents w vcpu event own′
-  unfolding isAskedForOf askedForBy
-  asked-same vmEvents w = by (eventRowOf event .switch)
-    where
-      by : (x : EventSwitch) → askedForBy vmEvents w vcpu event own x ≡ askedForBy vmEvents w vcpu event own′ x
-      by Unoffered = refl
-      by NoEvent = refl
-      by OfVm = refl
-      by OfVcpu = refl
-      by OfCr = rw cr
-      by OfMsr = rw msr
-
   sent-same : SentAlike (sentOf st vcpu block event own) (sentOf st vcpu block′ event own′)
   unfolding sentOf sendingOf dequeuingOf pausingOf pauseEvent
   sent-same =
       let seq = st .session .tool .seq in
-      rw (← asked-same (st .session .tool .events) (st .vcpus))
+      rw (← asked-alike (st .session .tool .events) (st .vcpus) vcpu event own own′ cr msr)
       (both SentAlike (isAskedForOf (st .session .tool .events) (st .vcpus) vcpu event own) _ _ _ _
       (λ _. events-alike seq vcpu event block block′ own own′ lb lw _ _)
       (λ _. both SentAlike (leb 1 (field (st .vcpus) vcpu PAUSES)) _ _ _ _ (λ _. events-alike seq vcpu 2 block block′ [] [] lb refl _ _)

@@ -1,5 +1,5 @@
 -- "W1. The other events": which event goes out at an entry, what goes where it is passed over, and what its reply gives. Said of every session that began,
--- after every list of calls; the switches are those of the model that the same calls moved, read by lookup.
+-- after every list of calls, but `reads`, which is said of any two models; the switches are those of the model that the same calls moved, read by lookup.
 use mathlib.Core.Path.{_≡_}
 use mathlib.Core.Logic.{_↔_, _≢_}
 use Prim.Native.Nat.{ℕ, _+_, _≤_}
@@ -18,7 +18,7 @@ use Rattle.kvmi.specs.Answer.{handled, plain}
 use Rattle.kvmi.specs.Bits.{among}
 use Rattle.kvmi.specs.Limits.{leastOut}
 use Rattle.kvmi.specs.Tables.{Tables, vmEventOn, eventOn, crOn, msrOn}
-use Rattle.kvmi.specs.Model.{Model, awaiting, awaitedBy}
+use Rattle.kvmi.specs.Model.{Model, awaiting, awaitedBy, nextSeq}
 use Rattle.kvmi.specs.Message.{vcpuOf, actionOf, repliedEvent, firstPadding}
 use Rattle.kvmi.specs.Reply.{eventBytes, pauseEvent}
 use Rattle.kvmi.specs.Pauses.{queued}
@@ -46,12 +46,15 @@ switchesOn t vcpu event own =
 pub record SentExactly (m : Model) (vcpu : ℕ) (block : List ℕ) (event : ℕ) (own : List ℕ) (r : Told) : Type 0 where
   pub bytes : (written r ≡ eventBytes (m .seq) vcpu event block own) ↔ (switchesOn (m .tables) vcpu event own ≡ true)
   pub awaited : (awaitedBy (modelOf (r .state)) vcpu ≡ some (awaiting event (m .seq))) ↔ (switchesOn (m .tables) vcpu event own ≡ true)
+  -- "Each event takes the next seq"
+  pub next : switchesOn (m .tables) vcpu event own ≡ true → modelOf (r .state) .seq ≡ nextSeq (m .seq)
 
 -- a queued pause goes
 pub record PauseGoes (m : Model) (vcpu : ℕ) (block : List ℕ) (r : Told) : Type 0 where
   pub bytes : written r ≡ pauseEvent (m .seq) vcpu block
   pub awaited : awaitedBy (modelOf (r .state)) vcpu ≡ some (awaiting 2 (m .seq))
   pub queue : queued vcpu (modelOf (r .state)) + 1 ≡ queued vcpu m
+  pub next : modelOf (r .state) .seq ≡ nextSeq (m .seq)
 
 -- ---- its reply
 -- the events that take one: a pause, and those that an entry is offered

@@ -44,7 +44,7 @@ pub data Alike : Call → Call → Type 0 where
       → Alike (message msg out guest) (message msg out′ guest′)
   readies : (vcpu : ℕ) → Alike (ready vcpu) (ready vcpu)
   enters : (vcpu : ℕ) (block block′ : List ℕ) (event : ℕ) (own own′ out out′ : List ℕ) → length block ≡ length block′ → length own ≡ length own′
-      → crNamed own ≡ crNamed own′ → msrNamed own ≡ msrNamed own′ → length out ≡ length out′
+      → (event ≡ 5 → crNamed own ≡ crNamed own′) → (event ≡ 9 → msrNamed own ≡ msrNamed own′) → length out ≡ length out′
       → Alike (enter vcpu block event own out) (enter vcpu block′ event own′ out′)
   writes : (out out′ : List ℕ) → length out ≡ length out′ → Alike (writeImage out) (writeImage out′)
 

@@ -127,8 +127,8 @@ pub enum EventSwitch {
     OfMsr,
 }
 
-// A row of the table of events: how many bytes it has of its own behind the state block, how many data bytes its reply has, and whether
-// that may be a retry and has a value.
+// A row of the table of events: the switch that it asks for, whether its reply may be a retry and has a value, how many bytes it has of its own
+// behind the state block, and how many data bytes its reply has.
 pub struct EventRow {
     pub switch: EventSwitch,
     pub retry: bool,

@@ -200,7 +200,7 @@ pub fn event(out: &mut [u8], seq: u32, vcpu: u32, event: u8, state: &[u8], own: 
     }
 }
 
-// The pause event of a vCPU with a state block.
+// The pause event of a vCPU with a state block: event 2, which has no bytes of its own. Apart from `event`, since the compiler makes more of it so.
 pub fn pause_event(out: &mut [u8], seq: u32, vcpu: u32, state: &[u8]) -> usize
     ensures { λ r. ⌜ Written (now (out .entry)) (now (out .exit)) r (pauseEvent seq vcpu (now (state .entry))) ⌝ }
 {
