@@ -323,9 +323,10 @@ SEMBLURICK_CHECKED static inline enum semblurick_answer semblurick_enter(struct 
     return semblurick_raw_enter(&guest->session, &guest->vcpus, vcpu, block, state_size, 0, block, 0, out.bytes, out.size, result);
 }
 
-/* Since 2. The same for a vCPU that left the guest for what the tool may watch, before the host carries that out: offers it as an
- * event, by its number and by the own bytes that it has behind the register block. They go out as they are lent; `own` may be null
- * where own_size is 0.
+/* Since 2. To be called in place of semblurick_enter, with register block and output as there, for a vCPU that left the guest for
+ * what the tool may watch, before the host carries that out: offers it as an event, by its number and by the own bytes that it has
+ * behind the register block. They go out as they are lent; `own` may be null where own_size is 0. After it has offered, the vCPU asks
+ * again by semblurick_enter.
  *
  *     KVMI_EVENT_..    own bytes                          once the tool continues, the host
  *     3 HYPERCALL      none                               lets the hypercall return
@@ -340,12 +341,14 @@ SEMBLURICK_CHECKED static inline enum semblurick_answer semblurick_enter(struct 
  *
  * An event is on where its switch is: the vCPU's, of CREATE_VCPU the VM's, and of CR and MSR also that of the register which the own
  * bytes name. Exactly then it is written, to be sent to the tool, and the vCPU waits until semblurick_message signals
- * SEMBLURICK_RESUME. It goes on as the table says, or, to retry a BREAKPOINT or a DESCRIPTOR, does nothing of it, and calls
- * semblurick_enter. Where the session closes no signal comes: the vCPU goes on as if the event had been off.
+ * SEMBLURICK_RESUME for it, or SEMBLURICK_CRASH. Resumed with action 0 it does what the table says; with 1 (retry, of BREAKPOINT and
+ * DESCRIPTOR only) it does nothing of it. Either way it then calls semblurick_enter before it runs. While it waits, and then, it does
+ * not offer the same event again: that would be another one. Where the session closes no signal comes, and a closed session answers 2:
+ * the vCPU goes on as if the event had been off.
  *
  * An event that is off is passed over: the host carries out at once what it was about, as if there were no tool. A queued pause goes
- * instead; else result->count is 0. semblurick_awaited tells which event was written, and so does byte 12 of the output (struct
- * kvmi_event).
+ * instead, with the register block that was lent, from before that operation; else result->count is 0. semblurick_awaited tells which
+ * event was written, and so does byte 12 of the output (struct kvmi_event).
  *
  * Number 0 offers nothing and has no own bytes. Any other number, and own bytes of another size, are answered 5, on or off. Answers
  * 2, 4, 5, 3, 6, tested in this order, or 0. */
