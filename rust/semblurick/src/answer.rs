@@ -33,7 +33,7 @@ pub enum Signal {
         /// Which one.
         vcpu: u32,
         /// [`Action::Continue`]: what the event was about is carried out. [`Action::Retry`]: it is not, and the vCPU enters the guest
-        /// again.
+        /// again. Never [`Action::Crash`]: that is [`Signal::Crash`].
         action: Action,
         /// Of a CR or an MSR event, what the register is to hold; else 0.
         value: u64,

@@ -223,16 +223,19 @@ impl Session {
             return Ok(Answer::Closing);
         }
         let count = told.done()?;
+        // the library promises that there is no other signal, and no byte past the output; tested together they cost least
+        assert!(told.values.signal <= 3 && count <= out.len(), "no such signal, or bytes past the output");
         let vcpu = told.values.vcpu as u32;
         let signal = match told.values.signal {
             0 => Signal::None,
             1 => Signal::Kick { vcpu, wait: told.values.wait != 0 },
             2 => Signal::Crash { vcpu },
-            _ => Signal::Resume {
+            3 => Signal::Resume {
                 vcpu,
                 action: if told.values.action == 1 { Action::Retry } else { Action::Continue },
                 value: told.values.value,
             },
+            _ => unreachable!(),
         };
         Ok(Answer::Handled { bytes: &out[..count], signal })
     }
@@ -249,14 +252,19 @@ impl Session {
         self.enter_event(vcpu, state, 0u32, &[], out)
     }
 
-    /// [`enter`](Session::enter) for a vCPU that left the guest for what the tool may watch, before the host carries that out: offers
-    /// it as an event, an [`Event`](crate::Event) or its number, with its [own bytes](crate::own).
+    /// To be called in place of [`enter`](Session::enter) for a vCPU that left the guest for what the tool may watch, before the host
+    /// carries that out: offers it as an event, with its [own bytes](crate::own). The event is an [`Event`](crate::Event) or its
+    /// number; a bare number is written `5u32`. After it has offered, the vCPU asks again by [`enter`](Session::enter).
     ///
     /// The event is written exactly if its switch is on: the vCPU's, of `KVMI_EVENT_CREATE_VCPU` the VM's, and of a CR and an MSR also
-    /// that of the register which the own bytes name. The vCPU then waits until a message's answer signals [`Signal::Resume`]. An
-    /// event that is switched off is passed over: the host carries out at once what it was about, as if there were no tool, and a
-    /// queued pause goes instead. [`Entry::event`] tells which. Where the session closes no signal comes, and a vCPU that waits goes
-    /// on as if its event had been passed over.
+    /// that of the register which the own bytes name. The vCPU then waits until a message's answer signals [`Signal::Resume`] or
+    /// [`Signal::Crash`]; resumed, it calls [`enter`](Session::enter) before it runs, and does not offer the same event again: that
+    /// would be another one. Where the session closes no signal comes, and the answer is [`Refusal::Closed`]: the vCPU goes on as if
+    /// the event had been off.
+    ///
+    /// An event that is off is passed over: the host carries out at once what it was about, as if there were no tool. A queued pause
+    /// goes instead, with the register block that was lent, from before that operation; else there are no bytes. [`Entry::event`]
+    /// tells which event was written.
     ///
     /// ```
     /// use semblurick::{own, Action, Event, Session, Settings, Signal, ENTRY_OUT, MESSAGE_OUT, STATE_BYTES};
@@ -275,7 +283,7 @@ impl Session {
     /// assert!(session.message(&events, &mut out, &mut [])?.error().is_none());
     /// assert!(session.message(&cr3, &mut out, &mut [])?.error().is_none());
     ///
-    /// // again: now the bytes go to the tool, and the vCPU waits
+    /// // the guest writes it once more: now the bytes go to the tool, and the vCPU waits
     /// assert_eq!(session.enter_event(0, &state, Event::Cr, &write, &mut event)?.event(), Some(Event::Cr));
     ///
     /// // KVMI_EVENT_REPLY: continue, to event 5 with seq 0, and 0x3000 is what CR3 is to hold
