@@ -186,7 +186,8 @@ static void kick(uint64_t vcpu, bool wait) { (void)vcpu, (void)wait; }
 
 static const uint8_t state[SEMBLURICK_STATE_BYTES] = {0}; /* a vCPU's registers */
 
-/* The vCPU is about to enter the guest again: a queued pause is told now, and the vCPU waits for the tool's reply. */
+/* The vCPU is about to enter the guest again: a queued pause is told now, and the vCPU waits for the tool's reply. One that waits
+ * already is answered 6. */
 static void enter(uint32_t vcpu) {
     struct semblurick_result r;
     uint32_t answer = semblurick_enter(&here, vcpu, state, sizeof state, semblurick_output_of(out, sizeof out), &r);
@@ -206,6 +207,7 @@ static void write_cr3(uint32_t vcpu, uint64_t value) {
     uint32_t answer = semblurick_enter_event(&here, vcpu, state, sizeof state, KVMI_EVENT_CR, &event, sizeof event,
                                              semblurick_output_of(out, sizeof out), &r);
     printf("vCPU %u writes CR3: answer %u, %llu bytes\n", vcpu, answer, (unsigned long long)r.count);
+    if (answer != SEMBLURICK_HANDLED && answer != SEMBLURICK_CLOSED) fail("write to CR3", answer);
     send_to_tool(r.count);
     written[vcpu] = value;
     if (semblurick_awaited(&here, vcpu) != KVMI_EVENT_CR) set_cr3(vcpu, value); /* what was sent, if anything, is a pause */
@@ -233,9 +235,24 @@ static void take(size_t size) {
     /* the reply says that it is done, and so it is: it goes out last, after the vCPU if the tool waits for that */
     if (r.signal == SEMBLURICK_KICK) kick(r.vcpu, r.wait != 0);
     send_to_tool(r.count);
-    if (r.signal == SEMBLURICK_RESUME) set_cr3((uint32_t)r.vcpu, r.value); /* this host asks about nothing else */
-    if (r.signal == SEMBLURICK_KICK || r.signal == SEMBLURICK_RESUME) enter((uint32_t)r.vcpu);
-    if (r.signal == SEMBLURICK_CRASH) printf("vCPU %llu is to be crashed\n", (unsigned long long)r.vcpu);
+    switch (r.signal) {
+    case SEMBLURICK_NONE: { /* a vCPU goes on from a pause; another may be queued */
+        struct { struct kvmi_msg_hdr header; struct kvmi_vcpu_hdr of; } reply;
+        if (get(&reply, sizeof reply, msg, size) && reply.header.id == KVMI_EVENT_REPLY) enter(reply.of.vcpu);
+        break;
+    }
+    case SEMBLURICK_KICK:
+        enter((uint32_t)r.vcpu);
+        break;
+    case SEMBLURICK_CRASH:
+        printf("vCPU %llu is to be crashed\n", (unsigned long long)r.vcpu);
+        written[r.vcpu] = cr3[r.vcpu]; /* the write that waited is dropped */
+        break;
+    case SEMBLURICK_RESUME:
+        set_cr3((uint32_t)r.vcpu, r.value); /* this host asks about nothing else */
+        enter((uint32_t)r.vcpu);
+        break;
+    }
 }
 
 int main(int argc, char **argv) {

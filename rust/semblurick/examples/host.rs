@@ -145,6 +145,12 @@ fn next(stream: &[u8]) -> usize {
     size.min(stream.len())
 }
 
+/// The vCPU that a reply to an event names. None where it is another message.
+fn replied(message: &[u8]) -> Option<u32> {
+    let id = number(message, 0, 2)? as u16;
+    (id == Command::EventReply.number()).then_some(number(message, 8, 2)? as u32)
+}
+
 fn send_to_tool(_bytes: &[u8]) {}
 
 /// The vCPU leaves the guest. With `wait` this returns when it is out.
@@ -203,12 +209,23 @@ impl Host {
                 self.set_cr3(vcpu, value);
                 self.enter(vcpu);
             }
-            Signal::Crash { vcpu } => println!("vCPU {vcpu} is to be crashed"),
+            Signal::Crash { vcpu } => {
+                println!("vCPU {vcpu} is to be crashed");
+                // the write that waited is dropped
+                self.written[vcpu as usize] = self.cr3[vcpu as usize];
+            }
+            Signal::None => {
+                // a vCPU goes on from a pause; another may be queued
+                if let Some(vcpu) = replied(message) {
+                    self.enter(vcpu);
+                }
+            }
             _ => {}
         }
     }
 
-    /// The vCPU is about to enter the guest again: a queued pause is told now, and the vCPU waits for the tool's reply.
+    /// The vCPU is about to enter the guest again: a queued pause is told now, and the vCPU waits for the tool's reply. One that waits
+    /// already is answered 6.
     fn enter(&mut self, vcpu: u32) {
         let mut out = [0; ENTRY_OUT];
         send_event(&format!("vCPU {vcpu} enters"), self.session.enter(vcpu, &STATE, &mut out));
@@ -220,27 +237,29 @@ impl Host {
     }
 
     /// The guest writes CR3. Where the tool watches it, it is asked first, and the vCPU waits; else the write is carried out.
-    fn write_cr3(&mut self, vcpu: u32, value: u64) {
+    fn write_cr3(&mut self, vcpu: u32, value: u64) -> Result<(), Refusal> {
         let mut out = [0; ENTRY_OUT];
         let event = own::Cr { cr: 3, old_value: self.cr3[vcpu as usize], new_value: value };
         let entry = self.session.enter_event(vcpu, &STATE, Event::Cr, &event.bytes(), &mut out);
         send_event(&format!("vCPU {vcpu} writes CR3"), entry);
-        self.written[vcpu as usize] = value;
-        if self.session.awaited(vcpu) != Some(Event::Cr) {
+        match entry {
+            Ok(entry) if entry.event() == Some(Event::Cr) => self.written[vcpu as usize] = value,
             // what was sent, if anything, is a pause
-            self.set_cr3(vcpu, value);
+            Ok(_) | Err(Refusal::Closed) => self.set_cr3(vcpu, value),
+            Err(refusal) => return Err(refusal),
         }
+        Ok(())
     }
 
     /// What the guest does meanwhile: after two of the messages vCPU 0 writes CR3, unless it waits.
-    fn run_guest(&mut self, message: &[u8]) {
+    fn run_guest(&mut self, message: &[u8]) -> Result<(), Refusal> {
         if message.len() < HEADER_BYTES || self.session.awaited(0).is_some() {
-            return;
+            return Ok(());
         }
         match Command::from_number(u16::from_le_bytes([message[0], message[1]])) {
             Some(Command::GetVersion) => self.write_cr3(0, 0x1000),
             Some(Command::VcpuControlCr) => self.write_cr3(0, 0x2000),
-            _ => {}
+            _ => Ok(()),
         }
     }
 }
@@ -266,7 +285,7 @@ fn run(stream: &[u8]) -> Result<bool, Refusal> {
     while !rest.is_empty() {
         let (message, after) = rest.split_at(next(rest));
         host.take(message, &mut guest);
-        host.run_guest(message);
+        host.run_guest(message)?;
         rest = after;
     }
     let mut image = vec![0; host.session.image_size()];
