@@ -223,19 +223,17 @@ impl Session {
             return Ok(Answer::Closing);
         }
         let count = told.done()?;
-        // the library promises that there is no other signal, and no byte past the output; tested together they cost least
-        assert!(told.values.signal <= 3 && count <= out.len(), "no such signal, or bytes past the output");
         let vcpu = told.values.vcpu as u32;
         let signal = match told.values.signal {
             0 => Signal::None,
             1 => Signal::Kick { vcpu, wait: told.values.wait != 0 },
             2 => Signal::Crash { vcpu },
-            3 => Signal::Resume {
-                vcpu,
-                action: if told.values.action == 1 { Action::Retry } else { Action::Continue },
-                value: told.values.value,
-            },
-            _ => unreachable!(),
+            // the library promises that there is no other
+            number => {
+                debug_assert_eq!(number, 3, "a signal's number");
+                let action = if told.values.action == 1 { Action::Retry } else { Action::Continue };
+                Signal::Resume { vcpu, action, value: told.values.value }
+            }
         };
         Ok(Answer::Handled { bytes: &out[..count], signal })
     }
