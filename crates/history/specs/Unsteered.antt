@@ -38,7 +38,7 @@ ownBytes (writeImage out) r = written r
 -- ---- two runs
 -- calls that agree but for what the guest has a part in: the bytes of guest memory, a vCPU's registers, an offered event's own bytes, and what stands
 -- in the output before the call, where an earlier read may have left the guest's bytes; all lengths agree, and so do the number of an offered event and
--- the register that its bytes name, by which its switches are found
+-- the register that the bytes of CR (5) and MSR (9) name, by which its switches are found
 pub data Alike : Call → Call → Type 0 where
   messages : (msg out out′ guest guest′ : List ℕ) → length out ≡ length out′ → length guest ≡ length guest′
       → Alike (message msg out guest) (message msg out′ guest′)
