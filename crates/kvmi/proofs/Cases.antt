@@ -6,12 +6,12 @@ use Rattle.wire.specs.Header.{isWhole, headerOf}
 use Rattle.wire.specs.Code.{twos, codeBytes}
 use Rattle.kvmi.specs.Bits.{bitOf, isOn, putBit, bitsHave}
 use Rattle.kvmi.specs.Row.{writeRow, readRow}
-use Rattle.kvmi.specs.Settings.{inRange, isSet, allowsCommand, allowsEvent, canSinglestep, uncatchable, heldByHost}
+use Rattle.kvmi.specs.Settings.{inRange, isSet, allowsCommand, allowsEvent, canSinglestep, uncatchable, heldByHost, hasExecuteOnly}
 use Rattle.kvmi.specs.Tables.{isCr, crBit, isMsr, vmEventOn, eventOn, crOn, msrIn, msrOn, accessIn, access}
 use Rattle.kvmi.specs.Model.{nextSeq}
 use Rattle.kvmi.specs.Message.{layoutOf, sizeFits, namesVcpu, vcpuOf, enableAt, enables, switchesAt, eventOf, registerOf, gpaOf, sizeOf, countOf, countFits, viewOf, entryOf, entriesOf, entryPadding, padding, firstNonZero, firstOfRuns, firstPadding, isVmEvent, isVcpuEvent, takesEvent}
 use Rattle.kvmi.specs.Event.{eventRowOf, offerFits, asksFor, isAskedFor}
-use Rattle.kvmi.specs.Verdict.{isAccess, inOnePage, isInvalid, isUnready, isDenied, isUnsupported, isBusy, pageExists, isAbsent, changeOf, losesErrors, commandVerdict, isAwaited, replyFits, eventReplyVerdict, verdict}
+use Rattle.kvmi.specs.Verdict.{isAccess, takesAccess, inOnePage, isInvalid, isUnready, isDenied, isUnsupported, isBusy, pageExists, isAbsent, changeOf, losesErrors, commandVerdict, isAwaited, replyFits, eventReplyVerdict, verdict}
 use Rattle.kvmi.specs.Change.{isSkipped, setPage, takeEntry, takeEntries, setMsr, apply}
 use Rattle.kvmi.specs.Reply.{messageBytes, replyBytes, replyData, eventBytes, pauseEvent, commandErrorEvent, answerBytes, answerSeq, answerOf}
 use Rattle.kvmi.specs.Record.{kindAt}
@@ -23,6 +23,7 @@ use Rattle.kvmi.proofs.MessageEdges.{ofMessages, paddings, paddingsSeen
 use Rattle.kvmi.proofs.SessionEdges.{ofSessions, lookups, lookupsSeen, accesses, accessesSeen, skips, skipsSeen}
 use Rattle.kvmi.proofs.EventEdges.{ofEvents}
 use Rattle.kvmi.proofs.ImageEdges.{ofImages, pageLimitLoads, pageLimitSeen}
+use Rattle.kvmi.proofs.ExecuteOnlyEdges.{ofExecuteOnly, limitsLoad, limitsSeen}
 
 abbrev Right : List Case → Type 0
 Right cs = map seen cs ≡ map (λ (c : Case). c .expected) cs
@@ -30,9 +31,9 @@ Right cs = map seen cs ≡ map (λ (c : Case). c .expected) cs
 abbrev As-expected : List Edge → Type 0
 As-expected es = map outcome es ≡ map (λ (e : Edge). e .expected) es
 
-computed : Right cases × As-expected ofMessages × As-expected ofSessions × As-expected ofEvents × As-expected ofImages
-unfolding le num load store isWhole headerOf twos codeBytes bitOf isOn putBit bitsHave writeRow readRow inRange isSet allowsCommand allowsEvent canSinglestep uncatchable heldByHost isCr crBit isMsr nextSeq layoutOf sizeFits namesVcpu vcpuOf enableAt enables switchesAt eventOf registerOf gpaOf sizeOf countOf countFits viewOf entryOf entriesOf entryPadding padding firstNonZero firstOfRuns firstPadding isVmEvent isVcpuEvent takesEvent vmEventOn eventOn crOn msrIn msrOn eventRowOf offerFits asksFor isAskedFor isAccess inOnePage isInvalid isUnready isDenied isUnsupported isBusy pageExists isAbsent changeOf losesErrors commandVerdict isAwaited replyFits eventReplyVerdict verdict isSkipped setPage takeEntry takeEntries setMsr apply messageBytes replyBytes replyData eventBytes pauseEvent commandErrorEvent answerBytes answerSeq answerOf kindAt image vmForm isIdle vcForm msForm paForm vmMay mayEnable vcMay paMay loadImage beginFresh beginFrom answering judged headed messageStep readyStep sending pausing dequeuing entering enterStep imageStep step seen outcome
-computed = (refl, refl, refl, refl, refl)
+computed : Right cases × As-expected ofMessages × As-expected ofSessions × As-expected ofEvents × As-expected ofImages × As-expected ofExecuteOnly
+unfolding le num load store isWhole headerOf twos codeBytes bitOf isOn putBit bitsHave writeRow readRow inRange isSet allowsCommand allowsEvent canSinglestep uncatchable heldByHost hasExecuteOnly isCr crBit isMsr nextSeq layoutOf sizeFits namesVcpu vcpuOf enableAt enables switchesAt eventOf registerOf gpaOf sizeOf countOf countFits viewOf entryOf entriesOf entryPadding padding firstNonZero firstOfRuns firstPadding isVmEvent isVcpuEvent takesEvent vmEventOn eventOn crOn msrIn msrOn eventRowOf offerFits asksFor isAskedFor isAccess takesAccess inOnePage isInvalid isUnready isDenied isUnsupported isBusy pageExists isAbsent changeOf losesErrors commandVerdict isAwaited replyFits eventReplyVerdict verdict isSkipped setPage takeEntry takeEntries setMsr apply messageBytes replyBytes replyData eventBytes pauseEvent commandErrorEvent answerBytes answerSeq answerOf kindAt image vmForm isIdle vcForm msForm paForm vmMay mayEnable vcMay paMay loadImage beginFresh beginFrom answering judged headed messageStep readyStep sending pausing dequeuing entering enterStep imageStep step seen outcome
+computed = (refl, refl, refl, refl, refl, refl)
 
 pub cases-right : Right cases
 cases-right = computed .0
@@ -49,14 +50,21 @@ of-events-right = computed .3
 pub of-images-right : As-expected ofImages
 of-images-right = computed .4
 
+pub of-execute-only-right : As-expected ofExecuteOnly
+of-execute-only-right = computed .5
+
 -- the skip rule
 pub skips-right : skips ≡ skipsSeen
 unfolding isSkipped setPage takeEntry takeEntries
 skips-right = refl
 
 pub pageLimitLoads-right : pageLimitLoads ≡ pageLimitSeen
-unfolding paForm paMay
+unfolding paForm paMay isAccess takesAccess isSet hasExecuteOnly
 pageLimitLoads-right = refl
+
+pub limitsLoad-right : limitsLoad ≡ limitsSeen
+unfolding paForm paMay isAccess takesAccess isSet hasExecuteOnly
+limitsLoad-right = refl
 
 pub paddings-right : paddings ≡ paddingsSeen
 unfolding le num load countOf countFits entryPadding padding firstNonZero firstOfRuns firstPadding

@@ -1,6 +1,6 @@
 -- Edges that a wrong reading would get wrong. An edge is a row as in `Case`, seen whole: its last call's answer, all of its output and guest memory,
 -- the image of the tables after it, and what stands beside them. Here are rows and what they are made of; the rows themselves are in
--- `MessageEdges`, `SessionEdges`, `EventEdges` and `ImageEdges`.
+-- `MessageEdges`, `SessionEdges`, `EventEdges`, `ImageEdges` and `ExecuteOnlyEdges`.
 use Prim.Native.Nat.{ℕ, _-_, _^_}
 use mathlib.Core.List.{List, [], _∷_, _++_}
 use mathlib.Core.Bool.{Bool, true, false}
@@ -59,12 +59,20 @@ outcome e = outcomeAt (endOf (e .settings) (e .start) (e .calls))
 -- those of `two` but for the counts, the commands and events allowed, and singlestep, descriptors and breakpoints
 abbrev pub given : ℕ → ℕ → ℕ → ℕ → ℕ → ℕ → ℕ → Settings
 given n views commands events step desc bp =
-    record { vcpus = n; views = views; commands = commands; events = events; tsc = two .tsc; singlestep = step; vmfunc = two .vmfunc; eptp = two .eptp; ve = two .ve; spp = two .spp; descriptors = desc; breakpoints = bp }
+    record { vcpus = n; views = views; commands = commands; events = events; tsc = two .tsc; singlestep = step; vmfunc = two .vmfunc; eptp = two .eptp; ve = two .ve; spp = two .spp; descriptors = desc; breakpoints = bp; «execute_only» = two .«execute_only» }
 
 -- with another TSC speed and other features beside singlestep: VMFUNC, EPTP, VE, SPP
 abbrev pub featuring : ℕ → ℕ → ℕ → ℕ → ℕ → Settings → Settings
 featuring tsc vmfunc eptp ve spp s =
-    record { vcpus = s .vcpus; views = s .views; commands = s .commands; events = s .events; tsc = tsc; singlestep = s .singlestep; vmfunc = vmfunc; eptp = eptp; ve = ve; spp = spp; descriptors = s .descriptors; breakpoints = s .breakpoints }
+    record { vcpus = s .vcpus; views = s .views; commands = s .commands; events = s .events; tsc = tsc; singlestep = s .singlestep; vmfunc = vmfunc; eptp = eptp; ve = ve; spp = spp; descriptors = s .descriptors; breakpoints = s .breakpoints; «execute_only» = s .«execute_only» }
+
+-- with another execute-only flag, and without it
+abbrev pub executing : ℕ → Settings → Settings
+executing flag s =
+    record { vcpus = s .vcpus; views = s .views; commands = s .commands; events = s .events; tsc = s .tsc; singlestep = s .singlestep; vmfunc = s .vmfunc; eptp = s .eptp; ve = s .ve; spp = s .spp; descriptors = s .descriptors; breakpoints = s .breakpoints; «execute_only» = flag }
+
+abbrev pub lacking : Settings → Settings
+lacking s = executing 0 s
 
 -- the bit set of every command or event
 abbrev pub everything : ℕ
@@ -87,13 +95,14 @@ equipped step desc bp = given 2 1 everything everything step desc bp
 abbrev pub without : ℕ → Settings
 without event = eventful (everything - 2 ^ event)
 
--- two vCPUs, one view, every command allowed, of the events 2, 9 and 13 alone, no feature, descriptor events not catchable, breakpoints taken
+-- two vCPUs, one view, every command allowed, of the events 2, 9 and 13 alone, no feature, descriptor events not catchable, breakpoints taken,
+-- no execute-only pages
 abbrev pub few : Settings
-few = featuring 0 0 0 0 0 (given 2 1 everything 0x2204 0 0 1)
+few = lacking (featuring 0 0 0 0 0 (given 2 1 everything 0x2204 0 0 1))
 
 -- three vCPUs, and numbers of which no two bytes are alike
 abbrev pub odd : Settings
-odd = featuring 0x1122334455667788 0xF2 0xF3 0xF4 0xF5 (given 3 8 everything everything 0xF1 0xF6 0xF7)
+odd = executing 0xF8 (featuring 0x1122334455667788 0xF2 0xF3 0xF4 0xF5 (given 3 8 everything everything 0xF1 0xF6 0xF7))
 
 -- ---- what is lent, data, and calls
 abbrev pub lent : ℕ → List ℕ

@@ -6,3 +6,4 @@ mod MessageEdges
 mod SessionEdges
 mod EventEdges
 mod ImageEdges
+mod ExecuteOnlyEdges

@@ -1,6 +1,6 @@
 -- Document 01's cases P1 to P12. A case is a row: settings, how the session begins, calls, and what the last of them gives (the beginning, where
 -- there are none): answer, bytes written, and the image of the tables after it. Further rows, seen whole, are in proofs/ (`MessageEdges`,
--- `SessionEdges`, `ImageEdges`).
+-- `SessionEdges`, `ImageEdges`, `EventEdges`, `ExecuteOnlyEdges`).
 use Prim.Native.Nat.{ℕ}
 use mathlib.Core.List.{List, [], _∷_, _++_}
 use mathlib.Core.Bool.{true}
@@ -62,7 +62,7 @@ unfoldable pub seen : Case → Seen
 seen c = seenAt (endOf (c .settings) (c .start) (c .calls))
 
 -- ---- settings
--- two vCPUs, one view, all allowed, all five features, descriptor events catchable, breakpoints free
+-- two vCPUs, one view, all allowed, all five features, descriptor events catchable, breakpoints free, execute-only pages
 abbrev pub two : Settings
 two =
     record {
@@ -78,6 +78,7 @@ two =
       spp = 1;
       descriptors = 1;
       breakpoints = 0;
+      «execute_only» = 1;
     }
 
 -- ---- what is lent, and calls

@@ -12,6 +12,7 @@ use Rattle.kvmi.specs.Row.{Row}
 use Rattle.kvmi.specs.Record.{Kind, VM, VC, MS, PA, EN, widths, size, vmVersion, vmCount, vmEvents, vcVcpu, vcFlags, vcCrs, vcEvents, vcPauses, vcZero, msVcpu, msMsr, paView, paAccess, paZero, paPage, enCount, Rec, whole, cut, orderOf, writeAll, parse}
 use Rattle.kvmi.specs.Tables.{Vcpu, Msr, Page, Tables, resting, emptyTables, isMsr, withVmEvents, withVcpus, withMsrs, withPages}
 use Rattle.kvmi.specs.Message.{isVmEvent, isVcpuEvent}
+use Rattle.kvmi.specs.Verdict.{takesAccess}
 
 -- ---- tables as records
 abbrev pub vmRecord : ℕ → ℕ → Rec
@@ -135,9 +136,9 @@ mayEnable s event = allowsEvent s event && not (heldByHost s event) && not (unca
 unfoldable pub vcMay : Settings → Vcpu → Bool
 vcMay s v = bitsHave (mayEnable s) 0 16 (v .events) && (eqb (v .pauses) 0 || allowsEvent s 2) && (not (v .singlestep) || canSinglestep s)
 
--- "view not below theirs"
+-- "view not below theirs"; W2: "access 4 without the flag is [..] answer 9 in a PA record". (What is no access at all has failed by form.)
 unfoldable pub paMay : Settings → Page → Bool
-paMay s p = ltb (p .view) (s .views)
+paMay s p = ltb (p .view) (s .views) && takesAccess s (p .access)
 
 -- the permission of a record behind VM, whose own is above; MS and EN ask nothing of the settings
 abbrev pub mayOf : (k : Kind) → Settings → Row (widths k) → Bool

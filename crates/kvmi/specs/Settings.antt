@@ -33,3 +33,7 @@ uncatchable s event = eqb event 8 && not (isSet (s .descriptors))
 -- "enabling event 4 while the host has it"
 unfoldable pub heldByHost : Settings → ℕ → Bool
 heldByHost s event = eqb event 4 && isSet (s .breakpoints)
+
+-- W2: "access 4 is a processor capability [..] It becomes a settings flag"
+unfoldable pub hasExecuteOnly : Settings → Bool
+hasExecuteOnly s = isSet (s .«execute_only»)

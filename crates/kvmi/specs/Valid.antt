@@ -26,7 +26,7 @@ pub record Valid (s : Settings) (t : Tables) : Type 0 where
   -- MSR switches of ready vCPUs, ascending
   pub mss : So (every (msForm (t .vcpus)) (t .msrs))
   pub msUp : So (rising msrKey 0 (t .msrs))
-  -- pages below rwx, ascending, at most 1,024
+  -- pages below rwx that the settings permit (without execute-only pages none at access 4), ascending, at most 1,024
   pub pas : So (every (paGood s) (t .pages))
   pub paUp : So (rising pageKey 0 (t .pages))
   pub paFew : length (t .pages) ≤ pageLimit

@@ -17,7 +17,7 @@ use Rattle.kvmi.specs.declared.Verdict.the-variants.{Closes, Fails, Does
 use Rattle.kvmi.specs.Limits.{pauseLimit}
 use Rattle.kvmi.specs.Bits.{among, every}
 use Rattle.kvmi.specs.Codes.{EPERM, ENOENT, EAGAIN, EBUSY, EINVAL, EOPNOTSUPP, ENOSYS}
-use Rattle.kvmi.specs.Settings.{allowsCommand, allowsEvent, canSinglestep, uncatchable, heldByHost}
+use Rattle.kvmi.specs.Settings.{allowsCommand, allowsEvent, canSinglestep, uncatchable, heldByHost, hasExecuteOnly}
 use Rattle.kvmi.specs.Tables.{isCr, isMsr, vcpuAt}
 use Rattle.kvmi.specs.Model.{Awaited, Model, awaitedBy}
 use Rattle.kvmi.specs.declared.EventRow.{EventRow}
@@ -56,6 +56,11 @@ repliesOn ErrorsOnly = false
 unfoldable pub isAccess : ℕ → Bool
 isAccess a = among a (0 ∷ 1 ∷ 3 ∷ 4 ∷ 5 ∷ 7 ∷ [])
 
+-- W2: "access 4 without the flag is -22 in message 13 and answer 9 in a PA record". Whether a page can have an access under settings; `isInvalid` and
+-- `paMay` ask it
+unfoldable pub takesAccess : Settings → ℕ → Bool
+takesAccess s a = isAccess a && (not (eqb a 4) || hasExecuteOnly s)
+
 -- "physical size 0, or (gpa mod 4096) + size above 4096"
 unfoldable pub inOnePage : ℕ → ℕ → Bool
 inOnePage gpa size = leb 1 size && leb (gpa % 4096 + size) 4096
@@ -72,7 +77,7 @@ isInvalid s id d =
     || eqb id 11 && not (isCr (registerOf d))
     || eqb id 12 && not (isMsr (registerOf d))
     || eqb id 13 && leb (s .views) (viewOf d)
-    || eqb id 13 && not (countFits d && every (λ (e : Entry). isAccess (e .access)) (entriesOf (countOf d) (drop 8 d)))
+    || eqb id 13 && not (countFits d && every (λ (e : Entry). takesAccess s (e .access)) (entriesOf (countOf d) (drop 8 d)))
     || among id (6 ∷ 7 ∷ []) && not (inOnePage (gpaOf d) (sizeOf d))
 
 -- -11 EAGAIN

@@ -25,6 +25,8 @@ pub struct Settings {
     // Whether descriptor events can be caught, and whether the host has taken breakpoints for itself.
     pub descriptors: u8,
     pub breakpoints: u8,
+    // Whether the processor has execute-only pages, access 4.
+    pub execute_only: u8,
 }
 
 // Whether commands are replied to. With ErrorsOnly they are not, and one that fails is told by a CMD_ERROR event.
