@@ -13,3 +13,4 @@ pub mod Closed
 pub mod Lookups
 pub mod Pauses
 pub mod Events
+pub mod ExecuteOnly

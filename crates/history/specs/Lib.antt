@@ -7,3 +7,4 @@ pub mod Exported
 pub mod Carried
 pub mod Pauses
 pub mod Events
+pub mod ExecuteOnly

@@ -27,7 +27,7 @@ use Rattle.kvmi.specs.Model.{Model, fresh, begun, onVcpu, awaitedBy, isSome}
 use Rattle.kvmi.specs.Message.{namesVcpu, vcpuOf, enables, eventOf, registerOf, countOf, countFits, viewOf, Entry, entryOf, entriesOf, isVmEvent, isVcpuEvent, takesEvent}
 use Rattle.kvmi.specs.declared.Facts.{Facts}
 use Rattle.kvmi.specs.Event.{offerFits, isAskedFor}
-use Rattle.kvmi.specs.Verdict.{factsOf, isAccess, isInvalid, isUnready, isDenied, isUnsupported, isBusy, changeOf, modeOf, verdict}
+use Rattle.kvmi.specs.Verdict.{factsOf, isAccess, takesAccess, isInvalid, isUnready, isDenied, isUnsupported, isBusy, changeOf, modeOf, verdict}
 use Rattle.kvmi.specs.Limits.{pageLimit}
 use Rattle.kvmi.specs.Change.{Run, pageOf, isSkipped, setPage, takeEntry, takeEntries, setMsr, Applied, apply}
 use Rattle.kvmi.specs.Image.{vmForm, msForm, paForm, vmMay, mayEnable, paMay, image, Loaded, loaded, loadImage}
@@ -47,21 +47,28 @@ record Pages (s : Settings) (ps : List Page) : Type 0 where
   up : So (rising pageKey 0 ps)
   few : length ps ≤ pageLimit
 
--- an entry that message 13 takes
-abbrev entryGood : Entry → Bool
-entryGood e = isAccess (e .access) && ltb (e .page) (2 ^ 52)
+-- an access that is taken under settings is one that a page can have
+pub takes-access : (s : Settings) (a : ℕ) → So (takesAccess s a) → So (isAccess a)
+unfolding takesAccess
+takes-access s a h = and-l (isAccess a) _ h
 
-access-below : (a : ℕ) → So (isAccess a) → (eqb a 7 ≡ false) → So (among a (0 ∷ 1 ∷ 3 ∷ 4 ∷ 5 ∷ []))
+-- an entry that message 13 takes
+abbrev entryGood : Settings → Entry → Bool
+entryGood s e = takesAccess s (e .access) && ltb (e .page) (2 ^ 52)
+
+-- and below rwx it is one that an image can state
+pub access-below : (a : ℕ) → So (isAccess a) → (eqb a 7 ≡ false) → So (among a (0 ∷ 1 ∷ 3 ∷ 4 ∷ 5 ∷ []))
 unfolding isAccess
 access-below a h n = rw n at h
 
-page-good : (s : Settings) (view : ℕ) (e : Entry) → So (inRange s) → view < s .views → So (entryGood e) → eqb (e .access) 7 ≡ false → So (paGood s (pageOf view e))
+page-good : (s : Settings) (view : ℕ) (e : Entry) → So (inRange s) → view < s .views → So (entryGood s e) → eqb (e .access) 7 ≡ false → So (paGood s (pageOf view e))
 unfolding inRange paForm paMay
 page-good s view e ok v h n =
     let eight : s .views ≤ 8 = leb-true (s .views) 8 (search (and-l, and-r)) in
+    let taken = and-l (takesAccess s (e .access)) (ltb (e .page) (2 ^ 52)) h in
     and-i (paForm (pageOf view e)) (paMay s (pageOf view e))
-    (and-i _ _ (and-i _ _ (le-leb view 7 (omega arith)) (access-below (e .access) (and-l (isAccess (e .access)) (ltb (e .page) (2 ^ 52)) h) n)) (and-r (isAccess (e .access)) (ltb (e .page) (2 ^ 52)) h))
-    (lt-ltb view (s .views) v)
+    (and-i _ _ (and-i _ _ (le-leb view 7 (omega arith)) (access-below (e .access) (takes-access s (e .access) taken) n)) (and-r (takesAccess s (e .access)) (ltb (e .page) (2 ^ 52)) h))
+    (and-i _ _ (lt-ltb view (s .views) v) taken)
 
 -- a page that is put finds room, or takes the place of its own record
 room : (p : Page) (ps : List Page) → isSkipped pageLimit p ps ≡ false → eqb (p .access) 7 ≡ false → length ps ≤ pageLimit → length (put pageKey p ps) ≤ pageLimit
@@ -72,7 +79,7 @@ room p ps h n few =
     let less = leb-false pageLimit (length ps) full in
     rw (length-put-new pageKey p ps e) (omega arith))
 
-entry-pages : (s : Settings) (view : ℕ) (e : Entry) (r : Run) → So (inRange s) → view < s .views → So (entryGood e) → Pages s (r .pages) → Pages s (takeEntry pageLimit view e r .pages)
+entry-pages : (s : Settings) (view : ℕ) (e : Entry) (r : Run) → So (inRange s) → view < s .views → So (entryGood s e) → Pages s (r .pages) → Pages s (takeEntry pageLimit view e r .pages)
 unfolding takeEntry setPage
 entry-pages s view e r ok v h a =
     pick (λ (x : Run). Pages s (x .pages)) (isSkipped pageLimit (pageOf view e) (r .pages)) _ _ (λ _. a)
@@ -88,12 +95,12 @@ entry-pages s view e r ok v h a =
       few = room (pageOf view e) (r .pages) stays n (a .few);
     }))
 
-entries-pages : (s : Settings) (view : ℕ) (es : List Entry) (r : Run) → So (inRange s) → view < s .views → So (every entryGood es) → Pages s (r .pages)
+entries-pages : (s : Settings) (view : ℕ) (es : List Entry) (r : Run) → So (inRange s) → view < s .views → So (every (entryGood s) es) → Pages s (r .pages)
     → Pages s (takeEntries pageLimit view es r .pages)
 unfolding takeEntries
 entries-pages s view [] r ok v h a = a
 entries-pages s view (e ∷ es) r ok v h a =
-    entries-pages s view es (takeEntry pageLimit view e r) ok v (every-tail entryGood e es h) (entry-pages s view e r ok v (every-head entryGood e es h) a)
+    entries-pages s view es (takeEntry pageLimit view e r) ok v (every-tail (entryGood s) e es h) (entry-pages s view e r ok v (every-head (entryGood s) e es h) a)
 
 -- page numbers are those of 64-bit addresses
 pub entries-small : (n : ℕ) (l : List ℕ) → So (every (λ (e : Entry). ltb (e .page) (2 ^ 52)) (entriesOf n l))
@@ -135,11 +142,11 @@ module _ (s : Settings) (ok : So (inRange s)) (m : Model) (a : Valid s (m .table
       (λ _. valid-msrs s (m .tables) a _ (every-put msrKey (msForm (m .tables .vcpus)) own (m .tables .msrs) form (a .mss)) (rising-put msrKey 0 own (m .tables .msrs) zero-le (a .msUp)))
       (λ _. valid-msrs s (m .tables) a _ (every-forget msrKey (msForm (m .tables .vcpus)) (msrKey own) (m .tables .msrs) (a .mss)) (rising-forget msrKey 0 (msrKey own) (m .tables .msrs) (a .msUp)))
 
-  pages-fine : (view count : ℕ) → view < s .views → So (every (λ (e : Entry). isAccess (e .access)) (entriesOf count (drop 8 d))) → Fine (SetPages view count)
+  pages-fine : (view count : ℕ) → view < s .views → So (every (λ (e : Entry). takesAccess s (e .access)) (entriesOf count (drop 8 d))) → Fine (SetPages view count)
   unfolding apply
   pages-fine view count v h =
       let es = entriesOf count (drop 8 d) in
-      let p = entries-pages s view es (record { pages = m .tables .pages; skipped = false }) ok v (every-and (λ (e : Entry). isAccess (e .access)) (λ (e : Entry). ltb (e .page) (2 ^ 52)) es h (entries-small count (drop 8 d)))
+      let p = entries-pages s view es (record { pages = m .tables .pages; skipped = false }) ok v (every-and (λ (e : Entry). takesAccess s (e .access)) (λ (e : Entry). ltb (e .page) (2 ^ 52)) es h (entries-small count (drop 8 d)))
       (record { good = a .pas; up = a .paUp; few = a .paFew }) in
       valid-pages s (m .tables) a _ (p .good) (p .up) (p .few)
 

@@ -22,7 +22,7 @@ use Rattle.kvmi.specs.Tables.{isCr, isMsr}
 use Rattle.kvmi.specs.Message.{layoutOf, sizeFits, carriesData, namesVcpu, vcpuOf, switchesAt, actionOf, repliedEvent, eventOf, registerOf, gpaOf, sizeOf, countOf, countFits, viewOf, Entry, entriesOf, firstPadding, takesEvent}
 use Rattle.kvmi.specs.declared.Facts.{Facts}
 use Rattle.kvmi.specs.Event.{eventRowOf, newValue}
-use Rattle.kvmi.specs.Verdict.{repliesOn, isAccess, inOnePage, isInvalid, isUnready, isDenied, isUnsupported, isBusy, isAbsent, changeOf, losesErrors, commandVerdict, isAwaited, replyFits, eventReplyVerdict, refuse, verdict}
+use Rattle.kvmi.specs.Verdict.{repliesOn, takesAccess, inOnePage, isInvalid, isUnready, isDenied, isUnsupported, isBusy, isAbsent, changeOf, losesErrors, commandVerdict, isAwaited, replyFits, eventReplyVerdict, refuse, verdict}
 use Rattle.laws.proofs.Bool.{and-l, and-r}
 
 pub or-false-l : (a b : Bool) → (a || b) ≡ false → a ≡ false
@@ -130,7 +130,7 @@ pub record Sound (s : Settings) (id : ℕ) (d : List ℕ) : Type 0 where
   pub cr : (eqb id 11 && not (isCr (registerOf d))) ≡ false
   pub msr : (eqb id 12 && not (isMsr (registerOf d))) ≡ false
   pub view : (eqb id 13 && leb (s .views) (viewOf d)) ≡ false
-  pub entries : (eqb id 13 && not (countFits d && every (λ (e : Entry). isAccess (e .access)) (entriesOf (countOf d) (drop 8 d)))) ≡ false
+  pub entries : (eqb id 13 && not (countFits d && every (λ (e : Entry). takesAccess s (e .access)) (entriesOf (countOf d) (drop 8 d)))) ≡ false
   pub range : (among id (6 ∷ 7 ∷ []) && not (inOnePage (gpaOf d) (sizeOf d))) ≡ false
 
 pub sound-of : (s : Settings) (id : ℕ) (d : List ℕ) → isInvalid s id d ≡ false → Sound s id d

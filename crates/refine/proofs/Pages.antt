@@ -21,6 +21,7 @@ use Rattle.page_words.specs.PageWords.{wordKey, keyOf, bisect, placeOf, standsA
 use Rattle.page_words.specs.Meaning.{pageOfWord, pagesOf, goodWord, PagesGood}
 use Rattle.laws.proofs.Bool.{and-l, and-r, and-i, test, every-head, every-tail, small-among}
 use Rattle.laws.proofs.Ascending.{has-past, Side, below, level, over, side, put-cases, forget-cases, has-cases, rising-low, rising-rest, rising-put, rising-forget, every-put, every-forget, forget-none}
+use Rattle.laws.proofs.Steps.{access-below}
 
 -- ---- bisection
 module _ {A : Type 0} (key : A → ℕ) (d : A) where
@@ -375,10 +376,6 @@ module _ (ws : List ℕ) (count : ℕ) (g : PagesGood ws count) {vs : List ℕ} 
 pub access-small : (a : ℕ) → So (isAccess a) → a < 8
 unfolding isAccess
 access-small a h = small-among 8 a (0 ∷ 1 ∷ 3 ∷ 4 ∷ 5 ∷ 7 ∷ []) refl h
-
-access-below : (a : ℕ) → So (isAccess a) → eqb a 7 ≡ false → So (among a (0 ∷ 1 ∷ 3 ∷ 4 ∷ 5 ∷ []))
-unfolding isAccess
-access-below a h n = rw n at h
 
 -- ---- a word for a page, and where it stands or belongs
 abbrev pub pageWord : ℕ → ℕ → ℕ → ℕ

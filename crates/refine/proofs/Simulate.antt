@@ -31,7 +31,7 @@ use Rattle.kvmi.specs.Settings.{inRange}
 use Rattle.kvmi.specs.Tables.{Vcpu, vcpuAt, resting, emptyTables, withReady, withPauses, withVcpus, withMsrs, withPages}
 use Rattle.kvmi.specs.Model.{Model, fresh, closedModel, withTables, withSeq, withAwaited, nextSeq, onVcpu, awaitedBy, isSome}
 use Rattle.kvmi.specs.Message.{layoutOf, namesVcpu, vcpuOf, enables, eventOf, registerOf, gpaOf, sizeOf, countOf, countFits, viewOf, Entry, entriesOf, isVmEvent, isVcpuEvent, takesEvent}
-use Rattle.kvmi.specs.Verdict.{factsOf, isAccess, inOnePage, isInvalid, isBusy, modeOf, changeOf, verdict}
+use Rattle.kvmi.specs.Verdict.{factsOf, isAccess, takesAccess, inOnePage, isInvalid, isBusy, modeOf, changeOf, verdict}
 use Rattle.kvmi.specs.Change.{Applied, applied, apply, signalOf, modeFor}
 use Rattle.kvmi.specs.Event.{offerFits, isAskedFor}
 use Rattle.kvmi.specs.Reply.{replyBytes, replyData, commandErrorEvent, answerOf, answerSeq}
@@ -50,11 +50,11 @@ use Rattle.change.proofs.Laws.{change-keeps}
 use Rattle.message.specs.Message.{factsIn, answeringOf, judgedOf, headedOf, messageOf}
 use Rattle.entry.specs.Entry.{Sent, awaitingWords, sendingOf, pausingOf, dequeuingOf, sentOf, toldSent, enteredOf, enterOf}
 use Rattle.session.specs.Meaning.{awaitedOf, tablesOf, modelOf, WordsGood, WellFormed}
-use Rattle.laws.proofs.Bool.{and-l, and-r}
+use Rattle.laws.proofs.Bool.{and-l, and-r, every-imp}
 use Rattle.laws.proofs.Bits.{put-below}
 use Rattle.laws.proofs.Verdicts.{pick, and-false, or-false-l, Passed, ending, verdict-cases, sound-of}
 use Rattle.laws.proofs.Events.{asked-some}
-use Rattle.laws.proofs.Steps.{step-kept}
+use Rattle.laws.proofs.Steps.{takes-access, step-kept}
 use Rattle.reply.proofs.Lengths.{length-answer}
 use Rattle.refine.proofs.Frames.{error-length, data-fits, sent-length}
 use Rattle.refine.proofs.Pages.{none-good}
@@ -120,7 +120,8 @@ module _ (st : State) (g : WordsGood st) (ok : So (inRange (st .session .setting
       let c = sound-of s 13 d (p .valid) in
       let below = leb-false (s .views) (viewOf d) (c .view) in
       let most = views in
-      pages-meant st g few guest d (viewOf d) (countOf d) (omega arith) (and-r (countFits d) _ (not-false _ (c .entries)))
+      pages-meant st g few guest d (viewOf d) (countOf d) (omega arith)
+      (every-imp (λ (e : Entry). takesAccess s (e .access)) (λ (e : Entry). isAccess (e .access)) (λ e h. takes-access s (e .access) h) (entriesOf (countOf d) (drop 8 d)) (and-r (countFits d) _ (not-false _ (c .entries))))
 
   meant-14 : P 14 → M (SetSinglestep (enables 14 d) (vcpuOf d))
   unfolding namesVcpu
