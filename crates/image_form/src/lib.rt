@@ -7,7 +7,7 @@ ghost use Prim.Native.Nat.{ℕ, _-_, _%_};
 ghost use lib.Dec.{eqb};
 ghost use Rattle.kvmi.specs.Bits.{isOn, bitsHave};
 ghost use Rattle.kvmi.specs.Settings.{allowsEvent};
-ghost use Rattle.kvmi.specs.Image.{vcpuOfRow, vmForm, vmMay, mayEnable, vcMay};
+ghost use Rattle.kvmi.specs.Image.{vcpuOfRow, pageOfRow, vmForm, vmMay, mayEnable, vcMay, paMay};
 ghost use Rattle.image_form.specs.Form.{markIn, markAt, vcFits, msFits, paFits};
 
 // The kind of the record at a place, where all of it is there.
@@ -235,4 +235,14 @@ pub fn pa_form(pages: usize, view: u16, access: u8, zero: u8, page: u64) -> bool
         return false;
     }
     Session::has_room(pages)
+}
+
+// Whether the settings permit a PA record: two of its numbers say so.
+pub fn pa_may(s: Settings, view: u16, access: u8) -> bool
+    ensures { λ r. ⌜ ((zero page : ℕ) → r ≡ paMay s (pageOfRow (view, (access, (zero, (page, tt)))))) ⌝ }
+{
+    if s.views <= view as u32 {
+        return false;
+    }
+    tests::takes_access(s, access)
 }

@@ -194,7 +194,7 @@ fn step_pa(s: Settings, l: &[u8], p: Progress) -> Advance
     if !image_form::pa_form(p.pages, view, access, zero, page) {
         return reject(at);
     }
-    if s.views <= view as u32 {
+    if !image_form::pa_may(s, view, access) {
         return forbid(at);
     }
     let progress = Progress {

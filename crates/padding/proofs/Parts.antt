@@ -10,7 +10,8 @@ use lib.Seq.{drop-drop}
 use borrow.Author.Tests.{eq-eqb, ne-eqb, eqb-true}
 use Rattle.wire.specs.Bytes.{load}
 use Rattle.kvmi.specs.Message.{countOf, countFits, entryOf, entriesOf, firstNonZero, entryPadding, firstOfRuns}
-use Rattle.kvmi.specs.Verdict.{isAccess}
+use Rattle.kvmi.specs.declared.Settings.{Settings}
+use Rattle.kvmi.specs.Verdict.{takesAccess}
 use Rattle.padding.specs.Entries.{accessesFit}
 use Rattle.padding.proofs.Runs.{run-part}
 
@@ -24,14 +25,14 @@ abbrev pub entryAt : List ℕ → ℕ → List ℕ
 entryAt d i = take (8 + 16 * i + 16 - (8 + 16 * i)) (drop (8 + 16 * i) d)
 
 -- what the entries from i on say
-abbrev pub accessesFrom : List ℕ → ℕ → ℕ → Bool
-accessesFrom d count i = accessesFit (count - i) (drop (8 + 16 * i) d)
+abbrev pub accessesFrom : Settings → List ℕ → ℕ → ℕ → Bool
+accessesFrom s d count i = accessesFit s (count - i) (drop (8 + 16 * i) d)
 
 abbrev pub paddingFrom : List ℕ → ℕ → ℕ → ℕ
 paddingFrom d count i = firstOfRuns d (entryPadding (17 + 16 * i) (count - i))
 
-pub accesses-start : (d : List ℕ) (count : ℕ) → accessesFrom d count 0 ≡ accessesFit count (drop 8 d)
-accesses-start d count = let all : count - 0 ≡ count = omega arith in rw all
+pub accesses-start : (s : Settings) (d : List ℕ) (count : ℕ) → accessesFrom s d count 0 ≡ accessesFit s count (drop 8 d)
+accesses-start s d count = let all : count - 0 ≡ count = omega arith in rw all
 
 pub padding-start : (d : List ℕ) (count : ℕ) → paddingFrom d count 0 ≡ firstOfRuns d (entryPadding 17 count)
 padding-start d count = let all : count - 0 ≡ count = omega arith in rw all
@@ -40,9 +41,9 @@ module _ (d : List ℕ) (count i : ℕ) where
   part-is : entryAt d i ≡ take 16 (drop (8 + 16 * i) d)
   part-is = let e : 8 + 16 * i + 16 - (8 + 16 * i) ≡ 16 = omega arith in rw e
 
-  pub accesses-end : count ≤ i → accessesFrom d count i ≡ true
+  pub accesses-end : (s : Settings) → count ≤ i → accessesFrom s d count i ≡ true
   unfolding entriesOf
-  accesses-end h = let none-left : count - i ≡ 0 = omega arith in rw none-left
+  accesses-end s h = let none-left : count - i ≡ 0 = omega arith in rw none-left
 
   pub padding-end : count ≤ i → paddingFrom d count i ≡ 0
   unfolding entryPadding firstOfRuns
@@ -52,17 +53,17 @@ module _ (d : List ℕ) (count i : ℕ) where
     left-is : count - i ≡ suc (count - (i + 1))
     left-is = omega arith
 
-    accesses-next : accessesFrom d count i ≡ (isAccess (entryOf (entryAt d i) .access) && accessesFrom d count (i + 1))
+    accesses-next : (s : Settings) → accessesFrom s d count i ≡ (takesAccess s (entryOf (entryAt d i) .access) && accessesFrom s d count (i + 1))
     unfolding entriesOf
-    accesses-next =
+    accesses-next s =
         let next : 8 + 16 * i + 16 ≡ 8 + 16 * (i + 1) = omega arith in
         rw (left-is, part-is, drop-drop 16 (8 + 16 * i) d, next)
 
-    pub access-fits : isAccess (entryOf (entryAt d i) .access) ≡ true → accessesFrom d count (i + 1) ≡ accessesFrom d count i
-    access-fits e = sym (accesses-next ∙ rw e)
+    pub access-fits : (s : Settings) → takesAccess s (entryOf (entryAt d i) .access) ≡ true → accessesFrom s d count (i + 1) ≡ accessesFrom s d count i
+    access-fits s e = sym (accesses-next s ∙ rw e)
 
-    pub access-unfit : isAccess (entryOf (entryAt d i) .access) ≡ false → accessesFrom d count i ≡ false
-    access-unfit e = accesses-next ∙ rw e
+    pub access-unfit : (s : Settings) → takesAccess s (entryOf (entryAt d i) .access) ≡ false → accessesFrom s d count i ≡ false
+    access-unfit s e = accesses-next s ∙ rw e
 
     padding-next : (r : ℕ) → r ≡ firstNonZero (entryAt d i) 9 7 0
         → paddingFrom d count i ≡ cond (eqb r 0) (paddingFrom d count (i + 1)) (8 + 16 * i + r)

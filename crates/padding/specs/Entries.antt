@@ -4,8 +4,9 @@ use mathlib.Core.List.{List}
 use mathlib.Core.Bool.{Bool}
 use Rattle.kvmi.specs.Bits.{every}
 use Rattle.kvmi.specs.Message.{Entry, entriesOf}
-use Rattle.kvmi.specs.Verdict.{isAccess}
+use Rattle.kvmi.specs.declared.Settings.{Settings}
+use Rattle.kvmi.specs.Verdict.{takesAccess}
 
--- the accesses of the first n entries of a list are valid
-abbrev pub accessesFit : ℕ → List ℕ → Bool
-accessesFit n l = every (λ (e : Entry). isAccess (e .access)) (entriesOf n l)
+-- the accesses of the first n entries of a list are those that a page can have under settings
+abbrev pub accessesFit : Settings → ℕ → List ℕ → Bool
+accessesFit s n l = every (λ (e : Entry). takesAccess s (e .access)) (entriesOf n l)

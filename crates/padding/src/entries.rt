@@ -1,4 +1,5 @@
 // The count and the entries of VM_SET_PAGE_ACCESS: 8 bytes, and behind them 16 for each entry.
+use kvmi::Settings;
 ghost use mathlib.Core.Path.{_≡_};
 ghost use mathlib.Core.Bool.{_&&_};
 ghost use Prim.Native.Nat.{_+_, _*_, _≤_};
@@ -20,16 +21,16 @@ pub fn entry_access(e: &[u8]) -> u8
     wire::byte(e, 8)
 }
 
-// Whether each of the entries has a valid access.
-fn accesses_fit(d: &[u8], count: usize) -> bool
+// Whether each of the entries has an access that a page can have under the settings.
+fn accesses_fit(settings: Settings, d: &[u8], count: usize) -> bool
     requires { ⌜ 8 + 16 * count ≤ length (now d) ⌝ }
-    ensures { λ r. ⌜ r ≡ accessesFit count (drop 8 (now (d .entry))) ⌝ }
+    ensures { λ r. ⌜ r ≡ accessesFit settings count (drop 8 (now (d .entry))) ⌝ }
 {
     let mut i = 0;
     while i < count {
         let a = 8 + 16 * i;
         let b = a + 16;
-        if !tests::is_access(entry_access(&d[a..b])) {
+        if !tests::takes_access(settings, entry_access(&d[a..b])) {
             return false;
         }
         i += 1;
@@ -37,12 +38,12 @@ fn accesses_fit(d: &[u8], count: usize) -> bool
     true
 }
 
-// Whether the count fits and each of the entries has a valid access.
-pub fn entries_fit(d: &[u8]) -> bool
-    ensures { λ r. ⌜ r ≡ (countFits (now (d .entry)) && accessesFit (countOf (now (d .entry))) (drop 8 (now (d .entry)))) ⌝ }
+// Whether the count fits and each of the entries has an access that a page can have under the settings.
+pub fn entries_fit(settings: Settings, d: &[u8]) -> bool
+    ensures { λ r. ⌜ r ≡ (countFits (now (d .entry)) && accessesFit settings (countOf (now (d .entry))) (drop 8 (now (d .entry)))) ⌝ }
 {
     if count_fits(d) {
-        accesses_fit(d, wire::load16(d, 0) as usize)
+        accesses_fit(settings, d, wire::load16(d, 0) as usize)
     } else {
         false
     }

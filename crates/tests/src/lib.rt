@@ -2,16 +2,17 @@
 use kvmi::Handler;
 use kvmi::ReplyKind;
 use kvmi::ReplyMode;
+use kvmi::Settings;
 use kvmi::SizeRule;
 ghost use mathlib.Core.Path.{_≡_};
 ghost use mathlib.Core.List.{[], _∷_};
-ghost use mathlib.Core.Bool.{not, _&&_, _||_};
+ghost use mathlib.Core.Bool.{cond, not, _&&_, _||_};
 ghost use lib.Dec.{leb, eqb};
 ghost use Rattle.kvmi.specs.Bits.{isOn, among};
-ghost use Rattle.kvmi.specs.Settings.{isSet};
+ghost use Rattle.kvmi.specs.Settings.{isSet, hasExecuteOnly};
 ghost use Rattle.kvmi.specs.Tables.{isCr};
 ghost use Rattle.kvmi.specs.Message.{sizeFits, carriesData, isVmEvent, isVcpuEvent};
-ghost use Rattle.kvmi.specs.Verdict.{repliesOn, isAccess, inOnePage, pageExists, modeOf};
+ghost use Rattle.kvmi.specs.Verdict.{repliesOn, takesAccess, inOnePage, pageExists, modeOf};
 ghost use Rattle.tests.specs.Known.{isKnown};
 
 // ---- numbers
@@ -91,11 +92,25 @@ pub fn is_cr(cr: u32) -> bool
     (cr == 0) | (cr == 3) | (cr == 4)
 }
 
-// Whether a page can have an access: W needs R.
-pub fn is_access(a: u8) -> bool
-    ensures { λ r. ⌜ r ≡ isAccess a ⌝ }
+// The accesses that a page can have under settings, bit a for access a: 0, 1, 3, 4, 5 and 7 (W needs R), and where the processor has no
+// execute-only pages the same without 4.
+fn accesses(settings: Settings) -> u32
+    ensures { λ r. ⌜ r ≡ cond (hasExecuteOnly settings) 0xBB 0xAB ⌝ }
 {
-    (a == 0) | (a == 1) | (a == 3) | (a == 4) | (a == 5) | (a == 7)
+    if is_set(settings.execute_only) {
+        return 0xBB;
+    }
+    0xAB
+}
+
+// Whether a page can have an access under settings.
+pub fn takes_access(settings: Settings, a: u8) -> bool
+    ensures { λ r. ⌜ r ≡ takesAccess settings a ⌝ }
+{
+    if 7 < a {
+        return false;
+    }
+    (accesses(settings) >> a) % 2 == 1
 }
 
 // ---- guest memory

@@ -78,7 +78,10 @@ pub fn set_page_access(settings: Settings, facts: Facts, d: &[u8]) -> Verdict
     let count = wire::load16(d, 0);
     let view = wire::load16(d, 2);
     let malformed = (padding::of_pages(d) != 0) | (settings.views <= view as u32);
-    let c = Causes::new(malformed | !padding::entries::entries_fit(d), false);
+    let c = Causes::new(
+        malformed | !padding::entries::entries_fit(settings, d),
+        false,
+    );
     c.decide(Change::SetPages { view, count })
 }
 

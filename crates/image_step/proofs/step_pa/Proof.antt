@@ -2,8 +2,7 @@
 -- Below, c2 is the place two before c, and so on.
 use mathlib.Core.Path.{sym, _∙_}
 use native.Mathlib.Omega.{arith}
-use borrow.Author.Tests.{lt-ltb, le-ltb, eq-eqb, ne-eqb, not-true, not-false}
-use Rattle.kvmi.specs.Image.{paMay}
+use borrow.Author.Tests.{eq-eqb, ne-eqb, not-true, not-false}
 use Rattle.image_form.proofs.Forms.{page-room}
 use Rattle.image_step.specs.Step.{paStep}
 use borrow.Author.Needs.{needs}
@@ -44,7 +43,7 @@ reject-requires : tie.Need-reject-requires
 reject-requires c κs = search needs
 
 returns : tie.Need-returns
-unfolding paStep paMay
+unfolding paStep
 returns c =
     let c2 = c .before .before in let c3 = c2 .before in let c4 = c3 .before in let c5 = c4 .before in let c6 = c5 .before in
     rw (
@@ -60,7 +59,7 @@ reject-requires-2 : tie.Need-reject-requires-2
 reject-requires-2 c κs = search needs
 
 returns-2 : tie.Need-returns-2
-unfolding paStep paMay
+unfolding paStep
 returns-2 c =
     let c4 = c .before .before .before .before in let c5 = c4 .before in let c6 = c5 .before in let c7 = c6 .before in let c8 = c7 .before in
     let c9 = c8 .before in
@@ -81,7 +80,7 @@ reject-requires-3 : tie.Need-reject-requires-3
 reject-requires-3 c κs = search needs
 
 returns-3 : tie.Need-returns-3
-unfolding paStep paMay
+unfolding paStep
 returns-3 c =
     let c2 = c .before .before in let c3 = c2 .before in let c6 = c3 .before .before .before in let c7 = c6 .before in let c8 = c7 .before in
     let c9 = c8 .before in let c10 = c9 .before in let c11 = c10 .before in
@@ -97,16 +96,16 @@ returns-3 c =
       not-true (c2 .pa-form .result) (c .before .if3 .taken),
     ) (c .reject3 .ensures)
 
-cast-if4 : tie.Need-cast-if4
-cast-if4 c = search needs
+pa-may-requires : tie.Need-pa-may-requires
+pa-may-requires c κs = search needs
 
 forbid-requires : tie.Need-forbid-requires
 forbid-requires c κs = search needs
 
 returns-4 : tie.Need-returns-4
-unfolding paStep paMay
+unfolding paStep
 returns-4 c =
-    let c3 = c .before .before .before in let c4 = c3 .before in let c5 = c4 .before in let c8 = c5 .before .before .before in
+    let c2 = c .before .before in let c3 = c2 .before in let c4 = c3 .before in let c5 = c4 .before in let c8 = c5 .before .before .before in
     let c9 = c8 .before in let c10 = c9 .before in let c11 = c10 .before in let c12 = c11 .before in let c13 = c12 .before in
     rw (
       ← c12 .load16 .ensures,
@@ -118,19 +117,20 @@ returns-4 c =
       eq-eqb _ _ (c5 .if2 .left),
       ← c4 .pa-form .ensures,
       not-false (c4 .pa-form .result) (c3 .if3 .left),
-      le-ltb _ _ (c .before .if4 .taken),
+      ← c2 .pa-may .ensures (c10 .byte2 .result) (c13 .load64 .result),
+      not-true (c2 .pa-may .result) (c .before .if4 .taken),
     ) (c .forbid .ensures)
 
 wrapping-add-usize-requires : tie.Need-wrapping-add-usize-requires
 wrapping-add-usize-requires c κs = search needs
 
-add-t15 : tie.Need-add-t15
-add-t15 c = let h = page-room _ _ (sym (c .before .before .before .before .before .pa-form .ensures) ∙ not-false (c .before .before .before .before .before .pa-form .result) (c .before .before .before .before .if3 .left)) in omega (arith, h)
+add-t14 : tie.Need-add-t14
+add-t14 c = let h = page-room _ _ (sym (c .before .before .before .before .before .pa-form .ensures) ∙ not-false (c .before .before .before .before .before .pa-form .result) (c .before .before .before .before .if3 .left)) in omega (arith, h)
 
 returns-5 : tie.Need-returns-5
-unfolding paStep paMay
+unfolding paStep
 returns-5 c =
-    let c2 = c .before .before in let c4 = c2 .before .before in let c5 = c4 .before in let c6 = c5 .before in
+    let c2 = c .before .before in let c3 = c2 .before in let c4 = c3 .before in let c5 = c4 .before in let c6 = c5 .before in
     let c9 = c6 .before .before .before in let c10 = c9 .before in let c11 = c10 .before in let c12 = c11 .before in let c13 = c12 .before in
     let c14 = c13 .before in
     rw (
@@ -143,7 +143,8 @@ returns-5 c =
       eq-eqb _ _ (c6 .if2 .left),
       ← c5 .pa-form .ensures,
       not-false (c5 .pa-form .result) (c4 .if3 .left),
-      lt-ltb _ _ (c2 .if4 .left),
+      ← c3 .pa-may .ensures (c11 .byte2 .result) (c14 .load64 .result),
+      not-false (c3 .pa-may .result) (c2 .if4 .left),
       ← c .before .wrapping-add-usize .ensures,
     )
 
@@ -168,9 +169,9 @@ step-pa-spec =
     pa-form-requires
     reject-requires-3
     returns-3
-    cast-if4
+    pa-may-requires
     forbid-requires
     returns-4
     wrapping-add-usize-requires
-    add-t15
+    add-t14
     returns-5)

@@ -6,20 +6,20 @@ use native.Mathlib.Omega.{arith}
 use lib.ListN.{drop}
 use borrow.Author.Needs.{needs}
 use borrow.Author.Tests.{not-true, not-false}
-use Rattle.kvmi.specs.Verdict.{isAccess}
+use Rattle.kvmi.specs.Verdict.{takesAccess}
 use Rattle.padding.specs.Entries.{accessesFit}
 use Rattle.padding.proofs.Parts.{accessesFrom, accesses-start, access-fits, access-unfit, accesses-end}
 use Rattle.padding.proofs.entries.accesses_fit.Statement.{statement}
 use Rattle.padding.proofs.entries.accesses_fit.Tie as tie
 
 abbrev Inv-loop : tie.InvT-loop
-Inv-loop d count i₀ i = (i ≤ count) × (accessesFrom d count i ≡ accessesFit count (drop 8 d))
+Inv-loop s d count i₀ i = (i ≤ count) × (accessesFrom s d count i ≡ accessesFit s count (drop 8 d))
 
 abbrev μ-loop : tie.MeasureT-loop
-μ-loop d count i₀ i = count - i
+μ-loop s d count i₀ i = count - i
 
 loop-holds : tie.Need-loop-holds Inv-loop μ-loop
-loop-holds c = (omega arith, accesses-start (c .before .args .d .now) (c .before .args .count))
+loop-holds c = (omega arith, accesses-start (c .before .args .settings) (c .before .args .d .now) (c .before .args .count))
 
 mul-a : tie.Need-mul-a Inv-loop μ-loop
 mul-a c = omega arith
@@ -42,13 +42,13 @@ part-entry-access-end c = omega arith
 entry-access-requires : tie.Need-entry-access-requires Inv-loop μ-loop
 entry-access-requires c κs = search needs
 
-is-access-requires : tie.Need-is-access-requires Inv-loop μ-loop
-is-access-requires c κs = search needs
+takes-access-requires : tie.Need-takes-access-requires Inv-loop μ-loop
+takes-access-requires c κs = search needs
 
 returns : tie.Need-returns Inv-loop μ-loop
 returns c =
-    let bad : c .before .is-access .result ≡ false = not-true _ (c .if1 .taken) in
-    sym (access-unfit _ _ _ (omega arith) (ap isAccess (sym (c .before .before .entry-access .ensures)) ∙ sym (c .before .is-access .ensures) ∙ bad)) ∙ c .before .before .before .before .before .loop .inv .1
+    let bad : c .before .takes-access .result ≡ false = not-true _ (c .if1 .taken) in
+    sym (access-unfit _ _ _ (omega arith) _ (ap (takesAccess _) (sym (c .before .before .entry-access .ensures)) ∙ sym (c .before .takes-access .ensures) ∙ bad)) ∙ c .before .before .before .before .before .loop .inv .1
 
 add-i : tie.Need-add-i Inv-loop μ-loop
 add-i c = omega arith
@@ -58,11 +58,11 @@ loop-less c = omega arith
 
 loop-again : tie.Need-loop-again Inv-loop μ-loop
 loop-again c =
-    let good : c .before .is-access .result ≡ true = not-false _ (c .if1 .left) in
-    (omega arith, access-fits _ _ _ (omega arith) (ap isAccess (sym (c .before .before .entry-access .ensures)) ∙ sym (c .before .is-access .ensures) ∙ good) ∙ c .before .before .before .before .before .loop .inv .1)
+    let good : c .before .takes-access .result ≡ true = not-false _ (c .if1 .left) in
+    (omega arith, access-fits _ _ _ (omega arith) _ (ap (takesAccess _) (sym (c .before .before .entry-access .ensures)) ∙ sym (c .before .takes-access .ensures) ∙ good) ∙ c .before .before .before .before .before .loop .inv .1)
 
 returns-2 : tie.Need-returns-2 Inv-loop μ-loop
-returns-2 c = sym (accesses-end _ _ _ (omega arith)) ∙ c .before .loop .inv .1
+returns-2 c = sym (accesses-end _ _ _ _ (omega arith)) ∙ c .before .loop .inv .1
 
 pub accesses-fit-spec : {M : Type 1} → statement M
 accesses-fit-spec =
@@ -78,7 +78,7 @@ accesses-fit-spec =
     part-entry-access-start
     part-entry-access-end
     entry-access-requires
-    is-access-requires
+    takes-access-requires
     returns
     add-i
     loop-less
