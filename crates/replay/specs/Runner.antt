@@ -27,7 +27,7 @@ use Rattle.replay.specs.declared.Turned.{Turned}
 
 -- ---- the start
 
--- "2 ready vCPUs, all allowed, all five features 1, TSC speed 0, descriptor events catchable, breakpoints free, 1 view"
+-- "2 ready vCPUs, all allowed, all five features 1, TSC speed 0, descriptor events catchable, breakpoints free, 1 view"; W2: "a settings flag, set in the runner"
 abbrev pub runnerSettings : Settings
 runnerSettings =
     record {
@@ -43,6 +43,7 @@ runnerSettings =
       spp = 1;
       descriptors = 1;
       breakpoints = 0;
+      «execute_only» = 1;
     }
 
 -- begun fresh on whatever words are lent, and then each of the two vCPUs made ready

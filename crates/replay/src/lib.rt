@@ -32,7 +32,7 @@ pub struct Turned {
     pub next: Next,
 }
 
-// 2 vCPUs, 1 view, everything allowed and supported, breakpoints free.
+// 2 vCPUs, 1 view, everything allowed and supported, breakpoints free, execute-only pages.
 pub fn settings() -> Settings
     ensures { λ r. ⌜ r ≡ runnerSettings ⌝ }
 {
@@ -49,6 +49,7 @@ pub fn settings() -> Settings
         spp: 1,
         descriptors: 1,
         breakpoints: 0,
+        execute_only: 1,
     }
 }
 
