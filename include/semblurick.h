@@ -8,6 +8,7 @@
  *     struct semblurick_settings s = SEMBLURICK_SETTINGS;          one vCPU, one view, nothing allowed
  *     struct semblurick_result r;
  *     s.commands = s.events = SEMBLURICK_ALL;
+ *     s.execute_only = 1;                                          where the processor has execute-only pages
  *     if (semblurick_fresh(&guest, &s) != SEMBLURICK_HANDLED) ..   then semblurick_ready for each vCPU
  *
  *     for each message that the tool sends:
@@ -35,8 +36,12 @@
 /* Grows by one where names are added. Each section, or a name itself, says since which version it is there. A name that is there
  * stays, means what it meant, and what compiled with it compiles again, but that the semblurick_raw_ functions may get more
  * arguments. Structs may get more members, but for struct semblurick_result: compile with the header that came with the library.
- * Enums may get more values: a switch over one has a default. Sizes may grow: buffers are made by their names. */
-#define SEMBLURICK_VERSION 2
+ * Enums may get more values: a switch over one has a default. Sizes may grow: buffers are made by their names.
+ *
+ * What a host that is compiled anew has to look at. Since 2: an entry's output takes 576 bytes. Since 3: access 4, execute only, is
+ * refused unless the settings have execute_only, which SEMBLURICK_SETTINGS leaves 0: EINVAL in message 13, answer 9 to an image that
+ * holds it. Before, it was taken. A host whose processor has execute-only pages (EPT; bit 0 of IA32_VMX_EPT_VPID_CAP) sets it to 1. */
+#define SEMBLURICK_VERSION 3
 
 #include <stdbool.h>
 #include <stddef.h>
@@ -101,7 +106,7 @@ SEMBLURICK_U32_ENUM(semblurick_answer) {
     SEMBLURICK_WAITING = 6,        /* that vCPU's event reply is awaited */
     SEMBLURICK_BAD_SETTINGS = 7,   /* a count is out of its range */
     SEMBLURICK_BAD_FORM = 8,       /* the image breaks a rule; result: offset */
-    SEMBLURICK_FORBIDDEN = 9,      /* the image wants what the settings lack; result: offset */
+    SEMBLURICK_FORBIDDEN = 9,      /* the image wants what the settings lack (since 3 also execute_only, for access 4); result: offset */
     SEMBLURICK_BUSY = 10,          /* an event reply is awaited, so that there is no image */
     SEMBLURICK_NOT_APPLICABLE = 14 /* semblurick_list_cr: a CR other than 0, 3 and 4, or a record that is not ready */
 };
@@ -146,14 +151,20 @@ struct semblurick_settings {
     uint8_t spp;
     uint8_t descriptors;        /* descriptor events can be caught */
     uint8_t breakpoints_taken;  /* by the host, for itself: the tool gets EBUSY */
+    uint8_t execute_only;       /* since 3: the processor has execute-only pages, access 4. Without it message 13 with access 4 gets
+                                   EINVAL, and an image that holds it is answered 9. KVMI_GET_VERSION does not tell it */
 };
 SEMBLURICK_ASSERT(sizeof(struct semblurick_settings) == 32);
 SEMBLURICK_ASSERT(offsetof(struct semblurick_settings, tsc_speed) == 16);
 SEMBLURICK_ASSERT(offsetof(struct semblurick_settings, breakpoints_taken) == 30);
+SEMBLURICK_ASSERT(offsetof(struct semblurick_settings, execute_only) == 31);
 
-/* What every host's settings begin with, so that a setting which is added later breaks none of them: one vCPU, one view, nothing
- * allowed, every feature 0.   struct semblurick_settings s = SEMBLURICK_SETTINGS;   then set by name what is to differ. */
-#define SEMBLURICK_SETTINGS {1, 1, 0, 0, 0, 0, 0, 0, 0, 0, 0, 0}
+/* What every host's settings begin with, so that a setting which is added later breaks no build: one vCPU, one view, nothing allowed,
+ * every feature and flag 0.   struct semblurick_settings s = SEMBLURICK_SETTINGS;   then set by name what is to differ. A capability
+ * that is added later is 0, too: what needs it is refused until a host sets it, even where an earlier version took it (execute_only).
+ * Where settings are filled member by member without an initializer, one that nobody sets is whatever stands there: execute_only is
+ * byte 31, padding before 3. */
+#define SEMBLURICK_SETTINGS {1, 1, 0, 0, 0, 0, 0, 0, 0, 0, 0, 0, 0}
 
 /* A set of commands or events: s.events = SEMBLURICK_BIT(KVMI_EVENT_CR) | SEMBLURICK_BIT(KVMI_EVENT_MSR); */
 #define SEMBLURICK_BIT(number) (UINT32_C(1) << (number))
@@ -231,7 +242,7 @@ static inline struct semblurick_memory semblurick_no_memory(void) {
 struct semblurick_page {
     uint64_t page;    /* its number: guest physical address / 4096 */
     uint32_t view;
-    uint32_t access;  /* R 1, W 2, X 4 */
+    uint32_t access;  /* R 1, W 2, X 4; it is 4 only where the settings have execute_only */
 };
 
 /* ---- the library's functions, over a session and its tables apart (since 1). The calls and lookups below are made of them, and say
@@ -380,7 +391,8 @@ SEMBLURICK_CHECKED static inline enum semblurick_answer semblurick_image_write(c
 }
 
 /* Begins a session as an image states, replies on, the next event's seq 0. Answers 7, or 8 or 9 for the first record that calls for
- * one, at result->offset, or 0. Refused, no word of the tables changes, and the session is a closed one. */
+ * one, at result->offset, or 0. Refused, no word of the tables changes, and the session is a closed one. Since 3: a PA with access 4
+ * is answered 9 where the settings lack execute_only. */
 SEMBLURICK_CHECKED static inline enum semblurick_answer semblurick_image_read(struct semblurick *guest,
                                                                               const struct semblurick_settings *settings,
                                                                               const void *image, size_t image_size,
@@ -437,7 +449,8 @@ static inline uint64_t semblurick_awaited(const struct semblurick *guest, uint32
     return semblurick_raw_awaited(&guest->session, &guest->vcpus, vcpu);
 }
 
-/* What a view allows of a page, by its number (address / 4096): R 1, W 2, X 4. It is 7 where nothing is said of the page. */
+/* What a view allows of a page, by its number (address / 4096): R 1, W 2, X 4. It is 7 where nothing is said of the page, and 4 only
+ * where the settings have execute_only. */
 static inline uint32_t semblurick_access(const struct semblurick *guest, uint32_t view, uint64_t page) {
     return semblurick_raw_access(&guest->session, &guest->pages, view, page);
 }
@@ -768,7 +781,7 @@ struct kvmi_vcpu_control_msr {
 };
 SEMBLURICK_ASSERT(sizeof(struct kvmi_vcpu_control_msr) == 8 && offsetof(struct kvmi_vcpu_control_msr, msr) == 4);
 
-/* 13 KVMI_VM_SET_PAGE_ACCESS; then `count` entries, which act in order. Access 7 forgets a page. */
+/* 13 KVMI_VM_SET_PAGE_ACCESS; then `count` entries, which act in order; with EINVAL none acts. Access 7 forgets a page. */
 struct kvmi_vm_set_page_access {
     uint16_t count;
     uint16_t view;
@@ -776,7 +789,8 @@ struct kvmi_vm_set_page_access {
 };
 struct kvmi_page_access_entry {
     uint64_t gpa;
-    uint8_t access;  /* 0, or of enum kvmi_page_access R, R + W, X, R + X or all */
+    uint8_t access;  /* 0, or of enum kvmi_page_access R, R + W, X, R + X or all; X alone, since 3, only where the host's settings
+                        have execute_only: else EINVAL */
     uint8_t padding1;
     uint16_t padding2;
     uint32_t padding3;

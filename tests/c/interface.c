@@ -159,16 +159,16 @@ static struct semblurick_settings settings_of(uint32_t vcpus, uint32_t views) {
     s.vcpus = vcpus, s.views = views;
     s.commands = s.events = SEMBLURICK_ALL;
     s.tsc_speed = 3;
-    s.singlestep = s.descriptors = 1;
+    s.singlestep = s.descriptors = s.execute_only = 1;
     return s;
 }
 
 static void settings(void) {
     struct semblurick_settings s = SEMBLURICK_SETTINGS;
     CHECK(s.vcpus == 1 && s.views == 1 && s.commands == 0 && s.events == 0 && s.tsc_speed == 0 && s.singlestep == 0 && s.vmfunc == 0);
-    CHECK(s.eptp == 0 && s.ve == 0 && s.spp == 0 && s.descriptors == 0 && s.breakpoints_taken == 0);
+    CHECK(s.eptp == 0 && s.ve == 0 && s.spp == 0 && s.descriptors == 0 && s.breakpoints_taken == 0 && s.execute_only == 0);
     CHECK(SEMBLURICK_BIT(KVMI_VM_GET_INFO) == 16 && SEMBLURICK_BIT(31) == 0x80000000 && SEMBLURICK_ALL == 0xFFFFFFFF);
-    CHECK(SEMBLURICK_VERSION == 2);
+    CHECK(SEMBLURICK_VERSION == 3);
 
     /* memory of zeros is a closed session */
     CHECK(!semblurick_is_open(&guest) && semblurick_ready(&guest, 0) == SEMBLURICK_CLOSED);
@@ -567,6 +567,69 @@ static void parts(void) {
     CHECK(vcpus.words[4] == 2 && semblurick_raw_awaited(&session, &vcpus, 0) == 0);
 }
 
+/* ---- execute-only pages: access 4, and no other, goes by the flag */
+
+/* Two entries, of pages 3 and 4 in view 0. */
+static int32_t two_pages(uint8_t first, uint8_t second) {
+    struct kvmi_vm_set_page_access p;
+    struct kvmi_page_access_entry e;
+    memset(&p, 0, sizeof p), memset(&e, 0, sizeof e);
+    p.count = 2;
+    begin(KVMI_VM_SET_PAGE_ACCESS, 13), add(&p, sizeof p);
+    e.gpa = 3 * SEMBLURICK_PAGE_BYTES, e.access = first, add(&e, sizeof e);
+    e.gpa = 4 * SEMBLURICK_PAGE_BYTES, e.access = second, add(&e, sizeof e);
+    return reply();
+}
+
+static void execute_only(void) {
+    struct semblurick_settings has = settings_of(1, 2), lacks = has;
+    lacks.execute_only = 0;
+    CHECK(has.execute_only == 1);
+
+    /* every access, under every kind of flag: it is set where it is not 0 */
+    const uint8_t flags[] = {0, 1, 2, 0x80, 0xFF};
+    for (size_t i = 0; i < sizeof flags; i++) {
+        struct semblurick_settings s = has;
+        s.execute_only = flags[i];
+        for (uint32_t a = 0; a < 256; a++) {
+            bool is_taken = a == 0 || a == 1 || a == 3 || a == 5 || a == 7 || (a == 4 && flags[i]);
+            CHECK(semblurick_fresh(&guest, &s) == SEMBLURICK_HANDLED);
+            CHECK(page(1, 3, (uint8_t)a) == (is_taken ? 0 : -KVMI_EINVAL) && semblurick_access(&guest, 1, 3) == (is_taken ? a : 7));
+            CHECK(semblurick_page_count(&guest) == (is_taken && a != 7));
+        }
+    }
+
+    /* no entry acts where one is refused, and what stood there stays */
+    CHECK(semblurick_fresh(&guest, &lacks) == SEMBLURICK_HANDLED && page(0, 3, 5) == 0);
+    memcpy(&before, &guest, sizeof guest);
+    CHECK(two_pages(1, 4) == -KVMI_EINVAL && two_pages(4, 1) == -KVMI_EINVAL && two_pages(7, 4) == -KVMI_EINVAL && r.count == 16);
+    CHECK(!memcmp(&before, &guest, sizeof guest) && semblurick_access(&guest, 0, 3) == 5 && semblurick_page_count(&guest) == 1);
+    CHECK(semblurick_fresh(&guest, &has) == SEMBLURICK_HANDLED && two_pages(1, 4) == 0 && two_pages(4, 5) == 0);
+    CHECK(semblurick_access(&guest, 0, 3) == 4 && semblurick_access(&guest, 0, 4) == 5);
+
+    /* the image: a VM, a VC, and the PAs of pages 2, 3 and, in view 1, 3 */
+    const size_t first = 8 + 10, second = first + 14, third = second + 14, size = third + 14 + 6;
+    CHECK(page(0, 2, 5) == 0 && page(0, 4, 7) == 0 && page(1, 3, 4) == 0 && semblurick_image_size(&guest) == size);
+    CHECK(semblurick_image_write(&guest, semblurick_output_of(image, sizeof image), &r) == SEMBLURICK_HANDLED && r.count == size);
+    CHECK(image[first + 4] == 5 && image[second + 4] == 4 && image[third + 4] == 4);
+    CHECK(semblurick_image_read(&other, &has, image, size, &r) == SEMBLURICK_HANDLED && is_zero(&r) && is_alike() && semblurick_access(&other, 1, 3) == 4);
+    memcpy(&before, &other, sizeof other);
+    CHECK(semblurick_image_read(&other, &lacks, image, size, &r) == SEMBLURICK_FORBIDDEN && r.offset == second && r.count == 0 && rest_is_zero());
+    CHECK(!semblurick_is_open(&other) && semblurick_access(&other, 0, 3) == 7 && semblurick_page_count(&other) == 0);
+    CHECK(!memcmp(&before.vcpus, &other.vcpus, sizeof other.vcpus) && !memcmp(&before.pages, &other.pages, sizeof other.pages));
+
+    /* form comes first; a record by itself, whatever the later ones want */
+    image[second + 5] = 1; /* the zero */
+    CHECK(semblurick_image_read(&other, &lacks, image, size, &r) == SEMBLURICK_BAD_FORM && r.offset == second);
+    image[second + 5] = 0, image[second + 4] = 2; /* W without R */
+    CHECK(semblurick_image_read(&other, &lacks, image, size, &r) == SEMBLURICK_BAD_FORM && r.offset == second);
+    CHECK(semblurick_image_read(&other, &has, image, size, &r) == SEMBLURICK_BAD_FORM && r.offset == second);
+    image[second + 4] = 1;
+    CHECK(semblurick_image_read(&other, &lacks, image, size, &r) == SEMBLURICK_FORBIDDEN && r.offset == third);
+    image[third + 4] = 0;
+    CHECK(semblurick_image_read(&other, &lacks, image, size, &r) == SEMBLURICK_HANDLED && is_zero(&r) && semblurick_access(&other, 1, 3) == 0);
+}
+
 /* the most of everything */
 static void limits(void) {
     struct semblurick_settings s = settings_of(SEMBLURICK_MAX_VCPUS + 1, SEMBLURICK_MAX_VIEWS);
@@ -654,6 +717,7 @@ int main(void) {
     closing();
     lists();
     parts();
+    execute_only();
     limits();
     numbers();
     texts();

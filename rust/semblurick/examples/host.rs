@@ -163,6 +163,11 @@ fn send_event(what: &str, entry: Result<Entry<'_>, Refusal>) {
     send_to_tool(bytes);
 }
 
+/// Whether the processor has execute-only pages, access 4; a real host reads bit 0 of IA32_VMX_EPT_VPID_CAP, MSR 0x48C.
+fn has_execute_only() -> bool {
+    true
+}
+
 /// A vCPU's registers.
 const STATE: [u8; STATE_BYTES] = [0; STATE_BYTES];
 
@@ -274,7 +279,7 @@ fn check(hardware: &Hardware, image: &[u8]) -> bool {
 }
 
 fn run(stream: &[u8]) -> Result<bool, Refusal> {
-    let settings = Settings::allowing_all(VCPUS);
+    let settings = Settings::allowing_all(VCPUS).execute_only(has_execute_only());
     let session = Session::fresh(&settings)?;
     let mut host = Host { session, hardware: Hardware::default(), cr3: Default::default(), written: Default::default() };
     for vcpu in 0..VCPUS {
@@ -294,7 +299,7 @@ fn run(stream: &[u8]) -> Result<bool, Refusal> {
         return Ok(false);
     }
 
-    // on the new host
+    // on the new host, under settings of its own, here the same; answer 9: they lack what the image has
     let there = Session::from_image(&settings, &image)?;
     println!("new host: answer 0");
     let hardware = Hardware::all(&there);

@@ -207,7 +207,8 @@ pub enum Refusal {
         /// Of the record that breaks it; the image's length, if its end is missing; the byte after the end.
         offset: usize,
     },
-    /// The image wants what the settings lack.
+    /// The image wants what the settings lack: a view, an event that is not allowed, access 4 without
+    /// [`Settings::execute_only`](crate::Settings::execute_only).
     Forbidden {
         /// Of the record that wants it.
         offset: usize,

@@ -14,6 +14,7 @@ pub struct Settings {
     pub features: [u8; 5],
     pub descriptors: u8,
     pub breakpoints_taken: u8,
+    pub execute_only: u8,
 }
 
 #[repr(C)]
@@ -67,6 +68,7 @@ pub type Pages = [u64; PAGE_WORDS];
 
 const _: () = {
     assert!(core::mem::size_of::<Settings>() == 32);
+    assert!(core::mem::offset_of!(Settings, execute_only) == 31);
     assert!(core::mem::size_of::<Session>() == 72);
     assert!(core::mem::size_of::<Outcome>() == 96);
     assert!(core::mem::size_of::<Vcpu>() == 56);

@@ -119,7 +119,8 @@ impl Session {
         unsafe { ffi::semblurick_raw_page_count(&self.raw) }
     }
 
-    /// The access of a page in a view. A page's number is its guest physical address over 4,096.
+    /// The access of a page in a view. A page's number is its guest physical address over 4,096. It is [`Access::X`], execute only,
+    /// only where the settings have [`execute_only`](crate::Settings::execute_only).
     #[must_use]
     #[inline]
     pub fn access(&self, view: u32, page: u64) -> Access {

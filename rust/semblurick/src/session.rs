@@ -43,6 +43,7 @@ impl Session {
             features: [0; 5],
             descriptors: 0,
             breakpoints_taken: 0,
+            execute_only: 0,
         };
         let raw = ffi::Session { settings, vm_events: 0, pages: 0, opened: 0, mode: 0, seq: 0, ready: 0 };
         Session { raw, vcpus: [0; ffi::VCPU_WORDS], pages: [0; ffi::PAGE_WORDS] }
@@ -60,7 +61,8 @@ impl Session {
     /// A session as an image states.
     ///
     /// # Errors
-    /// [`Refusal::BadSettings`]; then [`Refusal::BadForm`] or [`Refusal::Forbidden`], for the first record that calls for one.
+    /// [`Refusal::BadSettings`]; then [`Refusal::BadForm`] or [`Refusal::Forbidden`], for the first record that calls for one. What the
+    /// old host's processor had and this one's lacks is forbidden: an execute-only page without [`Settings::execute_only`].
     #[inline]
     pub fn from_image(settings: &Settings, image: &[u8]) -> Result<Session, Refusal> {
         Session::made(settings, Some(image))

@@ -18,8 +18,9 @@ macro_rules! setters {
 
 /// What the host allows and has; fixed for a session.
 ///
-/// A host begins from [`Settings::new`], where nothing is allowed, and says by name what differs. A setting that is new in a later
-/// version then stands at what it was before, and breaks no build.
+/// A host begins from [`Settings::new`], where nothing is allowed and nothing supported, and says by name what differs. A setting that
+/// is new in a later version then breaks no build. A capability that is new is absent, and what needs it is refused until the host
+/// names it, even where an earlier version took it: access 4 without [`execute_only`](Settings::execute_only).
 ///
 /// ```
 /// use semblurick::{Event, EventSet, Features, Settings, CommandSet};
@@ -28,7 +29,8 @@ macro_rules! setters {
 ///     .views(2)
 ///     .commands(CommandSet::ALL)
 ///     .events(EventSet::NONE.with(Event::PauseVcpu).with(Event::Pf))
-///     .features(Features::NONE.singlestep(1));
+///     .features(Features::NONE.singlestep(1))
+///     .execute_only(true);
 /// assert_eq!((SETTINGS.vcpus, SETTINGS.views, SETTINGS.descriptors), (4, 2, false));
 /// ```
 #[derive(Clone, Debug, PartialEq, Eq, Hash)]
@@ -50,6 +52,8 @@ pub struct Settings {
     pub descriptors: bool,
     /// The host has taken breakpoints for itself.
     pub breakpoints_taken: bool,
+    /// The processor has execute-only pages. Without it access 4 is refused, in `KVMI_VM_SET_PAGE_ACCESS` and in images.
+    pub execute_only: bool,
 }
 
 impl Settings {
@@ -65,13 +69,20 @@ impl Settings {
             features: Features::NONE,
             descriptors: false,
             breakpoints_taken: false,
+            execute_only: false,
         }
     }
 
-    /// One view, everything allowed and supported, breakpoints free.
+    /// One view, everything allowed and supported, breakpoints free. It says of the processor that it has execute-only pages: on one
+    /// that lacks them a host adds `.execute_only(false)`.
     #[must_use]
     pub const fn allowing_all(vcpus: u32) -> Settings {
-        Settings::new(vcpus).commands(CommandSet::ALL).events(EventSet::ALL).features(Features::ALL).descriptors(true)
+        Settings::new(vcpus)
+            .commands(CommandSet::ALL)
+            .events(EventSet::ALL)
+            .features(Features::ALL)
+            .descriptors(true)
+            .execute_only(true)
     }
 
     setters! {
@@ -89,6 +100,43 @@ impl Settings {
         descriptors: bool,
         /// Whether the host has taken breakpoints for itself.
         breakpoints_taken: bool,
+        /// Whether the processor has execute-only pages, access 4 (EPT; bit 0 of `IA32_VMX_EPT_VPID_CAP`, MSR 0x48C). Without it a
+        /// message that asks for access 4 gets EINVAL, and an image that holds it is refused. `KVMI_GET_VERSION` does not tell it.
+        ///
+        /// ```
+        /// use semblurick::{Access, Refusal, Session, Settings, MESSAGE_OUT};
+        ///
+        /// let has = Settings::allowing_all(1);
+        /// let lacks = has.clone().execute_only(false);
+        /// let mut out = [0; MESSAGE_OUT];
+        ///
+        /// // KVMI_VM_SET_PAGE_ACCESS, seq 7: page 2 of view 0 to r-x, page 3 to --x
+        /// let message = [
+        ///     13, 0, 40, 0, 7, 0, 0, 0, 2, 0, 0, 0, 0, 0, 0, 0, //
+        ///     0, 0x20, 0, 0, 0, 0, 0, 0, 5, 0, 0, 0, 0, 0, 0, 0, //
+        ///     0, 0x30, 0, 0, 0, 0, 0, 0, 4, 0, 0, 0, 0, 0, 0, 0,
+        /// ];
+        ///
+        /// // without it: the reply has EINVAL, -22, and neither entry has acted
+        /// let mut session = Session::fresh(&lacks)?;
+        /// let answer = session.message(&message, &mut out, &mut [])?;
+        /// assert_eq!(answer.bytes(), [13, 0, 8, 0, 7, 0, 0, 0, 0xEA, 0xFF, 0xFF, 0xFF, 0, 0, 0, 0]);
+        /// assert_eq!(session.page_count(), 0);
+        ///
+        /// // with it
+        /// let mut session = Session::fresh(&has)?;
+        /// let answer = session.message(&message, &mut out, &mut [])?;
+        /// assert_eq!(answer.bytes(), [13, 0, 8, 0, 7, 0, 0, 0, 0, 0, 0, 0, 0, 0, 0, 0]);
+        /// assert_eq!((session.page_count(), session.access(0, 3)), (2, Access::X));
+        ///
+        /// // an image that holds such a page is for a host that has them, too
+        /// let mut image = vec![0; session.image_size()];
+        /// session.write_image(&mut image)?;
+        /// assert_eq!(Session::from_image(&lacks, &image).err(), Some(Refusal::Forbidden { offset: 32 }));
+        /// assert_eq!(Session::from_image(&has, &image)?.access(0, 3), Access::X);
+        /// # Ok::<(), Refusal>(())
+        /// ```
+        execute_only: bool,
     }
 
     #[inline]
@@ -103,6 +151,7 @@ impl Settings {
             features: [f.singlestep, f.vmfunc, f.eptp, f.ve, f.spp],
             descriptors: self.descriptors.into(),
             breakpoints_taken: self.breakpoints_taken.into(),
+            execute_only: self.execute_only.into(),
         }
     }
 
@@ -117,6 +166,7 @@ impl Settings {
             features: Features { singlestep, vmfunc, eptp, ve, spp },
             descriptors: raw.descriptors != 0,
             breakpoints_taken: raw.breakpoints_taken != 0,
+            execute_only: raw.execute_only != 0,
         }
     }
 }

@@ -162,6 +162,7 @@ fn a_session_reads_as_names() {
         "CR3",
         "msrs_on: 1",
         "awaits_reply_to: KVMI_EVENT_PAUSE_VCPU",
+        "execute_only: true",
     ] {
         assert!(text.contains(part), "{part} is not in {text}");
     }

@@ -37,10 +37,8 @@ fn send(session: &mut Session, messages: &[Vec<u8>]) {
 fn settings_by_name() {
     let least = Settings::new(3);
     assert_eq!((least.vcpus, least.views, least.commands, least.events), (3, 1, CommandSet::NONE, EventSet::NONE));
-    assert_eq!(
-        (least.tsc_speed, least.features, least.descriptors, least.breakpoints_taken),
-        (0, Features::NONE, false, false)
-    );
+    assert_eq!((least.tsc_speed, least.features), (0, Features::NONE));
+    assert!(!least.descriptors && !least.breakpoints_taken && !least.execute_only);
     assert_eq!(Settings::default(), Settings::new(1));
     assert_eq!(Features::default(), Features::NONE);
     const CHOSEN: Settings = Settings::new(16)
@@ -50,13 +48,20 @@ fn settings_by_name() {
         .tsc_speed(1 << 40)
         .features(Features::NONE.singlestep(2).vmfunc(3).eptp(4).ve(5).spp(255))
         .descriptors(true)
-        .breakpoints_taken(true);
-    let session = Session::fresh(&CHOSEN).unwrap();
-    assert_eq!(session.settings(), CHOSEN);
+        .breakpoints_taken(true)
+        .execute_only(true);
+    // each flag by itself: none stands for another
+    for i in 0..8 {
+        let [descriptors, breakpoints_taken, execute_only] = [1, 2, 4].map(|bit| i & bit != 0);
+        let flags = CHOSEN.descriptors(descriptors).breakpoints_taken(breakpoints_taken).execute_only(execute_only);
+        assert_eq!(Session::fresh(&flags).unwrap().settings(), flags);
+        assert_eq!((flags.descriptors, flags.breakpoints_taken), (descriptors, breakpoints_taken));
+        assert_eq!((flags.execute_only, flags.views), (execute_only, CHOSEN.views));
+    }
     assert_eq!((CHOSEN.views, CHOSEN.commands.bits(), CHOSEN.events.bits()), (8, 1 << 9, !(1 << 10)));
     let all = Settings::allowing_all(2);
     assert_eq!((all.views, all.commands, all.events, all.features), (1, CommandSet::ALL, EventSet::ALL, Features::ALL));
-    assert!(all.descriptors && !all.breakpoints_taken);
+    assert!(all.descriptors && !all.breakpoints_taken && all.execute_only);
     for (vcpus, views) in [(0, 1), (MAX_VCPUS + 1, 1), (1, 0), (1, MAX_VIEWS + 1)] {
         assert_eq!(Session::fresh(&Settings::new(vcpus).views(views)).err(), Some(Refusal::BadSettings));
     }
@@ -336,6 +341,51 @@ fn access_in_letters() {
     let mut session = Session::fresh(&Settings::allowing_all(1)).unwrap();
     send(&mut session, &[access(0, &[(3, 5)])]);
     assert_eq!(format!("{:?}", session.pages()), "[Page { view: 0, page: 3, access: r-x }]");
+}
+
+/// Access 4, and no other, is taken only where the settings have it.
+#[test]
+fn execute_only_pages() {
+    let has = Settings::allowing_all(2).views(2);
+    let lacks = has.clone().execute_only(false);
+    let (mut out, mut guest) = ([0; MESSAGE_OUT], [0; 4096]);
+    for settings in [&has, &lacks] {
+        for bits in 0..=255 {
+            let mut session = Session::fresh(settings).unwrap();
+            let is_taken = matches!(bits, 0 | 1 | 3 | 5 | 7) || bits == 4 && settings.execute_only;
+            let error = session.message(&access(1, &[(9, bits)]), &mut out, &mut guest).unwrap().error();
+            assert_eq!(error, (!is_taken).then_some(Errno::Einval), "access {bits}");
+            assert_eq!(session.access(1, 9), if is_taken { Access::from_bits(bits) } else { Access::RWX });
+            assert_eq!(session.page_count(), usize::from(is_taken && bits != 7));
+        }
+    }
+
+    // before any entry acts, wherever the access stands
+    let mut session = Session::fresh(&lacks).unwrap();
+    send(&mut session, &[access(0, &[(1, 5)])]);
+    for entries in [[(1, 1), (2, 1), (3, 4)], [(1, 4), (2, 1), (3, 1)], [(1, 7), (1, 4), (1, 7)]] {
+        let answer = session.message(&access(0, &entries), &mut out, &mut guest).unwrap();
+        assert_eq!((answer.error(), answer.bytes().len(), answer.signal()), (Some(Errno::Einval), 16, Signal::None));
+        let pages: Vec<_> = session.pages().map(|page| (page.page, page.access.bits())).collect();
+        assert_eq!(pages, [(1, 5)]);
+    }
+
+    // an image: VM, two VCs, and PAs at 28, 42 and 56
+    let mut session = Session::fresh(&has).unwrap();
+    send(&mut session, &[access(0, &[(1, 5), (2, 4)]), access(1, &[(2, 4)])]);
+    let mut image = vec![0; session.image_size()];
+    session.write_image(&mut image).unwrap();
+    assert_eq!(Session::from_image(&has, &image).unwrap().pages().collect::<Vec<_>>(), session.pages().collect::<Vec<_>>());
+    assert_eq!(Session::from_image(&lacks, &image).err(), Some(Refusal::Forbidden { offset: 42 }));
+    assert_eq!(session.load(&lacks, &image), Err(Refusal::Forbidden { offset: 42 }));
+    assert!(session.is_closed() && session.access(0, 2) == Access::RWX);
+    image[42 + 4] = 5;
+    assert_eq!(Session::from_image(&lacks, &image).err(), Some(Refusal::Forbidden { offset: 56 }));
+    // form comes first
+    image[56 + 5] = 1;
+    assert_eq!(Session::from_image(&lacks, &image).err(), Some(Refusal::BadForm { offset: 56 }));
+    (image[56 + 4], image[56 + 5]) = (1, 0);
+    assert_eq!(Session::from_image(&lacks, &image).unwrap().page_count(), 3);
 }
 
 #[test]

@@ -47,6 +47,8 @@ pub struct Hostile {
     pub answers: [[u64; 15]; 9],
     /// By signal of a message.
     pub signals: [u64; 5],
+    /// Messages that ask for execute-only pages, access 4: refused without the flag, and taken with it.
+    pub execute_only: [u64; 2],
     /// By event that was offered: passed over, written.
     pub events: [[u64; 2]; 15],
     /// By lookup: nothing on, something on.
@@ -68,6 +70,7 @@ impl Hostile {
             calls: 0,
             answers: [[0; 15]; 9],
             signals: [0; 5],
+            execute_only: [0; 2],
             events: [[0; 2]; 15],
             lookups: [[0; 2]; 12],
             awaited: None,
@@ -253,8 +256,16 @@ impl Hostile {
             let (input, to, memory) = (s.input(size), s.out(out), s.guest(guest));
             semblurick_raw_message(s.session, s.vcpus, s.pages, input, size, to, out, memory, guest, s.result).into()
         });
-        self.same_out(out, result[0]);
+        let written = self.same_out(out, result[0]);
+        let is_done = written.get(8..12) == Some(&[0; 4]);
+        let is_invalid = written.get(8..12) == Some(&(-22i32).to_le_bytes()[..]);
         self.same_input(&message);
+        let mut entries = message.get(16..).unwrap_or_default().chunks_exact(16);
+        if answer == 0 && message[..2] == [13, 0] && entries.any(|entry| entry[8] == 4) {
+            let has_flag = self.session().flags[7] != 0;
+            assert!(has_flag || !is_done, "an execute-only page without the flag");
+            self.execute_only[usize::from(has_flag)] += u64::from(if has_flag { is_done } else { is_invalid });
+        }
         // SAFETY: the sides are only read.
         let (ours, theirs) = unsafe { (seen(self.end.guest(guest), guest), seen(self.beginning.guest(guest), guest)) };
         assert!(ours == theirs, "the guest's memories differ");

@@ -12,7 +12,11 @@ pub fn session(random: &mut Random) -> Session {
         commands: if random.percent(80) { !0 } else { random.word() as u32 },
         events: if random.percent(80) { !0 } else { random.word() as u32 },
         tsc_speed: word,
-        flags: if random.percent(50) { [1; 8] } else { random.word().to_le_bytes() },
+        flags: match random.below(4) {
+            0 => [0; 8],
+            1 => random.word().to_le_bytes(),
+            _ => [1; 8],
+        },
         vm_events: random.word(),
         pages: match random.below(4) {
             0 => random.word(),

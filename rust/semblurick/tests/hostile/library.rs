@@ -16,6 +16,7 @@ pub struct Session {
     pub commands: u32,
     pub events: u32,
     pub tsc_speed: u64,
+    /// The five features, and then whether descriptor events can be caught, breakpoints are taken, pages can be execute-only.
     pub flags: [u8; 8],
     pub vm_events: u64,
     pub pages: u64,

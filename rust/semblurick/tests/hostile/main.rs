@@ -106,6 +106,9 @@ fn memory_of_any_bits() {
         println!("{count:>9}  signal: {name}");
         assert!(*count > 0, "no message had the signal {name} with seed {seed}");
     }
+    let [refused, taken] = hostile.execute_only;
+    println!("{refused:>9}  execute-only pages: refused without the flag\n{taken:>9}  execute-only pages: taken with it");
+    assert!(refused > 0 && taken > 0, "execute-only pages met only one of both with seed {seed}");
     for event in (1..15).filter(|event| lent::own_size(*event).is_some()) {
         let [over, written] = hostile.events[event as usize];
         println!("{over:>9}  event {event}: passed over\n{written:>9}  event {event}: written");
