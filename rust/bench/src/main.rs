@@ -64,6 +64,7 @@ fn reference_settings() -> reference::Settings {
         features: [1; 5],
         descriptors: true,
         breakpoints: false,
+        execute_only: true,
     }
 }
 

@@ -93,7 +93,8 @@ fn put_settings(f: &mut fmt::Formatter<'_>, s: &Settings) -> fmt::Result {
     write!(f, " vcpus={} views={} commands={:#x} events={:#x} tsc={}", s.vcpus, s.views, s.commands, s.events, s.tsc)?;
     f.write_str(" features=")?;
     put_hex(f, &s.features)?;
-    write!(f, " descriptors={} breakpoints={}", u8::from(s.descriptors), u8::from(s.breakpoints))
+    write!(f, " descriptors={} breakpoints={}", u8::from(s.descriptors), u8::from(s.breakpoints))?;
+    write!(f, " execute_only={}", u8::from(s.execute_only))
 }
 
 fn put_hex(f: &mut fmt::Formatter<'_>, bytes: &[u8]) -> fmt::Result {
@@ -225,6 +226,7 @@ impl<'a> Fields<'a> {
             features: self.hex("features")?.try_into().map_err(|_| "features are not five bytes")?,
             descriptors: self.flag("descriptors")?,
             breakpoints: self.flag("breakpoints")?,
+            execute_only: self.flag("execute_only")?,
         })
     }
 }

@@ -1,5 +1,6 @@
 //! What a run has seen.
 
+use crate::access_counts::AccessCounts;
 use crate::event_counts::{EventCounts, Stands};
 use crate::look::LOOKUPS;
 use crate::{Call, Lookup, Told};
@@ -103,6 +104,7 @@ pub struct Counts {
     closing: [u64; 17],
     signals: [u64; 9],
     events: EventCounts,
+    accesses: AccessCounts,
     refused: [[u64; 2]; 8],
 }
 
@@ -117,12 +119,19 @@ impl Counts {
                 if message.starts_with(&[16, 0]) && matches!(answer, Answer::Handled { .. } | Answer::Closing) {
                     self.events.saw_reply(message, answer, stands);
                 }
+                if message.starts_with(&[13, 0]) && answer.number() == 0 {
+                    self.accesses.saw_message(message, bytes, stands);
+                }
             }
-            Call::Load { image, .. } => self.saw_load(image, answer),
+            Call::Load { settings, image, .. } => {
+                self.saw_load(image, answer);
+                self.accesses.saw_load(settings, image, answer);
+            }
             Call::Enter { .. } => self.events.saw_entry(call, answer, bytes, stands),
             Call::Image { .. } => {
                 self.images_written += 1;
                 self.saw_image(bytes);
+                self.accesses.saw_image(bytes);
             }
             Call::ListReady { records, index } | Call::ListCr { records, index, .. } => {
                 let at = records.get(*index as usize);
@@ -141,9 +150,13 @@ impl Counts {
             }
             Call::Fresh { .. } | Call::Ready { .. } | Call::Look { .. } => {}
         }
-        let begins = matches!(call, Call::Fresh { .. } | Call::Load { keep: true, .. });
-        if answer == Answer::Closing || begins && answer.number() == 0 {
-            self.events.forget();
+        match call {
+            Call::Fresh { settings } | Call::Load { settings, keep: true, .. } if answer.number() == 0 => {
+                self.events.forget();
+                self.accesses.begins(settings);
+            }
+            _ if answer == Answer::Closing => self.events.forget(),
+            _ => {}
         }
     }
 
@@ -255,6 +268,7 @@ impl Counts {
         sum(&mut self.closing, &other.closing);
         sum(&mut self.signals, &other.signals);
         self.events.add(&other.events);
+        self.accesses.add(&other.accesses);
         sum(self.refused.as_flattened_mut(), other.refused.as_flattened());
     }
 
@@ -284,6 +298,7 @@ impl Counts {
         list.extend((0..17).map(|id| (format!("message {id}: closing"), self.closing[id])));
         list.extend(SIGNALS.iter().zip(self.signals).map(|(name, count)| (format!("signal: {name}"), count)));
         list.extend(self.events.wanted());
+        list.extend(self.accesses.wanted());
         for (place, [form, forbidden]) in PLACES.iter().zip(self.refused) {
             list.push((format!("image: bad form at {place}"), form));
             if matches!(*place, "VM" | "VC" | "PA") {

@@ -177,9 +177,12 @@ impl<L: Filter, R: Filter> Player<L, R> {
         let image = self.end(random, &mut guide)?;
         self.runner.counts.longest = self.runner.counts.longest.max(self.runner.counts.messages - before);
 
+        let image = image.unwrap_or_else(|| image::made(random, &guide.settings));
+        self.mutated(random, &guide.settings, &image)?;
+        if random.one_in(4) {
+            self.with_and_without(random, &guide, &image)?;
+        }
         let settings = guide.settings;
-        let image = image.unwrap_or_else(|| image::made(random, &settings));
-        self.mutated(random, &settings, &image)?;
         for _ in 0..8 {
             let call = list::call(&mut self.looks);
             self.call(call)?;
@@ -257,6 +260,32 @@ impl<L: Filter, R: Filter> Player<L, R> {
         Ok(())
     }
 
+    /// The same image, and then the same message on the same tables, with execute-only pages and without.
+    fn with_and_without(&mut self, random: &mut Random, guide: &Guide, image: &[u8]) -> Result<(), Mismatch> {
+        let flags = random.pick(&[[false, true], [true, false]]);
+        let others = match random.below(4) {
+            0 => settings::other(random, &guide.settings),
+            _ => guide.settings.clone(),
+        };
+        let executing = image::executing(random, image, &guide.settings);
+        for execute_only in flags {
+            let settings = Settings { execute_only, ..others.clone() };
+            self.call(Call::Load { settings, keep: false, image: executing.clone() })?;
+        }
+        let tables = image::readable(&match random.below(8) {
+            0 => image::full(random, &guide.settings, 1024),
+            _ => image.to_vec(),
+        });
+        let message = guide.executing(random);
+        for execute_only in flags {
+            let settings = Settings { execute_only, ..guide.settings.clone() };
+            self.call(Call::Load { settings, keep: true, image: tables.clone() })?;
+            self.call(message.clone())?;
+            self.call(Call::Image { room: 0 })?;
+        }
+        Ok(())
+    }
+
     /// The longest image there is, and some like it.
     fn longest(&mut self, random: &mut Random) -> Result<(), Mismatch> {
         self.calls.clear();
@@ -270,8 +299,9 @@ impl<L: Filter, R: Filter> Player<L, R> {
             features: [1; 5],
             descriptors: true,
             breakpoints: false,
+            execute_only: true,
         };
-        let image = image::longest(random);
+        let image = image::longest(random, &settings);
         self.call(Call::Load { settings: settings.clone(), keep: true, image: image.clone() })?;
         for room in [0, -1, 1] {
             self.call(Call::Image { room })?;

@@ -198,6 +198,7 @@ impl Filter for Proved {
             features: [f.singlestep, f.vmfunc, f.eptp, f.ve, f.spp],
             descriptors: told.descriptors,
             breakpoints: told.breakpoints_taken,
+            execute_only: told.execute_only,
         })
     }
 }
@@ -263,6 +264,7 @@ fn wrapped(settings: &Settings) -> semblurick::Settings {
         .features(features)
         .descriptors(settings.descriptors)
         .breakpoints_taken(settings.breakpoints)
+        .execute_only(settings.execute_only)
 }
 
 /// The plain implementation.
@@ -330,6 +332,10 @@ impl Filter for Plain {
 
     fn list_cr(records: &mut [Record], index: usize, cr: u32, on: bool) -> Answer {
         reference::list::set_cr(records, index, cr, on)
+    }
+
+    fn settings(&self) -> Option<Settings> {
+        Some(self.0.settings().clone())
     }
 }
 

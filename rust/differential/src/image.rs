@@ -1,6 +1,6 @@
 //! Images: made, and mutated or cut.
 
-use crate::message::msr;
+use crate::message::{accesses, msr};
 use crate::{Random, Settings};
 
 /// The events that messages 5 and 10 take, as bits.
@@ -46,7 +46,7 @@ pub fn made(random: &mut Random, settings: &Settings) -> Vec<u8> {
         2..12 => 0,
         _ => 1 + random.below(12),
     };
-    pages(random, settings.views.into(), count, &mut image);
+    pages(random, settings, count, &mut image);
     finish(&mut image);
     image
 }
@@ -59,13 +59,13 @@ pub fn full(random: &mut Random, settings: &Settings, count: u64) -> Vec<u8> {
         record[4] = 1;
         image.extend(record);
     }
-    pages(random, settings.views.into(), count, &mut image);
+    pages(random, settings, count, &mut image);
     finish(&mut image);
     image
 }
 
-/// The longest image: every switch on, every page in use.
-pub fn longest(random: &mut Random) -> Vec<u8> {
+/// The longest image: every switch on, every page in use. These settings have all.
+pub fn longest(random: &mut Random, settings: &Settings) -> Vec<u8> {
     let mut image = vm(16, VM_EVENTS);
     for vcpu in 0..16 {
         let mut record = vc(vcpu);
@@ -76,13 +76,13 @@ pub fn longest(random: &mut Random) -> Vec<u8> {
         let msrs = (0..0x2000).chain(0xC000_0000..0xC000_2000);
         msrs.for_each(|msr| image.extend(ms(vcpu, msr)));
     }
-    pages(random, 8, 1024, &mut image);
+    pages(random, settings, 1024, &mut image);
     finish(&mut image);
     image
 }
 
-/// So many pages in so many views, near each other or far.
-fn pages(random: &mut Random, views: u64, count: u64, image: &mut Vec<u8>) {
+/// So many pages that these settings take, near each other or far.
+fn pages(random: &mut Random, settings: &Settings, count: u64, image: &mut Vec<u8>) {
     let base = random.pick(&[0, 5, 1 << 20, (1 << 32) - 50, 1 << 51, (1 << 52) - 3000]);
     let mut pages = std::collections::BTreeSet::new();
     while (pages.len() as u64) < count {
@@ -91,9 +91,10 @@ fn pages(random: &mut Random, views: u64, count: u64, image: &mut Vec<u8>) {
             1 => random.pick(&[0, (1 << 52) - 1, 1 << 51]),
             _ => base + random.below(3000),
         };
-        pages.insert((random.below(views) as u16, page));
+        pages.insert((random.below(settings.views.into()) as u16, page));
     }
-    pages.iter().for_each(|&(view, page)| image.extend(pa(view, random.pick(&[0, 1, 3, 4, 5]), page)));
+    let accesses = accesses(settings);
+    pages.iter().for_each(|&(view, page)| image.extend(pa(view, random.pick(accesses), page)));
 }
 
 fn vm(vcpus: u16, events: u16) -> Vec<u8> {
@@ -183,6 +184,78 @@ pub fn with_vcpus(image: &[u8], vcpus: u16) -> Vec<u8> {
     rest
 }
 
+/// Where each page's record begins, as far as the records are whole.
+pub fn page_starts(image: &[u8]) -> Vec<usize> {
+    starts(image).into_iter().filter(|start| image[*start..].starts_with(b"PA")).collect()
+}
+
+/// The image with 5 in the place of each access 4.
+pub fn readable(image: &[u8]) -> Vec<u8> {
+    let mut image = image.to_vec();
+    for start in page_starts(&image) {
+        if image[start + 4] == 4 {
+            image[start + 4] = 5;
+        }
+    }
+    image
+}
+
+/// An image that these settings take, but for access 4 of one page, of some or of all; it may be at fault too, in one of these
+/// records or elsewhere.
+pub fn executing(random: &mut Random, image: &[u8], settings: &Settings) -> Vec<u8> {
+    let mut image = image.to_vec();
+    if random.one_in(30) {
+        // one page too many
+        image = readable(&full(random, settings, 1025));
+        let last = image.len() - 6 - 14;
+        image[last + 4] = 4;
+        return image;
+    }
+    if page_starts(&image).is_empty() {
+        image.truncate(image.len() - 6);
+        let count = 1 + random.below(6);
+        pages(random, settings, count, &mut image);
+        finish(&mut image);
+    }
+    let Some(start) = execute(random, &mut image) else { return image };
+    match random.below(16) {
+        0 => image[start + 5] = 1 << random.below(8),
+        1 => image[start + 6..start + 14].copy_from_slice(&random.pick(&[1u64 << 52, 1 << 63, u64::MAX]).to_le_bytes()),
+        2 => image[start + 2..start + 4].copy_from_slice(&random.pick(&[8u16, 9, 0x100, 0xFFFF]).to_le_bytes()),
+        // a view that the settings lack
+        3 | 4 => {
+            let view = u64::from(settings.views) + random.below(u64::from(9 - settings.views));
+            image[start + 2..start + 4].copy_from_slice(&(view.min(7) as u16).to_le_bytes());
+        }
+        // the view and the page of the record before
+        5 if start >= 14 && image[start - 14..].starts_with(b"PA") => {
+            image.copy_within(start - 12..start - 10, start + 2);
+            image.copy_within(start - 8..start, start + 6);
+        }
+        // cut behind its access
+        6 => image.truncate(start + 5 + random.index(9)),
+        7..10 => mutate(random, &mut image, settings),
+        _ => {}
+    }
+    image
+}
+
+/// Gives access 4 to one page, some or all; tells where the record of one of them begins.
+fn execute(random: &mut Random, image: &mut [u8]) -> Option<usize> {
+    let starts = page_starts(image);
+    let one = match random.below(4) {
+        0 => *starts.last()?,
+        _ => random.pick(starts.get(..).filter(|starts| !starts.is_empty())?),
+    };
+    let share = random.pick(&[0, 0, 30, 100]);
+    for start in starts {
+        if start == one || random.percent(share) {
+            image[start + 4] = 4;
+        }
+    }
+    Some(one)
+}
+
 /// A mutated image: records edited, swapped, doubled, dropped, added; bytes flipped, cut or appended; sometimes as it was.
 pub fn mutated(random: &mut Random, image: &[u8], settings: &Settings) -> Vec<u8> {
     let mut image = image.to_vec();
@@ -201,7 +274,7 @@ fn mutate(random: &mut Random, image: &mut Vec<u8>, settings: &Settings) {
     }
     let index = chosen(random, image, &starts);
     let (start, stop) = (starts[index], end(image, &starts, index));
-    match random.weighted(&[8, 10, 6, 5, 8, 8, 10, 30, 12, 8, 1]) {
+    match random.weighted(&[8, 10, 6, 5, 8, 8, 10, 30, 12, 8, 6, 1]) {
         // as it was
         0 => {}
         // cut, often at a record's start or next to it
@@ -283,6 +356,9 @@ fn mutate(random: &mut Random, image: &mut Vec<u8>, settings: &Settings) {
                 };
             }
         }
+        10 => {
+            execute(random, image);
+        }
         _ => {
             let length = random.index(40);
             *image = random.bytes(length);
@@ -343,7 +419,7 @@ fn edit(random: &mut Random, image: &mut [u8], start: usize, settings: &Settings
         },
         b"PA" => match random.below(6) {
             0 => put(record, 2, &random.pick(&[0, 1, settings.views as u16, 7, 8, 0x100, 0x8000, 0xFFFF]).to_le_bytes()),
-            1 => record[4] = random.pick(&[0, 1, 2, 3, 4, 5, 6, 7, 8, 0x81, 0xFF]),
+            1 => record[4] = random.pick(&[0, 1, 2, 3, 4, 4, 5, 6, 7, 8, 12, 0x81, 0x84, 0xFF]),
             2 => record[5] = random.pick(&[1, 0x80, 0xFF]),
             3 => put(record, 6, &random.pick(&[0u64, 1, (1 << 52) - 1, 1 << 52, 1 << 63, u64::MAX]).to_le_bytes()),
             4 => put(record, 6, &(random.word() >> 12).to_le_bytes()),

@@ -11,6 +11,7 @@
 
 #![forbid(unsafe_code)]
 
+mod access_counts;
 mod call;
 mod counts;
 pub mod drive;

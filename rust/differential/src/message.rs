@@ -1,7 +1,7 @@
 //! Messages: the fields of each, with values at the edges of their rules, and damage.
 
 use crate::guide::Guide;
-use crate::Random;
+use crate::{Call, Random, Settings};
 
 const PAGE: u64 = 4096;
 
@@ -200,17 +200,20 @@ impl Guide {
             };
             let access = match random.percent(forgetting) {
                 true => 7,
-                false => random.pick(&[0, 1, 3, 4, 5]),
+                false => random.pick(accesses(&self.settings)),
             };
             data.extend((page << 12 | low).to_le_bytes());
             data.extend([access, 0, 0, 0, 0, 0, 0, 0]);
+        }
+        if random.one_in(faulty) {
+            execute(random, &mut data);
         }
         if count > 0 && random.one_in(3 * faulty) {
             let entry = match random.below(2) {
                 0 => count - 1,
                 _ => random.below(count),
             };
-            data[8 + 16 * entry as usize + 8] = random.pick(&[2, 6, 8, 9, 15, 0x17, 0x80, 0x87, 0xFF]);
+            data[8 + 16 * entry as usize + 8] = random.pick(&[2, 6, 8, 9, 12, 15, 0x17, 0x80, 0x84, 0x87, 0xFF]);
         }
         if random.one_in(6 * faulty) {
             // entries that are not whole
@@ -219,6 +222,38 @@ impl Guide {
         }
         data
     }
+
+    /// A message 13 that asks for execute-only pages, whether the host has them or not.
+    pub fn executing(&self, random: &mut Random) -> Call {
+        let mut data = self.pages(random);
+        execute(random, &mut data);
+        Call::message(message(13, 0, &data))
+    }
+}
+
+/// The accesses below rwx that a host has.
+pub fn accesses(settings: &Settings) -> &'static [u8] {
+    match settings.execute_only {
+        true => &[0, 1, 3, 4, 5],
+        false => &[0, 1, 3, 5],
+    }
+}
+
+/// Asks for access 4 in one entry of a message 13, in some or in all.
+fn execute(random: &mut Random, data: &mut [u8]) {
+    let (entries, _) = data[8..].as_chunks_mut::<16>();
+    let last = entries.len().wrapping_sub(1);
+    let one = match random.below(6) {
+        0 => None,
+        1 => {
+            entries.iter_mut().filter(|_| random.one_in(3)).for_each(|entry| entry[8] = 4);
+            return;
+        }
+        2 => Some(0),
+        3 => Some(last),
+        _ => Some(random.index(entries.len().max(1))),
+    };
+    entries.iter_mut().enumerate().filter(|(at, _)| one.is_none_or(|one| one == *at)).for_each(|(_, entry)| entry[8] = 4);
 }
 
 /// Events that are unknown, or not of the message.

@@ -24,6 +24,7 @@ pub fn good(random: &mut Random) -> Settings {
         features: features(random),
         descriptors: random.percent(75),
         breakpoints: random.percent(25),
+        execute_only: random.percent(50),
     }
 }
 
@@ -73,7 +74,7 @@ pub fn bad(random: &mut Random) -> Settings {
 /// Settings that differ in what an image can want.
 pub fn other(random: &mut Random, settings: &Settings) -> Settings {
     let mut other = settings.clone();
-    match random.below(10) {
+    match random.below(11) {
         0 => other.vcpus = (other.vcpus % 16) + 1,
         1 => other.vcpus = random.pick(&[1, 2, 16]),
         2 => other.views = 1 + random.below(8) as u32,
@@ -83,6 +84,7 @@ pub fn other(random: &mut Random, settings: &Settings) -> Settings {
         6 => other.features[0] = 0,
         7 => other.descriptors = false,
         8 => other.breakpoints = true,
+        9 => other.execute_only = !other.execute_only,
         _ => other.commands = set(random),
     }
     other

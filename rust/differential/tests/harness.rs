@@ -2,6 +2,7 @@
 
 use differential::drive::{work, Failure, Quota};
 use differential::event::register;
+use differential::image::page_starts;
 use differential::{
     parse, run, Action, Answer, Call, Counts, Filter, Lookup, Plain, Record, Runner, Settings, Signal, Told, GUEST_ROOM,
     OUT_ROOM, STATE_ROOM,
@@ -130,10 +131,17 @@ impl Filter for Wrong {
 
 const QUOTA: Quota = Quota { messages: 100_000, images: 10_000 };
 
+/// For a fault that shows seldom, such as a wrong size of one event's reply alone.
+const PATIENCE: Quota = Quota { messages: 400_000, images: 40_000 };
+
 /// The fault is found soon, and the list that shows it has few calls, which show it again when read from their text.
 fn found(most: usize, fault: MakeFault) -> Box<Failure> {
+    found_within(QUOTA, most, fault)
+}
+
+fn found_within(quota: Quota, most: usize, fault: MakeFault) -> Box<Failure> {
     FAULT.set(Some(fault));
-    let failure = work::<Wrong, Plain>(1, 0, QUOTA, &AtomicBool::new(false)).err().expect("the fault is found");
+    let failure = work::<Wrong, Plain>(1, 0, quota, &AtomicBool::new(false)).err().expect("the fault is found");
     println!("after {} messages and {} images:\n{failure}", failure.seen.messages, failure.seen.images_read);
     assert!(failure.list.len() <= most, "{} calls, and not at most {most}", failure.list.len());
 
@@ -178,11 +186,15 @@ fn texts_are_read_back() {
         features: [0, 1, 2, 0x80, 0xFF],
         descriptors: false,
         breakpoints: true,
+        execute_only: false,
     };
+    let executing = Settings { execute_only: true, ..settings.clone() };
     let odd = Record { ready: 1, singlestep: 2, crs: 3, events: 4, pauses: 5, awaited: 6, awaited_seq: u64::MAX };
     let calls = [
         Call::Fresh { settings: settings.clone() },
         Call::Load { settings, keep: true, image: vec![0, 0xFF, 0x10] },
+        Call::Fresh { settings: executing.clone() },
+        Call::Load { settings: executing, keep: false, image: Vec::new() },
         Call::Ready { vcpu: u32::MAX },
         Call::Message { out: 0, guest: 1, bytes: Vec::new() },
         Call::Message { out: OUT_ROOM, guest: GUEST_ROOM, bytes: (0..=255).collect() },
@@ -206,7 +218,11 @@ fn texts_are_read_back() {
     ];
     let lines: Vec<String> = calls.iter().map(Call::to_string).collect();
     assert_eq!(parse(&format!("# calls\n\n{}\n", lines.join("\n"))).unwrap(), calls);
+    let settings = "vcpus=1 views=1 commands=0 events=0 tsc=0 features=0000000000 descriptors=0 breakpoints=0";
+    parse(&format!("fresh {settings} execute_only=0")).expect("a line with all settings");
     for line in [
+        &format!("fresh {settings}"),
+        &format!("fresh {settings} execute_only=2"),
         "wake vcpu=0",
         "ready",
         "ready vcpu=-1",
@@ -274,6 +290,10 @@ fn keeps_a_record_at_rwx() {
 /// A fault in messages alone.
 macro_rules! wrong_message {
     ($(#[$doc:meta])* $test:ident, $fault:ident, $most:literal, |$right:ident, $message:ident, $out:ident, $guest:ident| $body:expr) => {
+        wrong_message! { $(#[$doc])* $test, $fault, $most in QUOTA, |$right, $message, $out, $guest| $body }
+    };
+    ($(#[$doc:meta])* $test:ident, $fault:ident, $most:literal in $quota:ident,
+        |$right:ident, $message:ident, $out:ident, $guest:ident| $body:expr) => {
         struct $fault;
 
         impl Fault for $fault {
@@ -285,7 +305,7 @@ macro_rules! wrong_message {
         $(#[$doc])*
         #[test]
         fn $test() {
-            found($most, || Box::new($fault));
+            found_within($quota, $most, || Box::new($fault));
         }
     };
 }
@@ -344,7 +364,8 @@ wrong_message! {
 }
 
 wrong_message! {
-    writes_past_the_count, PastTheCount, 2, |right, message, out, guest| {
+    /// Three calls: a session begins, a vCPU is made ready, and its facts are asked for.
+    writes_past_the_count, PastTheCount, 3, |right, message, out, guest| {
         let result = right.message(message, out, guest);
         if let (Answer::Handled { count: 24, .. }, [8, 0, ..]) = (result.0, message) {
             out[24] = 0;
@@ -408,7 +429,7 @@ wrong_message! {
 }
 
 wrong_message! {
-    takes_a_reply_to_a_cr_without_its_value, CrUnvalued, 6, |right, message, out, guest| {
+    takes_a_reply_to_a_cr_without_its_value, CrUnvalued, 6 in PATIENCE, |right, message, out, guest| {
         match message {
             [16, 0, 16, 0, ..] if message.get(17) == Some(&5) => {
                 let mut message = [message, &[0; 8]].concat();
@@ -484,6 +505,95 @@ wrong_message! {
             message.iter_mut().skip(16 + 7).step_by(16).for_each(|byte| *byte &= 0x7F);
         }
         right.message(&message, out, guest)
+    }
+}
+
+/// The message, with another access in the place of one if it is a message 13; in the entries from this one on.
+fn with_access(message: &[u8], from: u8, to: u8, first: usize) -> Vec<u8> {
+    let mut message = message.to_vec();
+    if message.starts_with(&[13, 0]) {
+        let accesses = message.iter_mut().skip(16 + 8).step_by(16).skip(first);
+        accesses.filter(|access| **access == from).for_each(|access| *access = to);
+    }
+    message
+}
+
+/// What the message would be answered if it asked for access 5 where it asks for 4.
+fn with_5_for_4(right: &Plain, message: &[u8]) -> (Answer, Option<i32>) {
+    right.clone().message(&with_access(message, 4, 5, 0), &mut [0; 4112], &mut [])
+}
+
+wrong_message! {
+    takes_access_4_that_is_not_there, FourTaken, 2, |right, message, out, guest| {
+        match right.0.settings().execute_only {
+            true => right.message(message, out, guest),
+            false => right.message(&with_access(message, 4, 5, 0), out, guest),
+        }
+    }
+}
+
+wrong_message! {
+    /// Access 4 is looked for in the first entry alone.
+    takes_access_4_in_later_entries, FourLater, 2, |right, message, out, guest| {
+        match right.0.settings().execute_only {
+            true => right.message(message, out, guest),
+            false => right.message(&with_access(message, 4, 5, 1), out, guest),
+        }
+    }
+}
+
+wrong_message! {
+    /// Access 5 is refused as 4 is.
+    refuses_access_5_as_well, FiveRefused, 2, |right, message, out, guest| {
+        match right.0.settings().execute_only {
+            true => right.message(message, out, guest),
+            false => right.message(&with_access(message, 5, 4, 0), out, guest),
+        }
+    }
+}
+
+wrong_message! {
+    refuses_access_4_that_is_there, FourRefused, 2, |right, message, out, guest| {
+        match right.0.settings().execute_only {
+            true => right.message(&with_access(message, 4, 2, 0), out, guest),
+            false => right.message(message, out, guest),
+        }
+    }
+}
+
+wrong_message! {
+    /// The low bits of an access alone are looked at.
+    takes_access_12_for_4, TwelveTaken, 2, |right, message, out, guest| {
+        right.message(&with_access(message, 12, 4, 0), out, guest)
+    }
+}
+
+wrong_message! {
+    /// The entries before the one that is refused are applied.
+    applies_entries_before_access_4, BeforeFour, 3, |right, message, out, guest| {
+        let otherwise = with_5_for_4(right, message);
+        match (right.message(message, out, guest), otherwise) {
+            (result @ (_, Some(-22)), (Answer::Handled { .. }, None)) => {
+                let before: Vec<u8> = message[16..].chunks(16).take_while(|entry| entry[8] != 4).flatten().copied().collect();
+                let mut applied = [&message[..16], &before].concat();
+                applied[2..4].copy_from_slice(&(8 + before.len() as u16).to_le_bytes());
+                applied[8..10].copy_from_slice(&(before.len() as u16 / 16).to_le_bytes());
+                right.message(&applied, &mut [0; 4112], guest);
+                result
+            }
+            (result, _) => result,
+        }
+    }
+}
+
+wrong_message! {
+    /// Where the table has no room, that is told.
+    tells_a_full_table_before_access_4, FullFirst, 12, |right, message, out, guest| {
+        let otherwise = with_5_for_4(right, message);
+        match (right.message(message, out, guest), otherwise) {
+            (result @ (Answer::Handled { count: 16, .. }, Some(-22)), (_, Some(-12))) => told(result, out, -12),
+            (result, _) => result,
+        }
     }
 }
 
@@ -767,7 +877,7 @@ wrong_load! {
 
 wrong_load! {
     tests_form_of_all_before_answer_9, FormFirst, |settings, image| {
-        let lenient = Settings { views: 8, events: !0, features: [1; 5], descriptors: true, breakpoints: false, ..settings.clone() };
+        let lenient = Settings { views: 8, events: !0, features: [1; 5], descriptors: true, breakpoints: false, execute_only: true, ..settings.clone() };
         match Plain::load(settings, image) {
             Err(Answer::Forbidden { offset }) => Plain::load(&lenient, image).and(Err(Answer::Forbidden { offset })),
             result => result,
@@ -793,6 +903,113 @@ wrong_load! {
             result => result,
         }
     }
+}
+
+/// Whether the image is refused for access 4 alone, at the record that begins here.
+fn lacks_access_4(settings: &Settings, image: &[u8], offset: usize) -> bool {
+    let nine = Some(Answer::Forbidden { offset });
+    let executing = Settings { execute_only: true, ..settings.clone() };
+    Plain::load(settings, image).err() == nine && Plain::load(&executing, image).err() != nine
+}
+
+wrong_load! {
+    loads_access_4_that_is_not_there, FourLoaded, |settings, image| {
+        match Plain::load(settings, image) {
+            Err(Answer::Forbidden { .. }) => Plain::load(&Settings { execute_only: true, ..settings.clone() }, image),
+            result => result,
+        }
+    }
+}
+
+wrong_load! {
+    /// Access 4 that is not there breaks form.
+    answers_8_to_access_4, EightForFour, |settings, image| {
+        match Plain::load(settings, image) {
+            Err(Answer::Forbidden { offset }) if lacks_access_4(settings, image, offset) => Err(Answer::BadForm { offset }),
+            result => result,
+        }
+    }
+}
+
+wrong_load! {
+    /// Access 4 is looked for before the record's zero byte.
+    answers_9_before_form, NineFirst, |settings, image| {
+        match Plain::load(settings, image) {
+            Err(Answer::BadForm { offset }) if image[offset..].starts_with(b"PA") && image.len() >= offset + 14 => {
+                let mut right = image.to_vec();
+                right[offset + 5] = 0;
+                let nine = lacks_access_4(settings, &right, offset);
+                Err(if nine { Answer::Forbidden { offset } } else { Answer::BadForm { offset } })
+            }
+            result => result,
+        }
+    }
+}
+
+wrong_load! {
+    /// Access 4 is looked for before the record's place among the others.
+    answers_9_before_order, NineBeforeOrder, |settings, image| {
+        match Plain::load(settings, image) {
+            Err(Answer::BadForm { offset }) if image[offset..].starts_with(b"PA") && image.len() >= offset + 14 => {
+                let mut right = image.to_vec();
+                // the last page of the last view
+                right[offset + 2] = settings.views as u8 - 1;
+                right[offset + 6..offset + 14].copy_from_slice(&((1u64 << 52) - 1).to_le_bytes());
+                let nine = lacks_access_4(settings, &right, offset) && image[offset + 13] == 0 && image[offset + 12] < 16;
+                Err(if nine { Answer::Forbidden { offset } } else { Answer::BadForm { offset } })
+            }
+            result => result,
+        }
+    }
+}
+
+wrong_load! {
+    /// Access 5 is refused as 4 is.
+    loads_no_access_5, FiveForbidden, |settings, image| {
+        let right = Plain::load(settings, image)?;
+        match page_starts(image).into_iter().find(|start| image[start + 4] == 5) {
+            Some(offset) if !settings.execute_only => Err(Answer::Forbidden { offset }),
+            _ => Ok(right),
+        }
+    }
+}
+
+wrong_load! {
+    loads_no_access_4_that_is_there, FourForbidden, |settings, image| {
+        let right = Plain::load(settings, image)?;
+        Plain::load(&Settings { execute_only: false, ..settings.clone() }, image).and(Ok(right))
+    }
+}
+
+/// A fault in what a loaded session has.
+macro_rules! wrong_loaded {
+    ($(#[$doc:meta])* $test:ident, $fault:ident, $execute_only:literal) => {
+        struct $fault;
+
+        impl Fault for $fault {
+            fn load(&self, settings: &Settings, image: &[u8]) -> Result<Plain, Answer> {
+                let right = Plain::load(settings, image)?;
+                Ok(Plain::load(&Settings { execute_only: $execute_only, ..settings.clone() }, image).unwrap_or(right))
+            }
+        }
+
+        $(#[$doc])*
+        #[test]
+        fn $test() {
+            let failure = found(2, || Box::new($fault));
+            assert!(matches!(&failure.list[..], [Call::Load { .. }, Call::Message { bytes, .. }] if bytes.starts_with(&[13, 0])));
+        }
+    };
+}
+
+wrong_loaded! {
+    /// A session that an image made has no execute-only pages.
+    forgets_a_setting_when_loaded, LoadedWithout, false
+}
+
+wrong_loaded! {
+    /// A session that an image made has execute-only pages.
+    gains_a_setting_when_loaded, LoadedWith, true
 }
 
 /// A fault in what lookups tell alone.

@@ -106,6 +106,7 @@ mod tests {
             features: [1; 5],
             descriptors: true,
             breakpoints: false,
+            execute_only: true,
         };
         let mut session = Session::fresh(settings).unwrap();
         session.next_seq = u32::MAX;

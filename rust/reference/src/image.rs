@@ -200,6 +200,9 @@ pub(crate) fn read(settings: &Settings, image: &[u8]) -> Result<Standing, Answer
         input.form(last < Some((view, page)))?;
         // "view not below theirs"
         input.allowed(u32::from(view) < settings.views)?;
+        // Document 02, W2: "access 4 without the flag is [...] answer 9 in a PA
+        // record".
+        input.allowed(settings.has_access(access))?;
         standing.pages.set(view, page, access);
         last = Some((view, page));
     }

@@ -3,9 +3,9 @@
 //! kvmi.rst (API version 1) gives the layouts; document 01 gives the numbers,
 //! the order of the tests, the host's answers and the table image, and decides
 //! where kvmi.rst is silent or contradicts itself. Document 02 changes them: of
-//! its requests W1, the other events, is built. Comments quote or name the
-//! sentence that a rule stands for; `NOTES.md` lists the readings of sentences
-//! that are open.
+//! its requests W1, the other events, and W2, execute-only pages, are built.
+//! Comments quote or name the sentence that a rule stands for; `NOTES.md` lists
+//! the readings of sentences that are open.
 //!
 //! * [`Session::message`] takes one message of the tool,
 //! * [`Session::ready`] and [`Session::enter`] are the host's calls,
@@ -27,8 +27,10 @@ mod wire;
 
 pub use lookup::Page;
 pub use session::Session;
+use standing::EXECUTE_ONLY;
 
-/// Document 01, "Settings, and a session's standing": the first paragraph.
+/// Document 01, "Settings, and a session's standing": the first paragraph; and
+/// document 02, W2: "It becomes a settings flag".
 #[derive(Clone, Debug, PartialEq, Eq)]
 pub struct Settings {
     /// vCPU count, 1..=16.
@@ -48,6 +50,8 @@ pub struct Settings {
     pub descriptors: bool,
     /// Whether breakpoints (event 4) are already taken by the host.
     pub breakpoints: bool,
+    /// Whether the processor has execute-only pages, access 4.
+    pub execute_only: bool,
 }
 
 impl Settings {
@@ -77,6 +81,12 @@ impl Settings {
     /// "the singlestep feature (first feature byte 0)" is the lacking one.
     fn singlestep(&self) -> bool {
         self.features[0] != 0
+    }
+
+    /// Document 02, W2: "access 4 is a processor capability"; the other accesses
+    /// every host has. Message 13 and a PA record are refused by this alike.
+    fn has_access(&self, access: u8) -> bool {
+        access != EXECUTE_ONLY || self.execute_only
     }
 }
 

@@ -11,7 +11,7 @@
 //! said stands at rwx. "Closing makes all this fresh".
 
 use crate::standing::{cr_bit, Msr, Vcpu, RWX};
-use crate::Session;
+use crate::{Session, Settings};
 
 /// A page below rwx.
 #[derive(Clone, Copy, Debug, PartialEq, Eq)]
@@ -26,6 +26,12 @@ pub struct Page {
 impl Session {
     fn vcpu(&self, vcpu: u32) -> Option<&Vcpu> {
         self.standing.vcpus.get(usize::try_from(vcpu).ok()?)
+    }
+
+    /// The settings, closed as the session may be: "Settings and guest memory
+    /// are kept."
+    pub fn settings(&self) -> &Settings {
+        &self.settings
     }
 
     /// Whether the session is open.

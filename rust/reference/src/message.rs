@@ -295,6 +295,8 @@ impl Session {
         for entry in entries.clone() {
             // "any access other than 0, 1, 3, 4, 5, 7": "W needs R".
             valid(matches!(entry[8], 0 | 1 | 3 | 4 | 5 | 7))?;
+            // Document 02, W2: "access 4 without the flag is -22 in message 13".
+            valid(self.settings.has_access(entry[8]))?;
             valid(is_zero(&entry[9..16]))?;
         }
         // "Entries of message 13 act in order. [...] Others are applied, later

@@ -16,6 +16,9 @@ pub(crate) const PAGE_LIMIT: usize = 1024;
 /// Access bits: "R 1, W 2, X 4".
 pub(crate) const RWX: u8 = 7;
 
+/// X without R.
+pub(crate) const EXECUTE_ONLY: u8 = 4;
+
 #[derive(Clone, Debug)]
 pub(crate) struct Standing {
     /// The events that message 5 switched on: bit e for event e.

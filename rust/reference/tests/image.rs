@@ -447,6 +447,86 @@ fn form_of_pa() {
     accepted(&wide(), &base(&[pa(0, 1, 6), pa(1, 1, 5), pa(1, 1, 0x100)]));
 }
 
+/// "access 4 without the flag is [...] answer 9 in a PA record", after form and
+/// beside the view.
+#[test]
+fn without_execute_only_pages() {
+    let base = |records: &[Vec<u8>]| {
+        let mut all = vec![vm(1, 2, 0), vc(0, 1, 0, 0, 0), vc(1, 1, 0, 0, 0)];
+        all.extend_from_slice(records);
+        all.push(en(3 + records.len() as u32));
+        all
+    };
+    let without = Settings { execute_only: false, ..wide() };
+    for access in 0..=255 {
+        let records = base(&[pa(0, access, 1)]);
+        match access {
+            0 | 1 | 3 | 5 => accepted(&without, &records),
+            4 => assert_eq!(refused(&without, &records), forbidden(28)),
+            _ => assert_eq!(refused(&without, &records), bad_form(28)),
+        }
+    }
+    // The first of them decides; with the flag all are taken.
+    let several = base(&[pa(0, 5, 1), pa(0, 3, 2), pa(3, 4, 0), pa(3, 4, 1), pa(7, 1, 0)]);
+    assert_eq!(refused(&without, &several), forbidden(56));
+    accepted(&wide(), &several);
+    assert_eq!(refused(&without, &rich()), forbidden(start(&rich(), 9)));
+    accepted(&without, &with(9, pa(1, 5, 0)));
+
+    // Form comes first in the record: its view, its zero byte, its page, its
+    // place.
+    let mut zero = pa(0, 4, 6);
+    zero[5] = 1;
+    for record in [pa(8, 4, 6), zero, pa(0, 4, 1 << 52), pa(0, 4, 5), pa(0, 4, 4)] {
+        let records = base(&[pa(0, 1, 5), record]);
+        assert_eq!(refused(&without, &records), bad_form(42));
+        assert_eq!(refused(&wide(), &records), bad_form(42));
+    }
+    let image = base(&[pa(0, 1, 5), pa(0, 4, 6)]).concat();
+    for length in 43..56 {
+        assert_eq!(load(&without, &image[..length]).err(), Some(bad_form(42)));
+    }
+    for length in 56..=image.len() {
+        assert_eq!(load(&without, &image[..length]).err(), Some(forbidden(42)));
+    }
+    let mut many: Vec<_> = (0..1024).map(|page| pa(0, 1, page)).collect();
+    many.push(pa(0, 4, 1024));
+    assert_eq!(refused(&without, &base(&many)), bad_form(28 + 14 * 1024));
+    many.remove(0);
+    assert_eq!(refused(&without, &base(&many)), forbidden(28 + 14 * 1023));
+
+    // The view is the other reason of answer 9.
+    for (execute_only, views) in [(false, 2), (false, 3), (true, 2)] {
+        let settings = Settings { views, execute_only, ..settings() };
+        assert_eq!(refused(&settings, &base(&[pa(0, 1, 5), pa(2, 4, 6)])), forbidden(42));
+    }
+    // An earlier 8 or 9 goes before, a later one doesn't.
+    let narrow = Settings { views: 1, ..without.clone() };
+    assert_eq!(refused(&narrow, &base(&[pa(0, 4, 5), pa(1, 1, 5)])), forbidden(28));
+    assert_eq!(refused(&narrow, &base(&[pa(0, 1, 5), pa(1, 1, 5), pa(2, 4, 5)])), forbidden(42));
+    for later in [pa(0, 7, 6), pa(0, 1, 5), pa(8, 1, 6), en(0)] {
+        assert_eq!(refused(&without, &base(&[pa(0, 4, 5), later])), forbidden(28));
+    }
+    assert_eq!(refused(&without, &base(&[pa(0, 2, 4), pa(0, 4, 5)])), bad_form(28));
+    let mut records = base(&[pa(0, 4, 5)]);
+    records[1] = vc(0, 3, 0, 0, 0);
+    let lacking = Settings { features: [0; 5], ..without.clone() };
+    assert_eq!(refused(&lacking, &records), forbidden(8));
+    assert_eq!(refused(&Settings { vcpus: 3, ..without.clone() }, &records), forbidden(0));
+    records[1] = vc(0, 5, 0, 0, 0);
+    assert_eq!(refused(&without, &records), bad_form(8));
+
+    // What a session with the flag wrote, and what such a loaded one takes.
+    let mut bench = load(&wide(), &base(&[pa(0, 3, 1)]).concat()).unwrap();
+    let message = page_access(0, &[(2 << 12, 4)]);
+    bench.ok(&message);
+    assert_eq!(load(&without, &bench.image()).err(), Some(forbidden(42)));
+    bench.ok(&page_access(0, &[(2 << 12, 5)]));
+    let mut bench = load(&without, &bench.image()).unwrap();
+    assert_eq!(bench.error(&message), EINVAL);
+    assert_eq!(load(&wide(), &bench.image()).unwrap().error(&message), 0);
+}
+
 #[test]
 fn form_of_en() {
     for count in [0, 11, 13, 12 | 1 << 16, 12 | 1 << 24, u32::MAX] {

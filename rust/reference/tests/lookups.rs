@@ -8,7 +8,8 @@ use reference::{Answer, Page, Session, Settings};
 /// Every switch that messages set is seen, where it was set and nowhere else.
 #[test]
 fn what_stands() {
-    let mut bench = Bench::new(Settings { vcpus: 3, views: 2, ..settings() });
+    let given = Settings { vcpus: 3, views: 2, ..settings() };
+    let mut bench = Bench::new(given.clone());
     for message in [
         vm_event(12, 1),
         vcpu_event(2, 14, 1),
@@ -23,6 +24,7 @@ fn what_stands() {
         bench.ok(&message);
     }
     let check = |session: &Session| {
+        assert_eq!(*session.settings(), given);
         for vcpu in [0, 1, 2, 3, 15, 16, 0x1_0002, u32::MAX] {
             assert_eq!(session.is_ready(vcpu), vcpu < 3);
             assert_eq!(session.singlestep(vcpu), vcpu == 2);
@@ -54,7 +56,7 @@ fn what_stands() {
     };
     check(&bench.session);
     assert_eq!([0, 1, 2, 3].map(|vcpu| bench.session.pauses(vcpu)), [0, 0, 2, 0]);
-    check(&Session::read_image(Settings { vcpus: 3, views: 2, ..settings() }, &bench.image()).unwrap());
+    check(&Session::read_image(given.clone(), &bench.image()).unwrap());
 
     assert_eq!(bench.enter(2, &[0; 536]).0, handled(552));
     assert_eq!([0, 1, 2, 3, 16, u32::MAX].map(|vcpu| bench.session.awaited(vcpu)), [None, None, Some(2), None, None, None]);
@@ -69,6 +71,8 @@ fn what_stands() {
     assert!(!session.cr(2, 3) && !session.msr(2, 0x1FFF) && !session.singlestep(2));
     assert_eq!((session.pauses(2), session.awaited(2), session.page_count()), (0, None, 0));
     assert_eq!((session.access(1, 5), session.page_at(0)), (7, None));
+    // "Settings and guest memory are kept."
+    assert_eq!(*session.settings(), given);
 }
 
 /// "an index at or past its length is answered 4, then 14 is tested": of the

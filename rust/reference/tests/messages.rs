@@ -476,6 +476,78 @@ fn message_13_errors_change_nothing() {
     assert_eq!(bench.image(), before);
 }
 
+/// "access 4 without the flag is -22 in message 13": that value alone, in any
+/// entry, and none acts.
+#[test]
+fn message_13_without_execute_only_pages() {
+    let with_the_flag = Settings { views: 3, ..settings() };
+    let without = Settings { execute_only: false, ..with_the_flag.clone() };
+    let mut bench = Bench::new(without.clone());
+    let (page, other) = (0x5000, 0x6000);
+    bench.ok(&page_access(1, &[(page, 5), (other, 3)]));
+    let before = bench.image();
+    for access in 0..=255 {
+        let expected = match access {
+            0 | 1 | 3 | 5 | 7 => 0,
+            _ => EINVAL,
+        };
+        for entries in [
+            vec![(page, access)],
+            vec![(0, access)],
+            vec![(page, access), (other, 0)],
+            vec![(page, 7), (other, access)],
+            vec![(page, 7), (0, access), (other, 1)],
+            vec![(page, access), (page, access)],
+            // Another entry of the page behind it.
+            vec![(page, access), (page, 7)],
+        ] {
+            let message = page_access(1, &entries);
+            assert_eq!(bench.would(&message), expected, "{entries:?}");
+            if expected != 0 {
+                assert_eq!(bench.error(&message), expected);
+                assert_eq!(bench.image(), before);
+            }
+            let mut flagged = Bench::new(with_the_flag.clone());
+            assert_eq!(flagged.error(&message), if access == 4 { 0 } else { expected });
+        }
+    }
+    // Beside other causes of -22, with the flag and without; and before -12.
+    let spoiled = |at: usize| {
+        let mut message = page_access(0, &[(page, 4), (other, 1)]);
+        message[8 + at] = 1;
+        message
+    };
+    let beside = [
+        page_access(3, &[(page, 4)]),
+        page_access(0, &[(page, 4), (other, 2)]),
+        page_access(0, &[(page, 6), (other, 4)]),
+        page_access_as(1, 0, &[(other, 1), (page, 4)]),
+        page_access_as(2, 0, &[(page, 4)]),
+        spoiled(4),
+        spoiled(17),
+        spoiled(39),
+    ];
+    for message in beside {
+        assert_eq!(bench.error(&message), EINVAL);
+        assert_eq!(Bench::new(with_the_flag.clone()).would(&message), EINVAL);
+    }
+    assert_eq!(bench.image(), before);
+    let full: Vec<_> = (0..1024).map(|number| (number << 12, 1)).collect();
+    for (settings, expected) in [(with_the_flag.clone(), ENOMEM), (without.clone(), EINVAL)] {
+        let mut bench = Bench::new(settings);
+        bench.ok(&page_access(0, &full));
+        let before = bench.image();
+        let message = page_access(0, &[(0, 0), (1024 << 12, 1), (1 << 12, 4)]);
+        assert_eq!(bench.error(&message), expected);
+        assert_eq!(bench.image() == before, expected == EINVAL);
+        assert_eq!(bench.would(&page_access(0, &[(1024 << 12, 4)])), expected);
+        assert_eq!(bench.would(&page_access(0, &[(1024 << 12, 5)])), ENOMEM);
+    }
+    // Tests 2 and 4 come before.
+    let bench = Bench::new(Settings { commands: !(1 << 13), ..without });
+    assert_eq!(bench.would(&page_access(0, &[(page, 4)])), EPERM);
+}
+
 #[test]
 fn message_13_entries() {
     let mut bench = Bench::new(Settings { views: 8, ..settings() });

@@ -141,6 +141,7 @@ fn random_settings(random: &mut Random) -> Settings {
         features: random.next().to_le_bytes()[..5].try_into().unwrap(),
         descriptors: random.once_in(2),
         breakpoints: random.once_in(2),
+        execute_only: random.once_in(2),
     }
 }
 
@@ -221,12 +222,13 @@ fn random_message(random: &mut Random, settings: &Settings, seq: u32) -> Vec<u8>
             let end = if random.once_in(3) { 600 } else { 4 };
             let count = random.below(end);
             let top = random.pick(&[0, 0, 0, 1 << 50, u64::MAX << 23]);
-            let entries: Vec<_> = (0..count)
-                .map(|_| {
-                    let access = random.pick(&[0, 1, 3, 4, 5, 7]);
-                    (top | random.below(2000 << 12), access)
-                })
-                .collect();
+            // Of a host without execute-only pages they are asked half of the
+            // time.
+            let accesses: &[u8] = match settings.execute_only || random.once_in(2) {
+                true => &[0, 1, 3, 4, 5, 7],
+                false => &[0, 1, 3, 5, 7],
+            };
+            let entries: Vec<_> = (0..count).map(|_| (top | random.below(2000 << 12), random.pick(accesses))).collect();
             page_access(random.below(u64::from(settings.views)) as u16, &entries)
         }
         15 => singlestep(vcpu, flag),
@@ -244,6 +246,8 @@ fn random_message(random: &mut Random, settings: &Settings, seq: u32) -> Vec<u8>
 fn lists_of_calls_against_a_book() {
     let mut random = Random(0x5EED);
     let (mut images, mut closings, mut passed_over, mut events) = (0, 0, 0, [0; 15]);
+    // Messages and images refused for access 4 alone.
+    let (mut messages_lacking, mut images_lacking) = (0, 0);
     for _ in 0..120 {
         let settings = random_settings(&mut random);
         let vcpus = settings.vcpus as u16;
@@ -349,6 +353,8 @@ fn lists_of_calls_against_a_book() {
                     };
                     let id = u16::from_le_bytes([message[0], message[1]]);
                     let succeeds = succeeded(&book, &settings, &message);
+                    let with_the_flag = Settings { execute_only: true, ..settings.clone() };
+                    messages_lacking += u32::from(!succeeds && succeeded(&book, &with_the_flag, &message));
                     assert_eq!(matches!(signal, Signal::Kick { .. }), id == 9 && succeeds);
                     assert!(signal == expected || id == 9);
                     let new_mode = (message.get(8) == Some(&1), message.get(10) == Some(&1));
@@ -403,6 +409,15 @@ fn lists_of_calls_against_a_book() {
                     assert_eq!(loaded.write_image(&mut again), handled(image.len()));
                     assert_eq!(again, image);
                     images += 1;
+                    // Without execute-only pages the first page that has access
+                    // 4 is forbidden.
+                    let before = 8 + 10 * usize::from(vcpus) + 8 * book.msrs.len();
+                    let first = book.pages.values().position(|&access| access == 4);
+                    let expected = first.map(|index| Answer::Forbidden { offset: before + 14 * index });
+                    let without_the_flag = Settings { execute_only: false, ..settings.clone() };
+                    assert_eq!(Session::read_image(without_the_flag, &image).err(), expected);
+                    images_lacking += u32::from(expected.is_some());
+                    assert!(settings.execute_only || expected.is_none());
                 }
             } else {
                 assert_eq!(bench.session.write_image(&mut [0; 9]), Answer::Busy);
@@ -411,6 +426,7 @@ fn lists_of_calls_against_a_book() {
         }
     }
     assert!(images > 1000 && closings > 20 && passed_over > 100, "{images} {closings} {passed_over}");
+    assert!(messages_lacking > 50 && images_lacking > 100, "{messages_lacking} {images_lacking}");
     for (event, seen) in events.iter().enumerate() {
         assert_eq!(*seen > 10, matches!(event, 2..=5 | 7..=9 | 11..=14), "event {event} of {events:?}");
     }
@@ -423,7 +439,10 @@ fn well_formed_13(settings: &Settings, message: &[u8]) -> bool {
         && data.len() == 8 + 16 * usize::from(u16::from_le_bytes([data[0], data[1]]))
         && u32::from(u16::from_le_bytes([data[2], data[3]])) < settings.views
         && data[4..8] == [0; 4]
-        && data[8..].chunks(16).all(|entry| [0, 1, 3, 4, 5, 7].contains(&entry[8]) && entry[9..].iter().all(|&byte| byte == 0))
+        && data[8..].chunks(16).all(|entry| {
+            let accesses: &[u8] = if settings.execute_only { &[0, 1, 3, 4, 5, 7] } else { &[0, 1, 3, 5, 7] };
+            accesses.contains(&entry[8]) && entry[9..].iter().all(|&byte| byte == 0)
+        })
 }
 
 /// Whether a message that did not close has no error, said in another way than

@@ -200,6 +200,7 @@ fn told_errors() {
         features: [0; 5],
         descriptors: false,
         breakpoints: true,
+        execute_only: false,
         ..settings()
     });
     let full: Vec<_> = (0..1024).map(|page| (page << 12, 0)).collect();
@@ -222,6 +223,7 @@ fn told_errors() {
         (control_cr(0, 8, 1), EINVAL),
         (control_msr(0, 0x2000, 1), EINVAL),
         (page_access_as(2, 0, &[(0, 1)]), EINVAL),
+        (page_access(0, &[(1 << 12, 7), (0, 4)]), EINVAL),
         (page_access(0, &[(1024 << 12, 1), (0, 7)]), ENOMEM),
         (singlestep(0, 0), EOPNOTSUPP),
         (response(3, 0, 0), EINVAL),
@@ -242,7 +244,7 @@ fn told_errors() {
     // A success takes no seq.
     assert_eq!(bench.send(&vm_event(1, 1)), (handled(0), vec![]));
     let (_, event) = bench.send(&vm_event(4, 1));
-    assert_eq!(event, cmd_error(16, EINVAL, 0, 5));
+    assert_eq!(event, cmd_error(17, EINVAL, 0, 5));
 }
 
 /// Pause events are written with replies off, and share the seq.

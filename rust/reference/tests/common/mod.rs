@@ -20,9 +20,19 @@ pub const fn handled(count: usize) -> Answer {
 }
 
 /// The runner's settings: 2 vCPUs, 1 view, all allowed, all five features 1,
-/// TSC speed 0, descriptor events catchable, breakpoints free.
+/// TSC speed 0, descriptor events catchable, breakpoints free, execute-only pages.
 pub fn settings() -> Settings {
-    Settings { vcpus: 2, views: 1, commands: !0, events: !0, tsc: 0, features: [1; 5], descriptors: true, breakpoints: false }
+    Settings {
+        vcpus: 2,
+        views: 1,
+        commands: !0,
+        events: !0,
+        tsc: 0,
+        features: [1; 5],
+        descriptors: true,
+        breakpoints: false,
+        execute_only: true,
+    }
 }
 
 /// The bytes that these hexadecimal digits stand for.
