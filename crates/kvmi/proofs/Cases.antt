@@ -1,6 +1,7 @@
 -- Document 01's cases P1 to P12 and further edges, each list by one computed statement: a row more adds no proof.
 use mathlib.Core.Path.{_≡_, refl}
 use mathlib.Core.List.{List, map}
+use mathlib.Core.Option.{some}
 use Rattle.wire.specs.Bytes.{le, num, load, store}
 use Rattle.wire.specs.Header.{isWhole, headerOf}
 use Rattle.wire.specs.Code.{twos, codeBytes}
@@ -17,6 +18,7 @@ use Rattle.kvmi.specs.Reply.{messageBytes, replyBytes, replyData, eventB
 use Rattle.kvmi.specs.Record.{kindAt}
 use Rattle.kvmi.specs.Image.{image, vmForm, isIdle, vcForm, msForm, paForm, vmMay, mayEnable, vcMay, paMay, loadImage}
 use Rattle.kvmi.specs.Call.{beginFresh, beginFrom, answering, judged, headed, messageStep, readyStep, sending, pausing, dequeuing, entering, enterStep, imageStep, step}
+use Rattle.kvmi.specs.Batch.{nextLength, refusalOf, goesOn, turnOf, turnsOf, batchBy, usedIn, usedBy, batchStep, usedOn}
 use Rattle.kvmi.specs.Case.{Case, seen, cases}
 use Rattle.kvmi.proofs.Edge.{Edge, outcome}
 use Rattle.kvmi.proofs.MessageEdges.{ofMessages, paddings, paddingsSeen}
@@ -24,6 +26,7 @@ use Rattle.kvmi.proofs.SessionEdges.{ofSessions, lookups, lookupsSeen, 
 use Rattle.kvmi.proofs.EventEdges.{ofEvents}
 use Rattle.kvmi.proofs.ImageEdges.{ofImages, pageLimitLoads, pageLimitSeen}
 use Rattle.kvmi.proofs.ExecuteOnlyEdges.{ofExecuteOnly, limitsLoad, limitsSeen}
+use Rattle.kvmi.proofs.BatchEdges.{BatchEdge, batchOutcome, usedAt, ofBatches, batchCalls, batchCallsSeen}
 
 abbrev Right : List Case → Type 0
 Right cs = map seen cs ≡ map (λ (c : Case). c .expected) cs
@@ -31,9 +34,12 @@ Right cs = map seen cs ≡ map (λ (c : Case). c .expected) cs
 abbrev As-expected : List Edge → Type 0
 As-expected es = map outcome es ≡ map (λ (e : Edge). e .expected) es
 
-computed : Right cases × As-expected ofMessages × As-expected ofSessions × As-expected ofEvents × As-expected ofImages × As-expected ofExecuteOnly
-unfolding le num load store isWhole headerOf twos codeBytes bitOf isOn putBit bitsHave writeRow readRow inRange isSet allowsCommand allowsEvent canSinglestep uncatchable heldByHost hasExecuteOnly isCr crBit isMsr nextSeq layoutOf sizeFits namesVcpu vcpuOf enableAt enables switchesAt eventOf registerOf gpaOf sizeOf countOf countFits viewOf entryOf entriesOf entryPadding padding firstNonZero firstOfRuns firstPadding isVmEvent isVcpuEvent takesEvent vmEventOn eventOn crOn msrIn msrOn eventRowOf offerFits asksFor isAskedFor isAccess takesAccess inOnePage isInvalid isUnready isDenied isUnsupported isBusy pageExists isAbsent changeOf losesErrors commandVerdict isAwaited replyFits eventReplyVerdict verdict isSkipped setPage takeEntry takeEntries setMsr apply messageBytes replyBytes replyData eventBytes pauseEvent commandErrorEvent answerBytes answerSeq answerOf kindAt image vmForm isIdle vcForm msForm paForm vmMay mayEnable vcMay paMay loadImage beginFresh beginFrom answering judged headed messageStep readyStep sending pausing dequeuing entering enterStep imageStep step seen outcome
-computed = (refl, refl, refl, refl, refl, refl)
+abbrev In-one-write : List BatchEdge → Type 0
+In-one-write es = map batchOutcome es ≡ map (λ (e : BatchEdge). some (e .expected)) es
+
+computed : Right cases × As-expected ofMessages × As-expected ofSessions × As-expected ofEvents × As-expected ofImages × As-expected ofExecuteOnly × In-one-write ofBatches × (batchCalls ≡ batchCallsSeen)
+unfolding le num load store isWhole headerOf twos codeBytes bitOf isOn putBit bitsHave writeRow readRow inRange isSet allowsCommand allowsEvent canSinglestep uncatchable heldByHost hasExecuteOnly isCr crBit isMsr nextSeq layoutOf sizeFits namesVcpu vcpuOf enableAt enables switchesAt eventOf registerOf gpaOf sizeOf countOf countFits viewOf entryOf entriesOf entryPadding padding firstNonZero firstOfRuns firstPadding isVmEvent isVcpuEvent takesEvent vmEventOn eventOn crOn msrIn msrOn eventRowOf offerFits asksFor isAskedFor isAccess takesAccess inOnePage isInvalid isUnready isDenied isUnsupported isBusy pageExists isAbsent changeOf losesErrors commandVerdict isAwaited replyFits eventReplyVerdict verdict isSkipped setPage takeEntry takeEntries setMsr apply messageBytes replyBytes replyData eventBytes pauseEvent commandErrorEvent answerBytes answerSeq answerOf kindAt image vmForm isIdle vcForm msForm paForm vmMay mayEnable vcMay paMay loadImage beginFresh beginFrom answering judged headed messageStep readyStep sending pausing dequeuing entering enterStep imageStep step nextLength refusalOf goesOn turnOf turnsOf batchBy usedIn usedBy batchStep usedOn seen outcome batchOutcome usedAt
+computed = (refl, refl, refl, refl, refl, refl, refl, refl)
 
 pub cases-right : Right cases
 cases-right = computed .0
@@ -52,6 +58,12 @@ of-images-right = computed .4
 
 pub of-execute-only-right : As-expected ofExecuteOnly
 of-execute-only-right = computed .5
+
+pub of-batches-right : In-one-write ofBatches
+of-batches-right = computed .6
+
+pub batch-calls-right : batchCalls ≡ batchCallsSeen
+batch-calls-right = computed .7
 
 -- the skip rule
 pub skips-right : skips ≡ skipsSeen

@@ -1,6 +1,7 @@
 -- Edges that a wrong reading would get wrong. An edge is a row as in `Case`, seen whole: its last call's answer, all of its output and guest memory,
 -- the image of the tables after it, and what stands beside them. Here are rows and what they are made of; the rows themselves are in
--- `MessageEdges`, `SessionEdges`, `EventEdges`, `ImageEdges` and `ExecuteOnlyEdges`.
+-- `MessageEdges`, `SessionEdges`, `EventEdges`, `ImageEdges` and `ExecuteOnlyEdges`; those of several messages in one write, which have a form of their
+-- own, in `BatchEdges`.
 use Prim.Native.Nat.{ℕ, _-_, _^_}
 use mathlib.Core.List.{List, [], _∷_, _++_}
 use mathlib.Core.Bool.{Bool, true, false}

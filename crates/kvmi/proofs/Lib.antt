@@ -7,3 +7,4 @@ mod SessionEdges
 mod EventEdges
 mod ImageEdges
 mod ExecuteOnlyEdges
+mod BatchEdges

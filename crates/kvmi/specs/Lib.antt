@@ -17,5 +17,6 @@ pub mod Record
 pub mod Image
 pub mod Valid
 pub mod Call
+pub mod Batch
 pub mod Pauses
 pub mod Case

@@ -1,4 +1,4 @@
-// The makers of answer 0. No other place writes its values out.
+// The makers of answer 0, and the values of any answer. No other place writes them out.
 use crate::Answer;
 use crate::Signal;
 use crate::Values;
@@ -25,4 +25,34 @@ pub fn done() -> Answer
     ensures { λ r. ⌜ paper r ≡ handled 0 Quiet ⌝ }
 {
     wrote(0)
+}
+
+// No bytes, and nothing to do.
+fn quiet() -> Values
+    ensures { λ r. ⌜ (r .count ≡ 0) × (r .signal ≡ Quiet) ⌝ }
+{
+    Values {
+        count: 0,
+        signal: Signal::Quiet,
+    }
+}
+
+// The values of an answer; one that has none of its own wrote nothing and signals nothing.
+pub fn values(a: Answer) -> Values
+    ensures { λ r. ⌜ (r .count ≡ paper a .count) × (r .signal ≡ paper a .signal) ⌝ }
+{
+    match a {
+        Answer::Handled(values) => values,
+        Answer::Closing => quiet(),
+        Answer::Closed => quiet(),
+        Answer::ShortOut => quiet(),
+        Answer::BadVcpu => quiet(),
+        Answer::BadState => quiet(),
+        Answer::Waiting => quiet(),
+        Answer::BadSettings => quiet(),
+        Answer::BadForm { offset: _ } => quiet(),
+        Answer::Forbidden { offset: _ } => quiet(),
+        Answer::Busy => quiet(),
+        Answer::NotApplicable => quiet(),
+    }
 }
