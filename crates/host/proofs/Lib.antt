@@ -1,3 +1,2 @@
-pub mod Lent
-pub mod Stored
+pub mod LentPage
 pub mod Listed

@@ -41,7 +41,7 @@ use Rattle.session.specs.declared.Session.{Session}
 use Rattle.lookup.specs.Lookup.{lookAccess}
 use Rattle.session.proofs.Session as S
 use Rattle.session.proofs.Session.Laws as S′
-use Rattle.host.proofs.Lent.{PageSlot, PageWords}
+use Rattle.calls.proofs.Lent.{PageSlot, PageWords}
 use Rattle.lookup.proofs.access as callee
 use Rattle.lookup.proofs.access.Symbol as callee-def
 use Rattle.lookup.proofs.access.Symbol.{name as #callee}

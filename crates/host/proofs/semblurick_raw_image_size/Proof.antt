@@ -41,7 +41,7 @@ use Rattle.session.specs.declared.Session.{Session}
 use Rattle.calls.specs.Given.{sizeGiven}
 use Rattle.session.proofs.Session as S
 use Rattle.session.proofs.Session.Laws as S′
-use Rattle.host.proofs.Lent.{VcpuWords, VcpuSlot, PageWords, PageSlot}
+use Rattle.calls.proofs.Lent.{VcpuWords, VcpuSlot, PageWords, PageSlot}
 use Rattle.calls.proofs.image_size as callee
 use Rattle.calls.proofs.image_size.Symbol as callee-def
 use Rattle.calls.proofs.image_size.Symbol.{name as #callee}

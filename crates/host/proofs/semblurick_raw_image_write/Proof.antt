@@ -44,7 +44,7 @@ use Rattle.session.specs.declared.Session.{Session}
 use Rattle.calls.specs.Given.{Given as Gives, writeGiven}
 use Rattle.session.proofs.Session as S
 use Rattle.session.proofs.Session.Laws as S′
-use Rattle.host.proofs.Lent.{VcpuWords, VcpuSlot, PageWords, PageSlot, ResultWords, ResultSlot}
+use Rattle.calls.proofs.Lent.{VcpuWords, VcpuSlot, PageWords, PageSlot, ResultWords, ResultSlot}
 use Rattle.calls.proofs.image_write as callee
 use Rattle.calls.proofs.image_write.Symbol as callee-def
 use Rattle.calls.proofs.image_write.Symbol.{name as #callee}

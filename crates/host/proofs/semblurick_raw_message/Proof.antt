@@ -52,8 +52,8 @@ use Rattle.session.proofs.Shared as H′
 use Rattle.session.proofs.Shared.Laws as H″
 use Rattle.session.proofs.Session as S
 use Rattle.session.proofs.Session.Laws as S′
-use Rattle.host.proofs.Lent.{VcpuWords, VcpuSlot, PageWords, PageSlot, ResultWords, ResultSlot}
-use Rattle.host.proofs.Stored.{code-fits, session-is, shared-is, events-fit, pages-fit, opened-fits, mode-fits, seq-fits, stored, unnamed}
+use Rattle.calls.proofs.Lent.{VcpuWords, VcpuSlot, PageWords, PageSlot, ResultWords, ResultSlot}
+use Rattle.calls.proofs.Stored.{code-fits, session-is, shared-is, events-fit, pages-fit, opened-fits, mode-fits, seq-fits, stored, unnamed}
 use Rattle.calls.proofs.Returned as D
 use Rattle.calls.proofs.Returned.Laws as D′
 use Rattle.calls.proofs.message as callee

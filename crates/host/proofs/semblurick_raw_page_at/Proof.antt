@@ -42,7 +42,8 @@ use Rattle.kvmi.specs.Tables.{Page}
 use Rattle.lookup.specs.Lookup.{numbersOf, lookPage}
 use Rattle.session.proofs.Session as S
 use Rattle.session.proofs.Session.Laws as S′
-use Rattle.host.proofs.Lent.{PageNumbers, PageNumbersSlot, PageSlot, PageWords}
+use Rattle.calls.proofs.Lent.{PageSlot, PageWords}
+use Rattle.host.proofs.LentPage.{PageNumbers, PageNumbersSlot}
 use Rattle.lookup.proofs.page_at as callee
 use Rattle.lookup.proofs.page_at.Symbol as callee-def
 use Rattle.lookup.proofs.page_at.Symbol.{name as #callee}

@@ -50,8 +50,8 @@ use Rattle.session.proofs.Shared as H′
 use Rattle.session.proofs.Shared.Laws as H″
 use Rattle.session.proofs.Session as S
 use Rattle.session.proofs.Session.Laws as S′
-use Rattle.host.proofs.Lent.{ResultWords, ResultSlot}
-use Rattle.host.proofs.Stored.{code-fits, session-is, shared-is, stored, unnamed}
+use Rattle.calls.proofs.Lent.{ResultWords, ResultSlot}
+use Rattle.calls.proofs.Stored.{code-fits, session-is, shared-is, stored, unnamed}
 use Rattle.calls.proofs.Returned as D
 use Rattle.calls.proofs.Returned.Laws as D′
 use Rattle.calls.proofs.ready as callee

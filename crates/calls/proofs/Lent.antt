@@ -5,13 +5,12 @@ use denote.Builtin.{u64, Array, ArrayOf}
 use denote.Signature.{Slot, plain}
 use Rattle.store.specs.Words.{vcpuWordCount}
 use Rattle.page_words.specs.PageWords.{pageWordCount}
 use Rattle.calls.specs.Given.{resultWordCount}
-use Rattle.lookup.specs.Lookup.{pageNumberCount}
 
-abbrev Words : ℕ → RattleType
+abbrev pub Words : ℕ → RattleType
 Words count = Array u64 tt count
 
-abbrev WordsSlot : ℕ → {n : ℕ} → Slot n
+abbrev pub WordsSlot : ℕ → {n : ℕ} → Slot n
 WordsSlot count = ArrayOf (plain (λ _. u64)) (λ _. tt) count
 
 abbrev pub VcpuWords : RattleType
@@ -31,9 +30,3 @@ ResultWords = Words resultWordCount
 
 abbrev pub ResultSlot : {n : ℕ} → Slot n
 ResultSlot = WordsSlot resultWordCount
-
-abbrev pub PageNumbers : RattleType
-PageNumbers = Words pageNumberCount
-
-abbrev pub PageNumbersSlot : {n : ℕ} → Slot n
-PageNumbersSlot = WordsSlot pageNumberCount
