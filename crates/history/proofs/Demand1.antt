@@ -34,6 +34,7 @@ use Rattle.entry.specs.Entry.{enteredOf, enterOf}
 use Rattle.image_writer.specs.Write.{statedVcpus, statedTables, imageOf}
 use Rattle.image_reader.specs.Read.{toldLoaded, readOf}
 use Rattle.refine.specs.Frames.{Refuses, Past}
+use Rattle.history.proofs.BatchAnswers.{batch-answers}
 use Rattle.history.specs.Demand1.{Answers, OneOf, Closed, Open, IsVcpu, NoVcpu, offers, ownLength, Offer, Lent, Awaits, AwaitsAny, imageLength, InRange, saidOf, RuleCloses, FreshAnswers, ReadyAnswers, MessageAnswers, EntryAnswers, WriterAnswers, ReaderAnswers, Demand1}
 use Rattle.wire.proofs.Laws.{le-or-lt}
 use Rattle.laws.proofs.Bool.{and-l, and-r, either, or-l, or-r, test, clash, same-test, among-every}
@@ -426,4 +427,4 @@ module _ (s : Settings) (l vcpus pages : List ℕ) where
 -- ---- demand 1
 pub demand-1 : Demand1
 demand-1 =
-    record { fresh = fresh-answers; ready = ready-answers; message = message-answers; enter = enter-answers; writeImage = image-answers; readImage = read-answers }
+    record { fresh = fresh-answers; ready = ready-answers; message = message-answers; batch = batch-answers; enter = enter-answers; writeImage = image-answers; readImage = read-answers }

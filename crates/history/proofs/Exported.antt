@@ -18,6 +18,7 @@ use Rattle.session.specs.Calls.{Told, toldSame, toldWritten, readyOf}
 use Rattle.session.specs.Meaning.{awaitedOf}
 use Rattle.entry.specs.Entry.{sentOf, enteredOf, enterOf}
 use Rattle.image_writer.specs.Write.{statedVcpus, statedTables, imageOf}
+use Rattle.host_batch.specs.Given.{batchGiven}
 use Rattle.calls.specs.Given.{given, freshGiven, readyGiven, messageGiven, enterGiven, sizeGiven, writeGiven, readGiven}
 use Rattle.history.specs.History.{stepOf, afterOf}
 use Rattle.history.specs.Exported.{OnSession, OnVcpus, Exported}
@@ -108,13 +109,14 @@ image-keeps st out =
 
 -- ---- call by call
 pub exported : Exported
-unfolding stepOf freshGiven readyGiven messageGiven enterGiven sizeGiven writeGiven readGiven
+unfolding stepOf freshGiven readyGiven messageGiven batchGiven enterGiven sizeGiven writeGiven readGiven
 exported =
     record {
       fresh = λ s vcpus pages. refl;
       readImage = λ s vcpus pages l. refl;
       ready = λ st vcpu few. ready-same st vcpu few;
       message = λ st msg out guest. refl;
+      batch = λ st input out signals guest. refl;
       enter = λ st vcpu block event own out few. enter-same st vcpu block event own out few;
       writeImage = λ st out. record { all = refl; state = image-keeps st out };
       imageSize = λ st. refl;

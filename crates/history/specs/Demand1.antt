@@ -1,7 +1,7 @@
 -- Demand 1: "Every call takes whatever bytes and numbers it is given, asks nothing of its caller, ends, and never reads or writes out of place. Each
 -- refusal has one number and one condition, and what it leaves in the tables and in the lent memory is fixed."
--- The first sentence is in the promises of the code: they ask nothing, and say that the calls equal `freshOf`, `readyOf`, `messageOf`, `enterOf`,
--- `imageOf` and `readOf`, which are total. The second is said here of these, for any session, words, bytes and numbers whatever, well formed or not:
+-- The first sentence is in the promises of the code: they ask nothing, and say that the calls equal `freshOf`, `readyOf`, `messageOf`, `batchOf`,
+-- `enterOf`, `imageOf` and `readOf`, which are total. The second is said here of these, for any session, words, bytes and numbers whatever, well formed or not:
 -- which numbers a call answers with, each refusal's number exactly if its condition holds, behind those that are tested before it, and what it leaves.
 -- An answer has one number, so that of one call's conditions no two hold.
 use mathlib.Core.Path.{_≡_}
@@ -21,11 +21,13 @@ use Rattle.kvmi.specs.Limits.{leastOut, eventOut, stateBytes}
 use Rattle.kvmi.specs.Model.{awaitedBy, isSome}
 use Rattle.kvmi.specs.Message.{vcpuOf}
 use Rattle.kvmi.specs.Verdict.{verdict}
+use Rattle.kvmi.specs.Batch.{Batch, isResume, atStart, goesOn}
 use Rattle.kvmi.specs.Image.{image, badForm, forbidden, loadImage}
 use Rattle.session.specs.State.{State, closedSession}
 use Rattle.session.specs.Calls.{Told, toldClosing, freshOf, readyOf}
 use Rattle.session.specs.Meaning.{modelOf}
 use Rattle.message.specs.Message.{factsIn, messageOf}
+use Rattle.batch.specs.Batch.{batchOf}
 use Rattle.entry.specs.Entry.{enterOf}
 use Rattle.image_writer.specs.Write.{statedTables, imageOf}
 use Rattle.image_reader.specs.Read.{readOf}
@@ -136,6 +138,36 @@ pub record MessageAnswers (st : State) (msg out guest : List ℕ) (r : Told) : T
   -- "After answers 0 and 1, output past the count is untouched."
   pub past : Past out r
 
+-- ---- W3, "Refusals, tested first, for an empty batch too: closed 2, short output 3, a list with no place 11"
+-- what was lent, output or list, is untouched past a count
+pub record PastCount (lent : List ℕ) (count : ℕ) (left : List ℕ) : Type 0 where
+  pub inside : count ≤ length lent
+  pub long : length left ≡ length lent
+  pub rest : drop count left ≡ drop count lent
+
+pub record BatchAnswers (st : State) (input out signals guest : List ℕ) (b : Batch State) : Type 0 where
+  pub numbers : So (among (b .number) (0 ∷ 1 ∷ 2 ∷ 3 ∷ 11 ∷ []))
+  -- "closed 2"
+  pub closed : (b .number ≡ 2) ↔ Closed st
+  -- "short output 3"
+  pub short : (b .number ≡ 3) ↔ (Open st × (length out < leastOut))
+  -- "a list with no place 11"
+  pub noPlace : (b .number ≡ 11) ↔ (Open st × (leastOut ≤ length out) × (length signals ≡ 0))
+  -- "none": nothing is used, written, listed or handed back, and nothing changes
+  pub refused : 2 ≤ b .number → b ≡ atStart (b .number) st out signals guest
+  pub output : PastCount out (b .count) (b .out)
+  -- "A lent list past its count is untouched"
+  pub list : PastCount signals (b .listed) (b .signals)
+  -- what is used lies inside; one that is not refused and has input uses some, so that a host that calls again with the rest gets on
+  pub inside : b .used ≤ length input
+  pub some : b .number < 2 → 0 < length input → 0 < b .used
+  -- "a closing message gives answer 1": the session is then closed; under 0 it is open, and a resume is handed back under 0 alone
+  pub closes : b .number ≡ 1 → Closed (b .state)
+  pub opened : b .number ≡ 0 → Open (b .state)
+  pub resumes : isResume (b .resume) ≡ true → b .number ≡ 0
+  -- it ends for one of W3's reasons
+  pub ends : goesOn input b ≡ false
+
 -- ---- "entry 2, 4, 5, 3, 6"
 pub record EntryAnswers (st : State) (vcpu : ℕ) (block : List ℕ) (event : ℕ) (own out : List ℕ) (r : Told) : Type 0 where
   pub numbers : OneOf (0 ∷ 2 ∷ 3 ∷ 4 ∷ 5 ∷ 6 ∷ []) r
@@ -186,6 +218,7 @@ pub record Demand1 : Type 0 where
   pub fresh : (s : Settings) (vcpus pages : List ℕ) → FreshAnswers s vcpus pages (freshOf s vcpus pages)
   pub ready : (st : State) (vcpu : ℕ) → ReadyAnswers st vcpu (readyOf st vcpu)
   pub message : (st : State) (msg out guest : List ℕ) → MessageAnswers st msg out guest (messageOf st msg out guest)
+  pub batch : (st : State) (input out signals guest : List ℕ) → BatchAnswers st input out signals guest (batchOf st input out signals guest)
   pub enter : (st : State) (vcpu : ℕ) (block : List ℕ) (event : ℕ) (own out : List ℕ) → EntryAnswers st vcpu block event own out (enterOf st vcpu block event own out)
   pub writeImage : (st : State) (out : List ℕ) → WriterAnswers st out (imageOf st out)
   pub readImage : (s : Settings) (l vcpus pages : List ℕ) → ReaderAnswers s l vcpus pages (readOf s l vcpus pages)

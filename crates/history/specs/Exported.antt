@@ -1,7 +1,8 @@
--- The exported calls are those that the demands speak of. The promises of `calls` and `host` say that an exported call gives what `freshGiven`,
--- `readyGiven` and the others of calls/specs/Given say, of the session and the words that it is lent. Here: that is what the call on the whole state
--- gives, which is `stepOf` in a list of calls, and `freshOf` or `readOf` where a session begins. Said of any session whatever, well formed or not; of a
--- ready mark and an entry, where a vCPU number past u16 is taken as 65,535, if the settings have no more vCPUs than that.
+-- The exported calls are those that the demands speak of. The promises of `calls`, `host` and `host_batch` say that an exported call gives what
+-- `freshGiven`, `readyGiven` and the others of calls/specs/Given and host_batch/specs/Given say, of the session and the words that it is lent. Here: that
+-- is what the call on the whole state gives, which is `stepOf` in a list of calls, `batchOf` for a batch, and `freshOf` or `readOf` where a session
+-- begins. Said of any session whatever, well formed or not; of a ready mark and an entry, where a vCPU number past u16 is taken as 65,535, if the
+-- settings have no more vCPUs than that.
 use mathlib.Core.Path.{_≡_}
 use Prim.Native.Nat.{ℕ, _≤_}
 use mathlib.Core.List.{List}
@@ -13,6 +14,8 @@ use Rattle.session.specs.State.{State}
 use Rattle.session.specs.Calls.{Told, freshOf}
 use Rattle.image_reader.specs.Read.{readOf}
 use Rattle.calls.specs.Given.{Given, given, freshGiven, readyGiven, messageGiven, enterGiven, sizeGiven, writeGiven, readGiven}
+use Rattle.batch.specs.Batch.{batchOf}
+use Rattle.host_batch.specs.Given.{givenBatch, batchGiven}
 use Rattle.history.specs.History.{stepOf, afterOf, BeganOn}
 use Rattle.history.specs.Demand1.{imageLength}
 
@@ -44,6 +47,8 @@ pub record Exported : Type 0 where
   pub ready : (st : State) (vcpu : ℕ) → st .session .settings .vcpus ≤ 65535 → OnSession st (readyGiven (st .session) vcpu) (stepOf st (ready vcpu))
   pub message : (st : State) (msg out guest : List ℕ)
       → messageGiven (st .session) (st .vcpus) (st .pages) msg out guest ≡ given (stepOf st (message msg out guest))
+  pub batch : (st : State) (input out signals guest : List ℕ)
+      → batchGiven (st .session) (st .vcpus) (st .pages) input out signals guest ≡ givenBatch (batchOf st input out signals guest)
   pub enter : (st : State) (vcpu : ℕ) (block : List ℕ) (event : ℕ) (own out : List ℕ) → st .session .settings .vcpus ≤ 65535
       → OnVcpus st (enterGiven (st .session) (st .vcpus) vcpu block event own out) (stepOf st (enter vcpu block event own out))
   pub writeImage : (st : State) (out : List ℕ) → OnOutput st (writeGiven (st .session) (st .vcpus) (st .pages) out) (stepOf st (writeImage out))

@@ -8,3 +8,4 @@ pub mod Carried
 pub mod Pauses
 pub mod Events
 pub mod ExecuteOnly
+pub mod Batches
