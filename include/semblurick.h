@@ -15,9 +15,10 @@
  *         answer = semblurick_message(&guest, msg, msg_size, semblurick_output_of(out, sizeof out),
  *                                     semblurick_memory_of(memory, memory_size), &r);
  *         answer 0: the switches and pages that it names, by lookups, to hardware; where r.signal is a kick, get vCPU r.vcpu out
- *             of the guest, with r.wait set before anything is sent; where it is a resume, let vCPU r.vcpu go on; send the first
- *             r.count bytes of out to the tool
+ *             of the guest, with r.wait set before anything is sent; send the first r.count bytes of out to the tool; where
+ *             r.signal is a resume, let vCPU r.vcpu go on
  *         answer 1: the session is closed; take every guard off the guest, let the vCPUs that wait go on, and end the connection
+ *     or for several messages that came at once: semblurick_batch
  *     before a vCPU enters the guest: semblurick_enter; where it left it for what the tool may watch, a write to CR3 for one, before
  *     that is carried out: semblurick_enter_event
  *     to hand the guest to a new host: semblurick_image_write here, semblurick_image_read there
@@ -27,21 +28,22 @@
  * memory, see struct semblurick_memory). Calls on different guests may run at the same time. Whatever bits stand in the memory
  * that is lent, every call ends, reads and writes nothing else, and gives an answer that is fixed by what it was given.
  *
- * Link with libsemblurick.a (x86-64; ./install puts it in place). C11 and C++11. Define SEMBLURICK_NO_KVMI_NAMES before the include
- * where another header has KVMI's names already.
+ * Link with libsemblurick.a (x86-64; ./library makes it, ./install puts it in place). C11 and C++11. Define
+ * SEMBLURICK_NO_KVMI_NAMES before the include where another header has KVMI's names already.
  */
 #ifndef SEMBLURICK_H
 #define SEMBLURICK_H
 
 /* Grows by one where names are added. Each section, or a name itself, says since which version it is there. A name that is there
  * stays, means what it meant, and what compiled with it compiles again, but that the semblurick_raw_ functions may get more
- * arguments. Structs may get more members, but for struct semblurick_result: compile with the header that came with the library.
+ * arguments. Structs may get more members, but for the two results: compile with the header that came with the library.
  * Enums may get more values: a switch over one has a default. Sizes may grow: buffers are made by their names.
  *
  * What a host that is compiled anew has to look at. Since 2: an entry's output takes 576 bytes. Since 3: access 4, execute only, is
  * refused unless the settings have execute_only, which SEMBLURICK_SETTINGS leaves 0: EINVAL in message 13, answer 9 to an image that
- * holds it. Before, it was taken. A host whose processor has execute-only pages (EPT; bit 0 of IA32_VMX_EPT_VPID_CAP) sets it to 1. */
-#define SEMBLURICK_VERSION 3
+ * holds it. Before, it was taken. A host whose processor has execute-only pages (EPT; bit 0 of IA32_VMX_EPT_VPID_CAP) sets it to 1.
+ * Since 4: nothing. */
+#define SEMBLURICK_VERSION 4
 
 #include <stdbool.h>
 #include <stddef.h>
@@ -83,7 +85,7 @@ enum {
     SEMBLURICK_HEADER_BYTES = 8,      /* a message's header */
     SEMBLURICK_MESSAGE_MAX = 65543,   /* the longest message that a header can state: 8 + 65,535 bytes */
     SEMBLURICK_EVENT_MAX = 576,       /* the longest event, header included: that of a CR or an MSR (in version 1: 568) */
-    SEMBLURICK_MESSAGE_OUT = 4112,    /* the least output for a message */
+    SEMBLURICK_MESSAGE_OUT = 4112,    /* the least output for a message, and for each message of a batch */
     SEMBLURICK_ENTRY_OUT = 576,       /* the least output for an entry, whatever it offers (in version 1: 552) */
     SEMBLURICK_STATE_BYTES = 536,     /* a vCPU's register block */
     SEMBLURICK_IMAGE_MAX = 2111662,   /* the longest image: 14 + 10 * 16 + 8 * 262,144 + 14 * 1,024 bytes */
@@ -93,11 +95,11 @@ enum {
 
 /* ---- answers (since 1) */
 
-/* Every call is answered with one of these. From 2 on they are refusals: nothing changes in session, output or guest memory, but
+/* Every call is answered with one of these. From 2 on they are refusals: nothing changes in session, output, list or guest memory, but
  * that semblurick_fresh and semblurick_image_read then leave a closed session. */
 SEMBLURICK_U32_ENUM(semblurick_answer) {
     SEMBLURICK_HANDLED = 0,        /* result: count, and signal with vcpu, and wait or action and value */
-    SEMBLURICK_CLOSING = 1,        /* the message broke a rule that closes the session; nothing was written, no event is awaited */
+    SEMBLURICK_CLOSING = 1,        /* the message broke a rule that closes the session; it wrote nothing, no event is awaited */
     SEMBLURICK_CLOSED = 2,         /* the session was closed */
     SEMBLURICK_SHORT_OUT = 3,      /* the output is too small */
     SEMBLURICK_BAD_VCPU = 4,       /* the vCPU is not below the count */
@@ -108,6 +110,7 @@ SEMBLURICK_U32_ENUM(semblurick_answer) {
     SEMBLURICK_BAD_FORM = 8,       /* the image breaks a rule; result: offset */
     SEMBLURICK_FORBIDDEN = 9,      /* the image wants what the settings lack (since 3 also execute_only, for access 4); result: offset */
     SEMBLURICK_BUSY = 10,          /* an event reply is awaited, so that there is no image */
+    SEMBLURICK_NO_PLACE = 11,      /* since 4, semblurick_batch: the list of signals has no place */
     SEMBLURICK_NOT_APPLICABLE = 14 /* semblurick_list_cr: a CR other than 0, 3 and 4, or a record that is not ready */
 };
 SEMBLURICK_ASSERT(sizeof(enum semblurick_answer) == 4);
@@ -118,6 +121,12 @@ enum semblurick_signal {
     SEMBLURICK_KICK = 1,  /* get vcpu out of the guest: a pause is queued for it. With wait set, it is out before anything more is sent */
     SEMBLURICK_CRASH = 2, /* the tool asks that vcpu, and so the guest, be crashed; the session stays open */
     SEMBLURICK_RESUME = 3 /* since 2: vcpu goes on from its event, by action and value (semblurick_enter_event); from a pause: none */
+};
+
+/* The signals in the list of a batch (since 4): a number for each kick and each crash, which semblurick_listed_signal reads. */
+enum semblurick_listed {
+    SEMBLURICK_LISTED_KICK = 256, /* + 2 * vcpu + wait: 256 to 287 */
+    SEMBLURICK_LISTED_CRASH = 512 /* + vcpu: 512 to 527 */
 };
 
 /* The values of an answer; what an answer has none of is 0. Every call that takes a result writes all of it. Its size is final:
@@ -133,6 +142,21 @@ struct semblurick_result {
     uint64_t reserved[5];
 };
 SEMBLURICK_ASSERT(sizeof(struct semblurick_result) == 96);
+
+/* The values of a batch (since 4), likewise: what it has none of is 0, all of it is written, its size is final. */
+struct semblurick_batch_result {
+    uint64_t used;    /* bytes of the input: those of the messages that were taken */
+    uint64_t count;   /* bytes written to the output, of all of them, end to end; the rest of it is untouched */
+    uint64_t listed;  /* signals written to the list; the rest of it is untouched */
+    uint64_t signal;  /* SEMBLURICK_RESUME where the last message that was used is a resume; else SEMBLURICK_NONE */
+    uint64_t vcpu;    /* of the resume */
+    uint64_t action;  /* of the resume, as in struct semblurick_result */
+    uint64_t value;
+    uint64_t reserved[5];
+};
+SEMBLURICK_ASSERT(sizeof(struct semblurick_batch_result) == 96);
+SEMBLURICK_ASSERT(offsetof(struct semblurick_batch_result, listed) == 16 && offsetof(struct semblurick_batch_result, signal) == 24);
+SEMBLURICK_ASSERT(offsetof(struct semblurick_batch_result, reserved) == 56);
 
 /* ---- settings (since 1) */
 
@@ -214,6 +238,12 @@ struct semblurick_output {
     size_t size;
 };
 
+/* Where a batch lists its signals (since 4). */
+struct semblurick_signals {
+    uint32_t *codes;
+    size_t size;  /* how many, not bytes */
+};
+
 /* The guest's physical memory, one run of bytes from address 0; a page of 4,096 bytes exists if it lies wholly inside. Only
  * KVMI_VM_READ_PHYSICAL and KVMI_VM_WRITE_PHYSICAL touch it, the bytes that they name and no others; any other message may be lent
  * semblurick_no_memory(). No answer and no table depends on what stands in it: where vCPUs or devices write to it while a call runs,
@@ -226,6 +256,11 @@ struct semblurick_memory {
 static inline struct semblurick_output semblurick_output_of(void *bytes, size_t size) {
     struct semblurick_output out = {SEMBLURICK_CAST(uint8_t *, bytes), size};
     return out;
+}
+
+static inline struct semblurick_signals semblurick_signals_of(uint32_t *codes, size_t size) {
+    struct semblurick_signals signals = {codes, size};
+    return signals;
 }
 
 static inline struct semblurick_memory semblurick_memory_of(void *bytes, size_t size) {
@@ -256,6 +291,12 @@ SEMBLURICK_CHECKED enum semblurick_answer semblurick_raw_message(struct sembluri
                                                                  struct semblurick_pages *pages, const uint8_t *msg, size_t msg_size,
                                                                  uint8_t *out, size_t out_size, uint8_t *memory, size_t memory_size,
                                                                  struct semblurick_result *result);
+/* since 4 */
+SEMBLURICK_CHECKED enum semblurick_answer semblurick_raw_batch(struct semblurick_session *session, struct semblurick_vcpus *vcpus,
+                                                               struct semblurick_pages *pages, const uint8_t *input, size_t input_size,
+                                                               uint8_t *out, size_t out_size, uint32_t *signals, size_t signals_size,
+                                                               uint8_t *memory, size_t memory_size,
+                                                               struct semblurick_batch_result *result);
 SEMBLURICK_CHECKED enum semblurick_answer semblurick_raw_enter(struct semblurick_session *session, struct semblurick_vcpus *vcpus,
                                                                uint32_t vcpu, const uint8_t *state, size_t state_size, uint32_t event,
                                                                const uint8_t *own, size_t own_size, uint8_t *out, size_t out_size,
@@ -321,6 +362,75 @@ SEMBLURICK_CHECKED static inline enum semblurick_answer semblurick_message(struc
                                                                            struct semblurick_result *result) {
     return semblurick_raw_message(&guest->session, &guest->vcpus, &guest->pages, SEMBLURICK_CAST(const uint8_t *, msg), msg_size,
                                   out.bytes, out.size, memory.bytes, memory.size, result);
+}
+
+/* Since 4. Takes several messages of the tool that stand end to end, as one write of it may have them: replies off, a hundred pages
+ * guarded, replies on. Session, tables and the bytes of guest memory are then as if semblurick_message had taken the used messages one
+ * by one; what they wrote stands end to end in the output, what they signalled in the list, in their order. The output takes at least
+ * SEMBLURICK_MESSAGE_OUT bytes, the list one place. So much has to be left before each message: an output with 16 bytes more for each
+ * small command that is replied to, and a list of 16 places or so, do for most.
+ *
+ * A guest that runs meanwhile is not as after single messages: KVMI_VM_READ_PHYSICAL and KVMI_VM_WRITE_PHYSICAL, 6 and 7, read and
+ * write its memory during the call, before a guard of this batch is in hardware and before a vCPU that it kicks is out of the guest. A
+ * tool may count on either in one write: guard a page, then read it; pause a vCPU with wait, then write its code. So, unless the vCPUs
+ * stand still until the batch is followed, a host cuts what it hands over before each message 6 or 7 that stands behind others: that
+ * one begins a call of its own, after those before it are followed (examples/batch.c). A list of one place ends a batch behind each
+ * kick, but not behind a guard.
+ *
+ * A message is its header and as many bytes as its size field says. Where fewer are left the last one is incomplete, and closes the
+ * session. So a host must not hand over a cut tail unless the stream has ended: of what it has read it hands over the whole messages,
+ * and keeps the rest until more has come.
+ *
+ * Answers 2, 3, 11, tested in this order, for an empty input too: nothing is used, and nothing changes. Else one message after the
+ * other is taken, until
+ *   - the input is used up: answer 0;
+ *   - a message closes the session: answer 1. It is used, and the bytes behind it are not. What those before it wrote and signalled
+ *     stays, and is counted;
+ *   - a message resumes a vCPU from an event: answer 0, with result->signal SEMBLURICK_RESUME, vcpu, action and value. It is used, and
+ *     takes no place in the list. The resume is followed before the rest is handed over;
+ *   - before a message, whatever it would write or signal, less than SEMBLURICK_MESSAGE_OUT bytes of the output or no place of the list
+ *     are left: answer 0.
+ * With answer 0 and result->used below input_size, call again with the rest, once this is done with. A batch that is not refused and
+ * has input always uses one message at least, so that the calls come to an end.
+ *
+ * Kicks and crashes are listed, result->listed of them, and do not end it; semblurick_listed_signal, _vcpu and _wait read one. What a
+ * host does, in this order:
+ *   - the switches and pages that the used messages name, by lookups, to hardware. Answer 1: every guard off the guest;
+ *   - what is listed: every vCPU that is kicked with wait is out of the guest before any of the bytes are sent;
+ *   - the first result->count bytes of the output to the tool. Answer 1: then the connection ends;
+ *   - last the resume, if there is one: a vCPU that goes on may write its next event, into the same output for one. From a pause a vCPU
+ *     goes on without a signal: those that wait ask again by semblurick_enter. Answer 1: all that wait go on, with whatever event, as if
+ *     there were no tool (semblurick_awaited tells which they are before the call, and of none after it).
+ * A vCPU that is to be crashed is not let into the guest any more. Past these counts output and list are untouched; refused, all of
+ * both is. */
+SEMBLURICK_CHECKED static inline enum semblurick_answer semblurick_batch(struct semblurick *guest, const void *input, size_t input_size,
+                                                                         struct semblurick_output out,
+                                                                         struct semblurick_signals signals,
+                                                                         struct semblurick_memory memory,
+                                                                         struct semblurick_batch_result *result) {
+    return semblurick_raw_batch(&guest->session, &guest->vcpus, &guest->pages, SEMBLURICK_CAST(const uint8_t *, input), input_size,
+                                out.bytes, out.size, signals.codes, signals.size, memory.bytes, memory.size, result);
+}
+
+/* Since 4. Of a number in a batch's list: SEMBLURICK_KICK or SEMBLURICK_CRASH; of any other number SEMBLURICK_NONE. */
+static inline enum semblurick_signal semblurick_listed_signal(uint32_t code) {
+    if (code - SEMBLURICK_LISTED_KICK < 2 * SEMBLURICK_MAX_VCPUS) return SEMBLURICK_KICK;
+    if (code - SEMBLURICK_LISTED_CRASH < SEMBLURICK_MAX_VCPUS) return SEMBLURICK_CRASH;
+    return SEMBLURICK_NONE;
+}
+
+/* Its vCPU; of a number that is none, 0. */
+static inline uint32_t semblurick_listed_vcpu(uint32_t code) {
+    switch (semblurick_listed_signal(code)) {
+    case SEMBLURICK_KICK: return (code - SEMBLURICK_LISTED_KICK) / 2;
+    case SEMBLURICK_CRASH: return code - SEMBLURICK_LISTED_CRASH;
+    default: return 0;
+    }
+}
+
+/* Of a kick: the vCPU is out of the guest before anything more is sent. */
+static inline bool semblurick_listed_wait(uint32_t code) {
+    return semblurick_listed_signal(code) == SEMBLURICK_KICK && code % 2 == 1;
 }
 
 /* To be called before a vCPU enters the guest, with its register block (enum semblurick_state). The output takes at least
@@ -507,6 +617,7 @@ static inline const char *semblurick_answer_text(uint32_t answer) {
     case SEMBLURICK_BAD_FORM: return "bad form";
     case SEMBLURICK_FORBIDDEN: return "forbidden";
     case SEMBLURICK_BUSY: return "busy";
+    case SEMBLURICK_NO_PLACE: return "no place for signals";
     case SEMBLURICK_NOT_APPLICABLE: return "not applicable";
     default: return "unknown answer";
     }

@@ -168,7 +168,7 @@ static void settings(void) {
     CHECK(s.vcpus == 1 && s.views == 1 && s.commands == 0 && s.events == 0 && s.tsc_speed == 0 && s.singlestep == 0 && s.vmfunc == 0);
     CHECK(s.eptp == 0 && s.ve == 0 && s.spp == 0 && s.descriptors == 0 && s.breakpoints_taken == 0 && s.execute_only == 0);
     CHECK(SEMBLURICK_BIT(KVMI_VM_GET_INFO) == 16 && SEMBLURICK_BIT(31) == 0x80000000 && SEMBLURICK_ALL == 0xFFFFFFFF);
-    CHECK(SEMBLURICK_VERSION == 3);
+    CHECK(SEMBLURICK_VERSION == 4);
 
     /* memory of zeros is a closed session */
     CHECK(!semblurick_is_open(&guest) && semblurick_ready(&guest, 0) == SEMBLURICK_CLOSED);
@@ -542,6 +542,189 @@ static void lists(void) {
     CHECK(semblurick_list_ready(list, 0, 0) == SEMBLURICK_BAD_VCPU);
 }
 
+/* ---- several messages in one write */
+
+static uint8_t wide[3 * SEMBLURICK_MESSAGE_OUT], input[2 * SEMBLURICK_MESSAGE_MAX], memory_before[sizeof memory];
+static size_t input_size;
+static uint32_t codes[SEMBLURICK_MAX_VCPUS];
+static struct semblurick_batch_result b;
+
+/* puts what stands in msg behind what stands in the input */
+static void join(void) {
+    memcpy(input + input_size, msg, msg_size);
+    input_size += msg_size;
+}
+
+/* A batch of the input with so many bytes of output and so many places. Past their counts output and list are untouched; what is
+ * reserved is 0; a refusal changes nothing. */
+static enum semblurick_answer batch(size_t room, size_t places) {
+    memset(wide, 0xC3, sizeof wide), memset(codes, 0xC3, sizeof codes), memset(&b, 0xAA, sizeof b);
+    memcpy(&before, &guest, sizeof guest);
+    memcpy(memory_before, memory, sizeof memory);
+    enum semblurick_answer answer = semblurick_batch(&guest, input, input_size, semblurick_output_of(wide, room), semblurick_signals_of(codes, places),
+                                                     semblurick_memory_of(memory, sizeof memory), &b);
+    size_t past = b.count, listed = b.listed;
+    while (past < sizeof wide && wide[past] == 0xC3) past++;
+    while (listed < SEMBLURICK_MAX_VCPUS && codes[listed] == 0xC3C3C3C3) listed++;
+    CHECK(past == sizeof wide && listed == SEMBLURICK_MAX_VCPUS && b.used <= input_size);
+    for (size_t i = 0; i < sizeof b.reserved / sizeof b.reserved[0]; i++) CHECK(b.reserved[i] == 0);
+    if (answer >= SEMBLURICK_CLOSED) {
+        static const struct semblurick_batch_result zero = {0, 0, 0, 0, 0, 0, 0, {0}};
+        CHECK(!memcmp(&b, &zero, sizeof b) && !memcmp(&before, &guest, sizeof guest) && !memcmp(memory_before, memory, sizeof memory));
+    }
+    return answer;
+}
+
+/* used, count, listed, and no resume */
+static bool is_batch(uint64_t used, uint64_t count, uint64_t listed) {
+    return b.used == used && b.count == count && b.listed == listed && b.signal == SEMBLURICK_NONE && b.vcpu == 0 && b.action == 0 && b.value == 0;
+}
+
+/* message 15, from itself on */
+static void join_replies(uint32_t seq, uint8_t enable, uint8_t flags) {
+    struct kvmi_vm_control_cmd_response c;
+    memset(&c, 0, sizeof c);
+    c.enable = enable, c.now = 1, c.flags = flags;
+    begin(KVMI_VM_CONTROL_CMD_RESPONSE, seq), add(&c, sizeof c), join();
+}
+
+static void join_pause(uint16_t vcpu, uint8_t wait) { begin_pause(vcpu, wait), join(); }
+
+static void join_version(void) { begin(KVMI_GET_VERSION, 1), join(); }
+
+static void join_event_reply(uint16_t vcpu, uint32_t seq, uint8_t action, uint8_t event, uint64_t value, size_t size) {
+    struct kvmi_event_reply e;
+    memset(&e, 0, sizeof e);
+    e.action = action, e.event = event;
+    begin(KVMI_EVENT_REPLY, seq), add_vcpu(vcpu), add(&e, sizeof e), add(&value, size), join();
+}
+
+/* a fresh session of two vCPUs, both ready, and an empty input */
+static void fresh_batch(void) {
+    struct semblurick_settings s = settings_of(2, 1);
+    CHECK(semblurick_fresh(&guest, &s) == SEMBLURICK_HANDLED && semblurick_ready(&guest, 0) == SEMBLURICK_HANDLED && semblurick_ready(&guest, 1) == SEMBLURICK_HANDLED);
+    input_size = 0;
+}
+
+/* The input, message by message, on a copy: the same session, tables, bytes, signals and guest memory. */
+static void singly(size_t places) {
+    static uint8_t twin_memory[sizeof memory];
+    struct semblurick_result one;
+    size_t at = 0, count = 0, listed = 0;
+    enum semblurick_answer answer = SEMBLURICK_HANDLED;
+    memcpy(twin_memory, memory_before, sizeof memory);
+    memset(&one, 0, sizeof one);
+    while (at < b.used) {
+        struct kvmi_msg_hdr header;
+        size_t size = input_size - at;
+        if (size >= sizeof header) {
+            memcpy(&header, input + at, sizeof header);
+            if (size > sizeof header + header.size) size = sizeof header + header.size;
+        }
+        CHECK(answer == SEMBLURICK_HANDLED && one.signal != SEMBLURICK_RESUME && listed < places);
+        answer = semblurick_message(&before, input + at, size, semblurick_output_of(out, sizeof out), semblurick_memory_of(twin_memory, sizeof twin_memory), &one);
+        CHECK(!memcmp(out, wide + count, one.count));
+        if (one.signal == SEMBLURICK_KICK || one.signal == SEMBLURICK_CRASH) {
+            CHECK(semblurick_listed_signal(codes[listed]) == one.signal && semblurick_listed_vcpu(codes[listed]) == one.vcpu);
+            CHECK(semblurick_listed_wait(codes[listed]) == (one.wait == 1));
+            listed++;
+        }
+        at += size, count += one.count;
+    }
+    CHECK(at == b.used && count == b.count && listed == b.listed);
+    CHECK(b.signal == (one.signal == SEMBLURICK_RESUME ? one.signal : 0) && (b.signal == 0 || (b.vcpu == one.vcpu && b.action == one.action && b.value == one.value)));
+    CHECK(!memcmp(&before, &guest, sizeof guest) && !memcmp(twin_memory, memory, sizeof memory));
+}
+
+static void batches(void) {
+    const size_t most = sizeof wide, least = SEMBLURICK_MESSAGE_OUT;
+    CHECK(sizeof b == sizeof r && offsetof(struct semblurick_batch_result, used) == 0 && offsetof(struct semblurick_batch_result, count) == 8);
+    CHECK(offsetof(struct semblurick_batch_result, listed) == 16 && offsetof(struct semblurick_batch_result, signal) == 24 && offsetof(struct semblurick_batch_result, vcpu) == 32);
+    CHECK(offsetof(struct semblurick_batch_result, action) == 40 && offsetof(struct semblurick_batch_result, value) == 48 && offsetof(struct semblurick_batch_result, reserved) == 56);
+
+    /* a pause that waits has 24 bytes and a reply of 16, the version 8 and 32 */
+    fresh_batch(), join_pause(1, 1), join_version();
+    CHECK(batch(most, 1) == SEMBLURICK_HANDLED && is_batch(24, 16, 1) && codes[0] == 259), singly(1);
+    fresh_batch(), join_pause(1, 1), join_version();
+    CHECK(batch(most, 2) == SEMBLURICK_HANDLED && is_batch(32, 48, 1) && codes[0] == 259), singly(2);
+    fresh_batch(), join_version(), join_version();
+    CHECK(batch(least, 1) == SEMBLURICK_HANDLED && is_batch(8, 32, 0)), singly(1);
+    CHECK(batch(least + 31, 1) == SEMBLURICK_HANDLED && is_batch(8, 32, 0) && batch(least + 32, 1) == SEMBLURICK_HANDLED && is_batch(16, 64, 0));
+    fresh_batch();
+    CHECK(batch(least, 1) == SEMBLURICK_HANDLED && is_batch(0, 0, 0) && semblurick_is_open(&guest));
+
+    /* an incomplete last message closes, and is used; where there is no room it is left */
+    fresh_batch(), join_version(), input_size += 3;
+    CHECK(batch(least, 1) == SEMBLURICK_HANDLED && is_batch(8, 32, 0) && semblurick_is_open(&guest));
+    CHECK(batch(most, 1) == SEMBLURICK_CLOSING && is_batch(11, 32, 0) && !semblurick_is_open(&guest)), singly(1);
+    fresh_batch(), join_version(), input_size = 3;
+    CHECK(batch(most, 1) == SEMBLURICK_CLOSING && is_batch(3, 0, 0)), singly(1);
+    fresh_batch(), join_pause(0, 0), join_pause(1, 1), input_size--;
+    CHECK(batch(most, 1) == SEMBLURICK_HANDLED && is_batch(24, 16, 1) && codes[0] == 256);
+    CHECK(batch(most, 2) == SEMBLURICK_CLOSING && is_batch(47, 16, 1) && codes[0] == 256), singly(2);
+
+    /* what stands behind a message that closes is not used */
+    fresh_batch(), join_pause(0, 1), join_event_reply(0, 0, 0, KVMI_EVENT_PAUSE_VCPU, 0, 0), join_version();
+    CHECK(batch(most, 16) == SEMBLURICK_CLOSING && is_batch(48, 16, 1) && codes[0] == 257 && semblurick_pauses(&guest, 0) == 0), singly(16);
+
+    /* refusals, in their order, for an empty input too */
+    for (int empty = 0; empty < 2; empty++) {
+        fresh_batch(), join_pause(1, 1);
+        if (empty) input_size = 0;
+        CHECK(batch(least, 0) == SEMBLURICK_NO_PLACE && batch(most, 0) == SEMBLURICK_NO_PLACE);
+        CHECK(batch(least - 1, 0) == SEMBLURICK_SHORT_OUT && batch(least - 1, 16) == SEMBLURICK_SHORT_OUT && batch(0, 1) == SEMBLURICK_SHORT_OUT);
+        msg_size = 0;
+        CHECK(send() == SEMBLURICK_CLOSING);
+        CHECK(batch(most, 16) == SEMBLURICK_CLOSED && batch(0, 1) == SEMBLURICK_CLOSED && batch(most, 0) == SEMBLURICK_CLOSED && batch(0, 0) == SEMBLURICK_CLOSED);
+    }
+
+    /* replies off, a hundred pages, an error as an event, replies on */
+    struct kvmi_vm_set_page_access p;
+    struct kvmi_page_access_entry e;
+    memset(&p, 0, sizeof p), memset(&e, 0, sizeof e);
+    p.count = 100, e.access = KVMI_PAGE_ACCESS_R | KVMI_PAGE_ACCESS_X;
+    fresh_batch(), join_replies(1, 0, 1);
+    begin(KVMI_VM_SET_PAGE_ACCESS, 2), add(&p, sizeof p);
+    for (uint64_t i = 0; i < p.count; i++) e.gpa = (i + 16) * SEMBLURICK_PAGE_BYTES, add(&e, sizeof e);
+    join(), join_pause(7, 0), join_replies(4, 1, 0);
+    CHECK(batch(most, 1) == SEMBLURICK_HANDLED && is_batch(16 + 1616 + 24 + 16, 568 + 16, 0) && semblurick_page_count(&guest) == 100), singly(1);
+    CHECK(semblurick_access(&guest, 0, 15) == 7 && semblurick_access(&guest, 0, 16) == 5 && semblurick_access(&guest, 0, 115) == 5);
+    CHECK(!memcmp(wide, "\x11\0\x30\2", 4) && !memcmp(wide + 568, "\x0F\0\x08\0\4\0\0\0\0\0\0\0\0\0\0", 16));
+
+    /* a read sees what a write before it left; the longest message that a size field can say */
+    struct kvmi_vm_write_physical w;
+    struct kvmi_vm_read_physical read;
+    w.gpa = read.gpa = 5000, w.size = read.size = 6;
+    fresh_batch();
+    begin(KVMI_VM_WRITE_PHYSICAL, 1), add(&w, sizeof w), add("batch!", 6), join();
+    begin(KVMI_VM_READ_PHYSICAL, 2), add(&read, sizeof read), join();
+    begin(99, 3), msg[2] = msg[3] = 0xFF, msg_size = SEMBLURICK_MESSAGE_MAX, join();
+    CHECK(batch(most, 1) == SEMBLURICK_HANDLED && is_batch(input_size, 16 + 22 + 16, 0) && !memcmp(wide + 32, "batch!", 6)), singly(1);
+
+    /* a resume ends it, and takes no place; a crash and a pause that goes on do not end it */
+    fresh_batch();
+    CHECK(vcpu_event(1, KVMI_EVENT_CR, 1) == 0 && cr(1, 3, 1) == 0);
+    memset(own, 0, sizeof own), own[0] = 3;
+    CHECK(offer(1, KVMI_EVENT_CR, sizeof(struct kvmi_event_cr), sizeof out) == SEMBLURICK_HANDLED && semblurick_awaited(&guest, 1) == KVMI_EVENT_CR);
+    begin_pause(0, 0);
+    CHECK(reply() == 0 && reply() == 0 && offer(0, 0, 0, sizeof out) == SEMBLURICK_HANDLED && semblurick_awaited(&guest, 0) == KVMI_EVENT_PAUSE_VCPU);
+    input_size = 0, join_event_reply(0, 1, 0, KVMI_EVENT_PAUSE_VCPU, 0, 0), join_pause(0, 1);
+    join_event_reply(1, 0, 0, KVMI_EVENT_CR, 0x123456789, 8), join_version();
+    CHECK(batch(most, 16) == SEMBLURICK_HANDLED && b.used == 24 + 24 + 32 && b.count == 16 && b.listed == 1 && codes[0] == 257);
+    CHECK(b.signal == SEMBLURICK_RESUME && b.vcpu == 1 && b.action == 0 && b.value == 0x123456789), singly(16);
+    CHECK(offer(0, 0, 0, sizeof out) == SEMBLURICK_HANDLED && offer(1, KVMI_EVENT_CR, sizeof(struct kvmi_event_cr), sizeof out) == SEMBLURICK_HANDLED);
+    input_size = 0, join_event_reply(1, 3, 2, KVMI_EVENT_CR, 0, 8), join_event_reply(0, 2, 2, KVMI_EVENT_PAUSE_VCPU, 0, 0), join_version();
+    CHECK(batch(most, 16) == SEMBLURICK_HANDLED && is_batch(32 + 24 + 8, 32, 2) && codes[0] == 513 && codes[1] == 512), singly(16);
+
+    /* the codes, and every other number near them */
+    for (uint32_t code = 0; code < 1024; code++) {
+        bool kick = code >= SEMBLURICK_LISTED_KICK && code <= 287, crash = code >= SEMBLURICK_LISTED_CRASH && code <= 527;
+        CHECK(semblurick_listed_signal(code) == (kick ? SEMBLURICK_KICK : crash ? SEMBLURICK_CRASH : SEMBLURICK_NONE));
+        CHECK(semblurick_listed_vcpu(code) == (kick ? (code - 256) / 2 : crash ? code - 512 : 0) && semblurick_listed_wait(code) == (kick && code % 2));
+    }
+    CHECK(semblurick_listed_signal(UINT32_MAX) == SEMBLURICK_NONE && semblurick_listed_signal(0x80000100) == SEMBLURICK_NONE && SEMBLURICK_NO_PLACE == 11);
+}
+
 /* the functions below the calls, over parts that stand apart */
 static void parts(void) {
     static struct semblurick_session session;
@@ -554,6 +737,9 @@ static void parts(void) {
     begin_pause(0, 1);
     CHECK(semblurick_raw_message(&session, &vcpus, &page_words, msg, msg_size, out, sizeof out, memory, sizeof memory, &r) == SEMBLURICK_HANDLED);
     CHECK(r.signal == SEMBLURICK_KICK && semblurick_raw_pauses(&session, &vcpus, 0) == 1);
+    begin(KVMI_GET_VERSION, 1);
+    CHECK(semblurick_raw_batch(&session, &vcpus, &page_words, msg, msg_size, out, sizeof out, codes, 1, memory, sizeof memory, &b) == SEMBLURICK_HANDLED);
+    CHECK(is_batch(8, 32, 0));
     CHECK(semblurick_raw_image_size(&session, &vcpus, &page_words) == 24);
     CHECK(semblurick_raw_image_write(&session, &vcpus, &page_words, image, 24, &r) == SEMBLURICK_HANDLED);
     CHECK(semblurick_raw_image_read(&session, &vcpus, &page_words, image, 24, &r) == SEMBLURICK_HANDLED);
@@ -687,7 +873,7 @@ static void numbers(void) {
 
 static void texts(void) {
     static const char *const answers[] = {"handled", "closing", "closed", "short output", "bad vCPU", "bad state block or event", "waiting",
-        "bad settings", "bad form", "forbidden", "busy", "unknown answer", "unknown answer", "unknown answer", "not applicable", "unknown answer"};
+        "bad settings", "bad form", "forbidden", "busy", "no place for signals", "unknown answer", "unknown answer", "not applicable", "unknown answer"};
     for (uint32_t i = 0; i < 16; i++) CHECK(!strcmp(semblurick_answer_text(i), answers[i]));
     CHECK(!strcmp(semblurick_answer_text(SEMBLURICK_BUSY), "busy") && !strcmp(semblurick_answer_text(UINT32_MAX), "unknown answer"));
     CHECK(!strcmp(semblurick_signal_text(SEMBLURICK_NONE), "none") && !strcmp(semblurick_signal_text(SEMBLURICK_KICK), "kick"));
@@ -716,6 +902,7 @@ int main(void) {
     images(&s);
     closing();
     lists();
+    batches();
     parts();
     execute_only();
     limits();

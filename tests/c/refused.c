@@ -1,12 +1,17 @@
-/* What the compiler has to refuse with -Werror=unused-result, for each CASE from 1 to 13; CASE 0 is taken. */
+/* What the compiler has to refuse with -Werror=unused-result, for each CASE from 1 to 17; CASE 0 is taken. */
 #include "semblurick.h"
 
-void use(struct semblurick *guest, uint8_t *bytes, size_t size, struct semblurick_vcpu *list, struct semblurick_result *r);
-void use(struct semblurick *guest, uint8_t *bytes, size_t size, struct semblurick_vcpu *list, struct semblurick_result *r) {
+void use(struct semblurick *guest, uint8_t *bytes, size_t size, struct semblurick_vcpu *list, struct semblurick_result *r,
+         struct semblurick_batch_result *b);
+void use(struct semblurick *guest, uint8_t *bytes, size_t size, struct semblurick_vcpu *list, struct semblurick_result *r,
+         struct semblurick_batch_result *b) {
     struct semblurick_settings s = SEMBLURICK_SETTINGS;
     struct semblurick_output out = semblurick_output_of(bytes, size);
     struct semblurick_memory memory = semblurick_memory_of(bytes, size);
+    uint32_t codes[1];
+    struct semblurick_signals signals = semblurick_signals_of(codes, 1);
     if (semblurick_fresh(guest, &s) || semblurick_message(guest, bytes, size, out, memory, r)) return;
+    if (semblurick_batch(guest, bytes, size, out, signals, memory, b)) return;
     (void)list;
     /* an answer is dropped */
 #if CASE == 1
@@ -36,5 +41,14 @@ void use(struct semblurick *guest, uint8_t *bytes, size_t size, struct sembluric
     if (semblurick_image_write(guest, memory, r)) return;
 #elif CASE == 13
     if (semblurick_message(guest, bytes, size, bytes, size, bytes, size, r)) return;
+    /* a batch: the answer is dropped, output and list are exchanged, bytes stand where the list should, memory is forgotten */
+#elif CASE == 14
+    semblurick_batch(guest, bytes, size, out, signals, memory, b);
+#elif CASE == 15
+    if (semblurick_batch(guest, bytes, size, signals, out, memory, b)) return;
+#elif CASE == 16
+    if (semblurick_batch(guest, bytes, size, out, out, memory, b)) return;
+#elif CASE == 17
+    if (semblurick_batch(guest, bytes, size, out, signals, b)) return;
 #endif
 }

@@ -1,12 +1,13 @@
 //! What calls answer: answers, entries, signals and refusals.
 
 use crate::show::{self, Hex};
-use crate::{Action, Errno, Event, STATE_BYTES};
+use crate::{Action, Errno, Event, MAX_VCPUS, STATE_BYTES};
 use core::fmt;
+use core::iter::{Copied, FusedIterator};
+use core::slice;
 
-/// The bytes of a CMD_ERROR event, the only event that a message writes. Of those that entries write, BREAKPOINT and CPUID have as
-/// many.
-const COMMAND_ERROR: usize = 568;
+/// How many signals a line for a log has.
+const SIGNALS: usize = 8;
 
 /// What the host is to do beside sending the bytes.
 #[derive(Clone, Copy, Debug, PartialEq, Eq, Hash)]
@@ -38,6 +39,22 @@ pub enum Signal {
         /// Of a CR or an MSR event, what the register is to hold; else 0.
         value: u64,
     },
+}
+
+impl Signal {
+    /// The one that a number in the list of a [`Batch`] stands for: a kick is 256 + 2 * vCPU + wait, a crash 512 + vCPU.
+    #[must_use]
+    pub const fn from_listed(code: u32) -> Option<Signal> {
+        const KICK: u32 = 256;
+        const CRASH: u32 = 512;
+        const KICKS: u32 = KICK + 2 * MAX_VCPUS - 1;
+        const CRASHES: u32 = CRASH + MAX_VCPUS - 1;
+        match code {
+            KICK..=KICKS => Some(Signal::Kick { vcpu: (code - KICK) / 2, wait: code % 2 == 1 }),
+            CRASH..=CRASHES => Some(Signal::Crash { vcpu: code - CRASH }),
+            _ => None,
+        }
+    }
 }
 
 impl fmt::Display for Signal {
@@ -109,11 +126,7 @@ impl<'a> Answer<'a> {
     /// there are no bytes.
     #[must_use]
     pub fn error(&self) -> Option<Errno> {
-        let bytes = self.bytes();
-        // a reply to an unknown message with id 17 begins alike, but has 16 bytes
-        let at = if bytes.len() == COMMAND_ERROR && bytes[..2] == [17, 0] { 552 } else { 8 };
-        let code = bytes.get(at..)?.first_chunk()?;
-        Errno::from_number(i32::from_le_bytes(*code))
+        show::error(self.bytes())
     }
 }
 
@@ -139,6 +152,103 @@ impl fmt::Debug for Answer<'_> {
             list.field("error", &error);
         }
         list.field("bytes", &Hex(bytes)).field("signal", signal).finish()
+    }
+}
+
+/// What became of a batch. `{}` is a line for a log, and `{:?}` shows the bytes too.
+///
+/// What a host does, in this order: what the used messages name to hardware, and where it is [`closing`](Batch::closing) every guard off
+/// the guest; [`signals`](Batch::signals); [`bytes`](Batch::bytes) to the tool, and where it is closing the connection ends; last
+/// [`resume`](Batch::resume), and where it is closing every vCPU that waited goes on, with whatever event, as if there were no tool.
+#[derive(Clone, Copy, PartialEq, Eq)]
+#[non_exhaustive]
+#[must_use = "the bytes go to the tool, the signals are to be followed, and the input may not be used up"]
+pub struct Batch<'a> {
+    /// These bytes of the output go to the tool, what the messages wrote, end to end; there may be none. With a message that closes,
+    /// those of the messages before it.
+    pub bytes: &'a [u8],
+    /// The kicks and crashes, in the messages' order, as they are listed: [`Signal::from_listed`] reads one, and
+    /// [`signals`](Batch::signals) all. Its length is the count that is called `listed` in C.
+    pub listed: &'a [u32],
+    /// How many bytes of the input were used: those of the messages that were taken, of one at least where there is input.
+    pub used: usize,
+    /// The [`Signal::Resume`] that ended it, or [`Signal::None`]. It is to be followed last, after the bytes are sent, since a vCPU that
+    /// goes on may write its next event, into the same buffer for one; and before the rest of the input is handed over.
+    pub resume: Signal,
+    /// Whether the last message that was used closed the session.
+    pub closing: bool,
+}
+
+impl<'a> Batch<'a> {
+    /// Its number among the host answers.
+    #[must_use]
+    pub const fn number(&self) -> u32 {
+        self.closing as u32
+    }
+
+    /// The kicks and crashes that are listed, in the messages' order: what the host is to do before it sends the bytes. The
+    /// [`resume`](Batch::resume) is not among them: it is followed last, after the bytes are sent.
+    pub fn signals(&self) -> Signals<'a> {
+        Signals { listed: self.listed.iter().copied() }
+    }
+}
+
+impl fmt::Display for Batch<'_> {
+    fn fmt(&self, f: &mut fmt::Formatter<'_>) -> fmt::Result {
+        let (mut signals, count) = (self.signals(), self.bytes.len());
+        write!(f, "used {} bytes, wrote {count}", self.used)?;
+        signals.by_ref().take(SIGNALS).try_for_each(|signal| write!(f, ", {signal}"))?;
+        match signals.len() {
+            0 => {}
+            more => write!(f, " and {more} more")?,
+        }
+        if self.listed.is_empty() || self.resume != Signal::None {
+            write!(f, ", {}", self.resume)?;
+        }
+        f.write_str(if self.closing { ", the session closes" } else { "" })
+    }
+}
+
+impl fmt::Debug for Batch<'_> {
+    fn fmt(&self, f: &mut fmt::Formatter<'_>) -> fmt::Result {
+        let mut list = f.debug_struct("Batch");
+        list.field("used", &self.used).field("messages", &show::Messages(self.bytes)).field("bytes", &Hex(self.bytes));
+        list.field("signals", &self.signals()).field("resume", &self.resume).field("closing", &self.closing).finish()
+    }
+}
+
+/// The listed signals of a batch; [`Batch::signals`] gives it.
+#[derive(Clone)]
+#[must_use = "iterators do nothing unless they are walked"]
+pub struct Signals<'a> {
+    listed: Copied<slice::Iter<'a, u32>>,
+}
+
+impl Iterator for Signals<'_> {
+    type Item = Signal;
+
+    #[inline]
+    fn next(&mut self) -> Option<Signal> {
+        let code = self.listed.next()?;
+        let signal = Signal::from_listed(code);
+        // the library promises that it lists nothing else
+        debug_assert!(signal.is_some(), "{code} in the list of signals");
+        Some(signal.unwrap_or(Signal::None))
+    }
+
+    #[inline]
+    fn size_hint(&self) -> (usize, Option<usize>) {
+        self.listed.size_hint()
+    }
+}
+
+impl ExactSizeIterator for Signals<'_> {}
+
+impl FusedIterator for Signals<'_> {}
+
+impl fmt::Debug for Signals<'_> {
+    fn fmt(&self, f: &mut fmt::Formatter<'_>) -> fmt::Result {
+        f.debug_list().entries(self.clone()).finish()
     }
 }
 
@@ -215,6 +325,8 @@ pub enum Refusal {
     },
     /// An event reply is awaited, so that there is no image.
     Busy,
+    /// The list of signals of a batch has no place.
+    NoPlace,
     /// The CR is not 0, 3 or 4, or the record in the list is not ready.
     NotApplicable,
 }
@@ -233,6 +345,7 @@ impl Refusal {
             Refusal::BadForm { .. } => 8,
             Refusal::Forbidden { .. } => 9,
             Refusal::Busy => 10,
+            Refusal::NoPlace => 11,
             Refusal::NotApplicable => 14,
         }
     }
@@ -249,6 +362,7 @@ impl Refusal {
             8 => Refusal::BadForm { offset },
             9 => Refusal::Forbidden { offset },
             10 => Refusal::Busy,
+            11 => Refusal::NoPlace,
             14 => Refusal::NotApplicable,
             // the library promises that there is no other
             _ => unreachable!("host answer {number}"),
@@ -270,6 +384,7 @@ impl fmt::Display for Refusal {
             Refusal::BadForm { offset } => write!(f, "the image breaks a rule at byte {offset}"),
             Refusal::Forbidden { offset } => write!(f, "the image wants what the settings lack at byte {offset}"),
             Refusal::Busy => f.write_str("an event reply is awaited"),
+            Refusal::NoPlace => f.write_str("the list of signals has no place"),
             Refusal::NotApplicable => f.write_str("no such CR, or the vCPU is not ready"),
         }
     }

@@ -43,6 +43,21 @@ pub struct Outcome {
     pub reserved: [u64; 5],
 }
 
+/// What a batch tells; as large as an [`Outcome`].
+#[repr(C)]
+#[derive(Clone, Copy)]
+pub struct BatchOutcome {
+    pub used: u64,
+    pub count: u64,
+    pub listed: u64,
+    pub signal: u64,
+    pub vcpu: u64,
+    pub action: u64,
+    pub value: u64,
+    /// Kept for later; 0 in every answer.
+    pub reserved: [u64; 5],
+}
+
 /// A vCPU's record in a list that the host keeps.
 #[repr(C)]
 #[derive(Clone, Copy, Debug, Default, PartialEq, Eq, Hash)]
@@ -71,6 +86,7 @@ const _: () = {
     assert!(core::mem::offset_of!(Settings, execute_only) == 31);
     assert!(core::mem::size_of::<Session>() == 72);
     assert!(core::mem::size_of::<Outcome>() == 96);
+    assert!(core::mem::size_of::<BatchOutcome>() == 96);
     assert!(core::mem::size_of::<Vcpu>() == 56);
 };
 
@@ -88,6 +104,20 @@ extern "C" {
         guest: *mut u8,
         guest_size: usize,
         result: *mut Outcome,
+    ) -> u32;
+    pub fn semblurick_raw_batch(
+        session: *mut Session,
+        vcpus: *mut Vcpus,
+        pages: *mut Pages,
+        input: *const u8,
+        input_size: usize,
+        out: *mut u8,
+        out_size: usize,
+        signals: *mut u32,
+        signals_size: usize,
+        guest: *mut u8,
+        guest_size: usize,
+        result: *mut BatchOutcome,
     ) -> u32;
     pub fn semblurick_raw_enter(
         session: *mut Session,

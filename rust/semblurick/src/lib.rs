@@ -39,10 +39,12 @@
 //! ```
 //!
 //! What the guest does and the tool may watch, a write to CR3 for one, the host offers as an event: [`Session::enter_event`].
+//! Several messages that came at once, it hands over at once: [`Session::batch`].
 //!
 //! # Building
-//! `build.rs` links `libsemblurick.a` or `libhost.a` from the folder that `SEMBLURICK_LIB_DIR` names, or `libhost.a` from the
-//! repository's `target/staticlib`.
+//! `build.rs` links `libsemblurick.a` from the folder that `SEMBLURICK_LIB_DIR` names, or from the repository's `target/staticlib`, where
+//! `./library` makes it. Where there is none it links the two libraries of which that is made, `libhost.a` and `libhost_batch.a`; the
+//! second may stand in a folder of its own, which `SEMBLURICK_BATCH_LIB_DIR` names.
 //!
 //! # What can grow
 //! Types that a later version adds to are `#[non_exhaustive]`: settings are made by [`Settings::new`] and setters, and a `match` has a
@@ -65,7 +67,7 @@ mod settings;
 mod show;
 pub mod vcpu_list;
 
-pub use answer::{Answer, Entry, Refusal, Signal};
+pub use answer::{Answer, Batch, Entry, Refusal, Signal, Signals};
 pub use lookup::{Access, Page, Pages};
 pub use names::{Action, Command, CommandSet, Errno, Event, EventSet};
 pub use session::Session;
@@ -84,7 +86,7 @@ pub const HEADER_BYTES: usize = 8;
 pub const MESSAGE_MAX: usize = HEADER_BYTES + u16::MAX as usize;
 /// The bytes of the longest event, header included: that of a CR or an MSR.
 pub const EVENT_MAX: usize = 576;
-/// The least output for [`Session::message`].
+/// The least output for [`Session::message`], and for each message of a [`Session::batch`].
 pub const MESSAGE_OUT: usize = 4112;
 /// The least output for [`Session::enter`] and [`Session::enter_event`], whatever they write.
 pub const ENTRY_OUT: usize = 576;
@@ -103,6 +105,8 @@ const _: () = {
     is_shared::<Session>();
     is_shared::<Settings>();
     is_shared::<Answer<'_>>();
+    is_shared::<Batch<'_>>();
+    is_shared::<Signals<'_>>();
     is_shared::<Entry<'_>>();
     is_shared::<Refusal>();
     is_shared::<Pages<'_>>();
@@ -131,6 +135,13 @@ const _: () = {
 /// ```
 /// ```compile_fail
 /// #![deny(unused_must_use)]
+/// fn take(session: &mut semblurick::Session, out: &mut [u8]) -> Result<(), semblurick::Refusal> {
+///     session.batch(&[], out, &mut [0; 16], &mut [])?;
+///     Ok(())
+/// }
+/// ```
+/// ```compile_fail
+/// #![deny(unused_must_use)]
 /// fn enter(session: &mut semblurick::Session, out: &mut [u8]) -> Result<(), semblurick::Refusal> {
 ///     session.enter(0, &[], out)?;
 ///     Ok(())
@@ -147,6 +158,7 @@ const _: () = {
 /// #![deny(unused_must_use)]
 /// fn take(session: &mut semblurick::Session, out: &mut [u8]) -> Result<(), semblurick::Refusal> {
 ///     _ = session.message(&[], out, &mut [])?;
+///     _ = session.batch(&[], out, &mut [0; 16], &mut [])?;
 ///     _ = session.enter(0, &[], out)?;
 ///     _ = session.enter_event(0, &[], semblurick::Event::Xsetbv, &[], out)?;
 ///     Ok(())

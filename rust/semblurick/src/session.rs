@@ -1,6 +1,6 @@
 //! A session, and the calls on it.
 
-use crate::{ffi, Action, Answer, Entry, Refusal, Settings, Signal};
+use crate::{ffi, Action, Answer, Batch, Entry, Refusal, Settings, Signal};
 use core::mem::MaybeUninit;
 use core::ptr::addr_of_mut;
 
@@ -230,14 +230,148 @@ impl Session {
             0 => Signal::None,
             1 => Signal::Kick { vcpu, wait: told.values.wait != 0 },
             2 => Signal::Crash { vcpu },
-            // the library promises that there is no other
-            number => {
-                debug_assert_eq!(number, 3, "a signal's number");
-                let action = if told.values.action == 1 { Action::Retry } else { Action::Continue };
-                Signal::Resume { vcpu, action, value: told.values.value }
-            }
+            number => resume(number, vcpu, told.values.action, told.values.value),
         };
         Ok(Answer::Handled { bytes: &out[..count], signal })
+    }
+
+    /// Takes several messages of the tool that stand end to end, as one write of it may have them. The session, its tables and the bytes
+    /// of guest memory are then as if [`message`](Session::message) had taken the used ones one by one; what they wrote stands end to
+    /// end in `out`, their kicks and crashes in `signals`, in their order. Past what the [`Batch`] has of them, both are untouched.
+    ///
+    /// A guest that runs meanwhile is not as after single messages: `KVMI_VM_READ_PHYSICAL` and `KVMI_VM_WRITE_PHYSICAL`, 6 and 7, read
+    /// and write its memory during the call, before a guard of this batch is in hardware and before a vCPU that it kicks is out of the
+    /// guest. A tool may count on either in one write: guard a page, then read it; pause a vCPU with wait, then write its code. So,
+    /// unless the vCPUs stand still until the batch is followed, a host cuts what it hands over before each message 6 or 7 that stands
+    /// behind others: that one begins a call of its own, after those before it are followed (`examples/batch.rs`). A list of one place
+    /// ends a batch behind each kick, but not behind a guard.
+    ///
+    /// A message is its header and as many bytes as its size field says. Where fewer are left the last one is incomplete, and closes
+    /// the session: a host that reads a stream hands over the whole messages of what it has read, and keeps the rest until more has
+    /// come. It hands over a cut tail only where the stream has ended.
+    ///
+    /// One message after the other is taken, until the input is used up, or
+    /// - a message closes the session: [`Batch::closing`]. It is used, the bytes behind it are not, and what those before it wrote and
+    ///   signalled is there;
+    /// - a message resumes a vCPU from an event: [`Batch::resume`]. It is used, and the resume is followed before the rest is handed
+    ///   over;
+    /// - before a message, whatever it would write or signal, less than [`MESSAGE_OUT`](crate::MESSAGE_OUT) bytes of `out` or no place
+    ///   of `signals` are left.
+    ///
+    /// Where the session is open and [`Batch::used`] is below the input's length, call again with the rest, once this is done with: a
+    /// batch that is not refused uses one message at least, if there is one.
+    ///
+    /// A host follows it in this order: first what the used messages name goes to hardware; then what is listed, so that every vCPU
+    /// that is kicked with `wait` is out of the guest before any of the bytes are sent; then the bytes go to the tool; last the resume,
+    /// since a vCPU that goes on may write its next event. [`Batch`] says what differs where the session closes. A vCPU that is to be
+    /// crashed is not let into the guest any more.
+    ///
+    /// ```
+    /// use semblurick::{Session, Settings, Signal, MESSAGE_OUT};
+    ///
+    /// let mut session = Session::fresh(&Settings::allowing_all(2))?;
+    /// session.ready(1)?;
+    ///
+    /// // KVMI_VM_CONTROL_CMD_RESPONSE, from now on: replies off, and on again
+    /// let off = [15, 0, 8, 0, 1, 0, 0, 0, 0, 1, 0, 0, 0, 0, 0, 0];
+    /// let on = [15, 0, 8, 0, 3, 0, 0, 0, 1, 1, 0, 0, 0, 0, 0, 0];
+    /// // KVMI_VM_SET_PAGE_ACCESS: a hundred pages of view 0, from page 16 on, to r-x
+    /// let mut guard = vec![13, 0, 0x48, 6, 2, 0, 0, 0, 100, 0, 0, 0, 0, 0, 0, 0];
+    /// for page in 16..116u64 {
+    ///     guard.extend((page << 12).to_le_bytes());
+    ///     guard.extend([5, 0, 0, 0, 0, 0, 0, 0]);
+    /// }
+    /// // KVMI_VCPU_PAUSE of vCPU 1, wait 1
+    /// let pause = [9, 0, 16, 0, 4, 0, 0, 0, 1, 0, 0, 0, 0, 0, 0, 0, 1, 0, 0, 0, 0, 0, 0, 0];
+    ///
+    /// // all of it in one write
+    /// let write = [&off[..], &guard, &on, &pause].concat();
+    /// let (mut out, mut signals) = ([0; 2 * MESSAGE_OUT], [0; 16]);
+    /// let mut rest = &write[..];
+    /// while !rest.is_empty() {
+    ///     let batch = session.batch(rest, &mut out, &mut signals, &mut [])?;
+    ///     // what the used messages name stands in hardware, and then what is listed is followed
+    ///     for signal in batch.signals() {
+    ///         match signal {
+    ///             Signal::Kick { vcpu, wait } => assert_eq!((vcpu, wait), (1, true)), // here the vCPU leaves the guest
+    ///             _ => unreachable!("a pause was asked for"),
+    ///         }
+    ///     }
+    ///     // and then the bytes go to the tool: two replies, of 16 bytes each
+    ///     assert_eq!((batch.bytes[0], batch.bytes[16], batch.bytes.len()), (15, 9, 32));
+    ///     // and last the resume, if there is one
+    ///     assert_eq!((batch.resume, batch.closing), (Signal::None, false));
+    ///     rest = &rest[batch.used..];
+    /// }
+    /// assert_eq!((session.page_count(), session.access(0, 115).to_string()), (100, "r-x".to_owned()));
+    /// # Ok::<(), semblurick::Refusal>(())
+    /// ```
+    ///
+    /// # Errors
+    /// [`Refusal::Closed`]; [`Refusal::ShortOut`] where `out` has less than [`MESSAGE_OUT`](crate::MESSAGE_OUT) bytes;
+    /// [`Refusal::NoPlace`] where `signals` has no place. Tested in this order, for an empty input too; nothing is used then.
+    #[inline]
+    pub fn batch<'a>(
+        &mut self,
+        input: &[u8],
+        out: &'a mut [u8],
+        signals: &'a mut [u32],
+        guest: &mut [u8],
+    ) -> Result<Batch<'a>, Refusal> {
+        // SAFETY: the memory is borrowed for this call alone.
+        unsafe { self.batch_at(input, out, signals, guest) }
+    }
+
+    /// [`batch`](Session::batch) on guest memory that no reference may stand for, since the guest's vCPUs or devices run meanwhile, as
+    /// [`message_at`](Session::message_at).
+    ///
+    /// # Safety
+    /// As for [`message_at`](Session::message_at), and the memory is no part of `signals`.
+    ///
+    /// # Errors
+    /// As [`batch`](Session::batch).
+    #[inline]
+    pub unsafe fn batch_at<'a>(
+        &mut self,
+        input: &[u8],
+        out: &'a mut [u8],
+        signals: &'a mut [u32],
+        guest: *mut [u8],
+    ) -> Result<Batch<'a>, Refusal> {
+        let mut told = MaybeUninit::<ffi::BatchOutcome>::uninit();
+        // SAFETY: the slices are borrowed for this call, what is `&mut` overlaps nothing else, and the caller lends the memory.
+        let number = unsafe {
+            ffi::semblurick_raw_batch(
+                &mut self.raw,
+                &mut self.vcpus,
+                &mut self.pages,
+                input.as_ptr(),
+                input.len(),
+                out.as_mut_ptr(),
+                out.len(),
+                signals.as_mut_ptr(),
+                signals.len(),
+                guest.cast(),
+                guest.len(),
+                told.as_mut_ptr(),
+            )
+        };
+        // SAFETY: the call has written every word.
+        let told = unsafe { told.assume_init() };
+        if number > 1 {
+            return Err(Refusal::of(number, 0));
+        }
+        let resume = match told.signal {
+            0 => Signal::None,
+            number => resume(number, told.vcpu as u32, told.action, told.value),
+        };
+        Ok(Batch {
+            bytes: &out[..told.count as usize],
+            listed: &signals[..told.listed as usize],
+            used: told.used as usize,
+            resume,
+            closing: number == 1,
+        })
     }
 
     /// To be called before a vCPU enters the guest, with its register block. Where a pause is queued its event is written, and
@@ -360,6 +494,14 @@ impl Session {
     pub fn settings(&self) -> Settings {
         Settings::of(&self.raw.settings)
     }
+}
+
+/// A resume. The library promises that no signal but those before it has another number.
+#[inline]
+fn resume(number: u64, vcpu: u32, action: u64, value: u64) -> Signal {
+    debug_assert_eq!(number, 3, "a signal's number");
+    let action = if action == 1 { Action::Retry } else { Action::Continue };
+    Signal::Resume { vcpu, action, value }
 }
 
 /// What a call of the library told: the answer's number, and its values.

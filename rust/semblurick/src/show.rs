@@ -1,10 +1,17 @@
 //! Bytes and sessions as a person reads them.
 
-use crate::{ffi, Command, Event, EventSet, Session};
+use crate::{ffi, Command, Errno, Event, EventSet, Session};
 use core::fmt;
 
 /// How many bytes are shown.
 const SHOWN: usize = 32;
+
+/// How many messages are named.
+const NAMED: usize = 8;
+
+/// The bytes of a CMD_ERROR event, the only event that a message writes. Of those that entries write, BREAKPOINT and CPUID have as
+/// many.
+const COMMAND_ERROR: usize = 568;
 
 /// Bytes in hex digits, the first of them where there are many.
 pub(crate) struct Hex<'a>(pub &'a [u8]);
@@ -33,16 +40,55 @@ pub(crate) fn event(bytes: &[u8]) -> Option<Event> {
     Event::from_number((*number).into())
 }
 
+/// The error in what a message wrote: of a reply, or the one that a CMD_ERROR event tells.
+pub(crate) fn error(bytes: &[u8]) -> Option<Errno> {
+    // a reply to an unknown message with id 17 begins alike, but has 16 bytes
+    let at = if bytes.len() == COMMAND_ERROR && bytes[..2] == [17, 0] { 552 } else { 8 };
+    let code = bytes.get(at..)?.first_chunk()?;
+    Errno::from_number(i32::from_le_bytes(*code))
+}
+
+/// The id of a message that was written, by name where it has one.
+struct Id<'a>(&'a [u8]);
+
+impl fmt::Debug for Id<'_> {
+    fn fmt(&self, f: &mut fmt::Formatter<'_>) -> fmt::Result {
+        let id = u16::from_le_bytes([self.0[0], self.0[1]]);
+        match Command::from_number(id) {
+            Some(command) => f.write_str(command.name()),
+            None if is_event(self.0) => f.write_str("KVMI_EVENT"),
+            None => write!(f, "{id}"),
+        }
+    }
+}
+
+/// What a batch wrote, message by message: id, seq and error, where there is one; the first of them where there are many.
+pub(crate) struct Messages<'a>(pub &'a [u8]);
+
+impl fmt::Debug for Messages<'_> {
+    fn fmt(&self, f: &mut fmt::Formatter<'_>) -> fmt::Result {
+        f.write_str("[")?;
+        let (mut rest, mut count) = (self.0, 0);
+        while let Some(&[_, _, size, size_high, seq @ ..]) = rest.first_chunk::<8>() {
+            let length = 8 + usize::from(u16::from_le_bytes([size, size_high]));
+            let (message, behind) = rest.split_at(length.min(rest.len()));
+            if count < NAMED {
+                write!(f, "{}{:?} {}", if count == 0 { "" } else { ", " }, Id(message), u32::from_le_bytes(seq))?;
+                error(message).map_or(Ok(()), |error| write!(f, " {error}"))?;
+            }
+            (rest, count) = (behind, count + 1);
+        }
+        match count.saturating_sub(NAMED) {
+            0 => f.write_str("]"),
+            more => write!(f, " and {more} more]"),
+        }
+    }
+}
+
 /// The fields of what a call wrote: the message and its seq, and of an event which it is, and of which vCPU.
 pub(crate) fn header(list: &mut fmt::DebugStruct<'_, '_>, bytes: &[u8]) {
-    let Some(&[id, id_high, _, _, seq @ ..]) = bytes.first_chunk::<8>() else { return };
-    let id = u16::from_le_bytes([id, id_high]);
-    match Command::from_number(id) {
-        Some(command) => list.field("id", &command),
-        None if is_event(bytes) => list.field("id", &Bare("KVMI_EVENT")),
-        None => list.field("id", &id),
-    };
-    list.field("seq", &u32::from_le_bytes(seq));
+    let Some(&[_, _, _, _, seq @ ..]) = bytes.first_chunk::<8>() else { return };
+    list.field("id", &Id(bytes)).field("seq", &u32::from_le_bytes(seq));
     if let Some(event) = event(bytes) {
         list.field("event", &event).field("vcpu", &u16::from_le_bytes([bytes[10], bytes[11]]));
     }

@@ -94,6 +94,79 @@ fn answers_say_what_happened() {
     assert!(session.is_closed());
 }
 
+/// A batch as a line of a log and as `{:?}` shows it.
+fn batch_says(session: &mut Session, input: &[u8], line: &str, shown: &str) {
+    let (mut out, mut signals) = ([0; 3 * MESSAGE_OUT], [0; 32]);
+    let batch = session.batch(input, &mut out, &mut signals, &mut []);
+    let said = batch.map_or_else(|refusal| refusal.to_string(), |batch| batch.to_string());
+    assert_eq!((said, format!("{batch:?}")), (line.to_owned(), shown.to_owned()));
+}
+
+#[test]
+fn batches_say_what_happened() {
+    let mut session = Session::fresh(&Settings::allowing_all(2)).unwrap();
+    session.ready(1).unwrap();
+    let pause = |seq, vcpu, wait| on_vcpu(9, seq, vcpu, [wait, 0, 0, 0, 0, 0, 0, 0]);
+    let nothing = "Ok(Batch { used: 0, messages: [], bytes: [], signals: [], resume: None, closing: false })";
+    batch_says(&mut session, &[], "used 0 bytes, wrote 0, no signal", nothing);
+    batch_says(
+        &mut session,
+        &[pause(1, 1, 1), pause(2, 0, 0), pause(3, 1, 0)].concat(),
+        "used 72 bytes, wrote 48, kick vCPU 1 and wait, kick vCPU 1",
+        "Ok(Batch { used: 72, messages: [KVMI_VCPU_PAUSE 1, KVMI_VCPU_PAUSE 2 EAGAIN, KVMI_VCPU_PAUSE 3], bytes: [09 00 08 00 01 00 00 \
+         00 00 00 00 00 00 00 00 00 09 00 08 00 02 00 00 00 f5 ff ff ff 00 00 00 00 and 16 more], signals: [Kick { vcpu: 1, wait: \
+         true }, Kick { vcpu: 1, wait: false }], resume: None, closing: false })",
+    );
+    // a resume ends it
+    let mut out = [0; ENTRY_OUT];
+    let on = on_vcpu(10, 4, 1, [7, 0, 1, 0, 0, 0, 0, 0]);
+    assert_eq!(said(&mut session, &on).0, "done, 16 bytes, no signal");
+    assert!(!session.enter_event(1, &[0; STATE_BYTES], Event::Xsetbv, &[], &mut out).unwrap().may_run());
+    let go = on_vcpu(16, 0, 1, [0, 7, 0, 0, 0, 0, 0, 0]);
+    batch_says(
+        &mut session,
+        &[pause(5, 1, 0), go, pause(6, 1, 0)].concat(),
+        "used 48 bytes, wrote 16, kick vCPU 1, resume vCPU 1: continue, value 0x0",
+        "Ok(Batch { used: 48, messages: [KVMI_VCPU_PAUSE 5], bytes: [09 00 08 00 05 00 00 00 00 00 00 00 00 00 00 00], signals: \
+         [Kick { vcpu: 1, wait: false }], resume: Resume { vcpu: 1, action: KVMI_EVENT_ACTION_CONTINUE, value: 0 }, closing: false })",
+    );
+    // many are cut; what closes is said last, and an error that an event tells is named
+    let many: Vec<u8> = (6..17).flat_map(|seq| pause(seq, 1, 0)).collect();
+    let (mut out, mut signals) = ([0; 2 * MESSAGE_OUT], [0; 32]);
+    let batch =
+        session.clone().batch(&many, &mut out, &mut signals, &mut []).map(|batch| (batch.to_string(), format!("{batch:?}")));
+    let (line, shown) = batch.unwrap();
+    assert_eq!(line, "used 264 bytes, wrote 176, kick vCPU 1, kick vCPU 1, kick vCPU 1, kick vCPU 1, kick vCPU 1");
+    assert!(
+        shown.contains("KVMI_VCPU_PAUSE 11 EBUSY, KVMI_VCPU_PAUSE 12 EBUSY, KVMI_VCPU_PAUSE 13 EBUSY and 3 more]"),
+        "{shown}"
+    );
+    let mut other = Session::fresh(&Settings::allowing_all(16)).unwrap();
+    (0..16).for_each(|vcpu| other.ready(vcpu).unwrap());
+    let all: Vec<u8> = (0..16).flat_map(|vcpu| pause(1, vcpu, 0)).collect();
+    let line = other.batch(&all, &mut out, &mut signals, &mut []).unwrap().to_string();
+    assert!(line.starts_with("used 384 bytes, wrote 256, kick vCPU 0, kick vCPU 1, "), "{line}");
+    assert!(line.ends_with(", kick vCPU 7 and 8 more"), "{line}");
+    // the resume stands behind them, and is never cut
+    let mut event = [0; ENTRY_OUT];
+    assert_eq!(said(&mut other, &on_vcpu(10, 1, 0, [7, 0, 1, 0, 0, 0, 0, 0])).0, "done, 16 bytes, no signal");
+    assert!(!other.enter_event(0, &[0; STATE_BYTES], Event::Xsetbv, &[], &mut event).unwrap().may_run());
+    let go = on_vcpu(16, 0, 0, [0, 7, 0, 0, 0, 0, 0, 0]);
+    let line = other.clone().batch(&go, &mut out, &mut signals, &mut []).unwrap().to_string();
+    assert_eq!(line, "used 24 bytes, wrote 0, resume vCPU 0: continue, value 0x0");
+    let line = other.batch(&[&all[..9 * 24], &go].concat(), &mut out, &mut signals, &mut []).unwrap().to_string();
+    assert!(line.ends_with(", kick vCPU 7 and 1 more, resume vCPU 0: continue, value 0x0"), "{line}");
+    let off = [15, 0, 8, 0, 4, 0, 0, 0, 0, 1, 1, 0, 0, 0, 0, 0];
+    let (line, shown) = {
+        let batch = session.batch(&[&off[..], &pause(7, 0, 0), &[9]].concat(), &mut out, &mut signals, &mut []).unwrap();
+        (batch.to_string(), format!("{batch:?}"))
+    };
+    assert_eq!(line, "used 41 bytes, wrote 568, no signal, the session closes");
+    assert!(shown.starts_with("Batch { used: 41, messages: [KVMI_EVENT 1 EAGAIN], bytes: [11 00 30 02"), "{shown}");
+    assert!(shown.ends_with(" and 536 more], signals: [], resume: None, closing: true }"), "{shown}");
+    batch_says(&mut session, &[], "the session is closed", "Err(Closed)");
+}
+
 #[test]
 fn an_offered_event_says_what_it_is() {
     let mut session = Session::fresh(&Settings::allowing_all(2)).unwrap();

@@ -1,8 +1,8 @@
-//! The wrapper's own promises: settings by name, lookups, events that are offered, the list form, in place and on threads.
+//! The wrapper's own promises: settings by name, lookups, events that are offered, batches, the list form, in place and on threads.
 use semblurick::{
-    own, vcpu_list, Access, Action, Answer, Command, CommandSet, Entry, Errno, Event, EventSet, Features, Page, Pages, Refusal,
-    Session, Settings, Signal, Vcpu, ENTRY_OUT, EVENT_MAX, IMAGE_MAX, MAX_VCPUS, MAX_VIEWS, MESSAGE_OUT, PAGE_LIMIT,
-    PAUSE_LIMIT, STATE_BYTES,
+    own, vcpu_list, Access, Action, Answer, Batch, Command, CommandSet, Entry, Errno, Event, EventSet, Features, Page, Pages,
+    Refusal, Session, Settings, Signal, Signals, Vcpu, ENTRY_OUT, EVENT_MAX, IMAGE_MAX, MAX_VCPUS, MAX_VIEWS, MESSAGE_OUT,
+    PAGE_LIMIT, PAUSE_LIMIT, STATE_BYTES,
 };
 use std::error::Error;
 use std::mem::{size_of, MaybeUninit};
@@ -311,6 +311,210 @@ fn refused_offers() {
     assert_eq!(session.enter_event(9, &[], 2u32, &[1], &mut []), Err(Refusal::Closed));
 }
 
+/// What a batch is lent.
+const UNTOUCHED: (u8, u32) = (0xC3, 0xDEAD_BEEF);
+
+/// A batch on an output and a list of these sizes, past its counts untouched. Gives its number, used bytes, what was written, what was
+/// listed, and the resume.
+fn batch(session: &mut Session, input: &[u8], out: usize, places: usize) -> (u32, usize, Vec<u8>, Vec<u32>, Signal) {
+    let (mut out, mut signals, mut guest) = (vec![UNTOUCHED.0; out], vec![UNTOUCHED.1; places], [0; 4096]);
+    let done = session.batch(input, &mut out, &mut signals, &mut guest).unwrap();
+    assert_eq!(done.number(), u32::from(done.closing));
+    let told = (done.number(), done.used, done.bytes.to_vec(), done.listed.to_vec(), done.resume);
+    assert!(out.starts_with(&told.2) && out[told.2.len()..].iter().all(|byte| *byte == UNTOUCHED.0));
+    assert!(signals.starts_with(&told.3) && signals[told.3.len()..].iter().all(|code| *code == UNTOUCHED.1));
+    told
+}
+
+/// Two vCPUs, of which the second is ready; everything is allowed.
+fn begun() -> Session {
+    let mut session = Session::fresh(&Settings::allowing_all(2)).unwrap();
+    session.ready(1).unwrap();
+    session
+}
+
+/// All that a session has.
+fn all(session: &Session) -> (String, Vec<u8>) {
+    let mut image = vec![0; session.image_size()];
+    let written = session.write_image(&mut image);
+    (format!("{session:?} {written:?} {:?}", session.pages()), image)
+}
+
+/// Message 9 with wait, of vCPU 1, has 24 bytes and a reply of 16; message 1 has 8 and 32.
+#[test]
+fn batches_of_two() {
+    let (pause, version) = (on_vcpu(9, 1, [1, 0, 0, 0, 0, 0, 0, 0]), message(1, &[]));
+    let both = [&pause[..], &version].concat();
+    let told = batch(&mut begun(), &both, 2 * MESSAGE_OUT, 1);
+    assert_eq!((told.0, told.1, told.2.len(), &told.3[..], told.4), (0, 24, 16, &[259][..], Signal::None));
+    let told = batch(&mut begun(), &both, 2 * MESSAGE_OUT, 2);
+    assert_eq!((told.0, told.1, told.2.len(), &told.3[..], told.4), (0, 32, 48, &[259][..], Signal::None));
+    let told = batch(&mut begun(), &[&version[..], &version].concat(), MESSAGE_OUT, 16);
+    assert_eq!((told.0, told.1, told.2.len(), told.3.len()), (0, 8, 32, 0));
+    let told = batch(&mut begun(), &[&version[..], &version].concat(), MESSAGE_OUT + 32, 16);
+    assert_eq!((told.0, told.1, told.2.len(), told.3.len()), (0, 16, 64, 0));
+
+    // an incomplete last message closes, and is used; but for room it is left
+    let mut session = begun();
+    let told = batch(&mut session, &[&version[..], &[1, 0, 0]].concat(), 2 * MESSAGE_OUT, 16);
+    assert_eq!((told.0, told.1, told.2.len(), told.3.len(), session.is_closed()), (1, 11, 32, 0, true));
+    let mut session = begun();
+    let told = batch(&mut session, &[1, 0, 0], MESSAGE_OUT, 1);
+    assert_eq!((told.0, told.1, told.2.len(), told.3.len(), session.is_closed()), (1, 3, 0, 0, true));
+    let mut session = begun();
+    let told = batch(&mut session, &[&version[..], &[1, 0, 0]].concat(), MESSAGE_OUT, 16);
+    assert_eq!((told.0, told.1, told.2.len(), session.is_closed()), (0, 8, 32, false));
+    let told = batch(&mut session, &[&pause[..], &pause[..23]].concat(), 2 * MESSAGE_OUT, 1);
+    assert_eq!((told.0, told.1, told.3, session.is_closed()), (0, 24, vec![259], false));
+
+    // what stands behind a message that closes is not used; what stood before it is counted
+    for wrong in [message(1, &[0]), message(9, &[0; 15]), on_vcpu(16, 1, [0, 2, 0, 0, 0, 0, 0, 0])] {
+        let mut session = begun();
+        let told = batch(&mut session, &[&pause[..], &wrong, &pause].concat(), 2 * MESSAGE_OUT, 16);
+        assert_eq!((told.0, told.1, told.2.len(), &told.3[..]), (1, 24 + wrong.len(), 16, &[259][..]));
+        assert!(session.is_closed() && session.pauses(1) == 0);
+    }
+
+    // the longest that a size field can say
+    let long = message(99, &[7; 65_535]);
+    let told = batch(&mut begun(), &[&long[..], &version].concat(), 2 * MESSAGE_OUT, 1);
+    assert_eq!((told.0, told.1, told.2.len()), (0, 65_543 + 8, 16 + 32));
+    // none
+    assert_eq!(batch(&mut begun(), &[], MESSAGE_OUT, 1), (0, 0, vec![], vec![], Signal::None));
+}
+
+/// Each refusal, in its order, leaves session, output, list and guest memory; for an empty input too.
+#[test]
+fn refused_batches() {
+    let pause = on_vcpu(9, 1, [0; 8]);
+    let mut closed = begun();
+    assert!(closed.message(&[], &mut [0; MESSAGE_OUT], &mut []).unwrap().is_closing());
+    for input in [&pause[..], &[], &[1, 0, 0]] {
+        for (is_closed, out, places, refusal) in [
+            (true, MESSAGE_OUT, 1, Refusal::Closed),
+            (true, 0, 0, Refusal::Closed),
+            (true, MESSAGE_OUT, 0, Refusal::Closed),
+            (false, MESSAGE_OUT - 1, 1, Refusal::ShortOut),
+            (false, MESSAGE_OUT - 1, 0, Refusal::ShortOut),
+            (false, 0, 16, Refusal::ShortOut),
+            (false, MESSAGE_OUT, 0, Refusal::NoPlace),
+            (false, 2 * MESSAGE_OUT, 0, Refusal::NoPlace),
+        ] {
+            let mut session = if is_closed { closed.clone() } else { begun() };
+            let before = all(&session);
+            let (mut out, mut signals, mut guest) = (vec![UNTOUCHED.0; out], vec![UNTOUCHED.1; places], [5; 4096]);
+            assert_eq!(session.batch(input, &mut out, &mut signals, &mut guest), Err(refusal));
+            assert!(out.iter().all(|byte| *byte == UNTOUCHED.0) && signals.iter().all(|code| *code == UNTOUCHED.1));
+            assert!(guest == [5; 4096] && all(&session) == before);
+        }
+    }
+    assert_eq!((Refusal::NoPlace.number(), Refusal::NoPlace.to_string()), (11, "the list of signals has no place".to_owned()));
+}
+
+/// A write of all kinds: replies off and on, an error as an event, guest memory written and read, kicks, a pause that goes on, a crash
+/// and two resumes. The vCPUs wait with events before it.
+fn all_kinds() -> (Session, Vec<Vec<u8>>) {
+    let mut session = Session::fresh(&Settings::allowing_all(4)).unwrap();
+    let (state, mut out) = ([0; STATE_BYTES], [0; ENTRY_OUT]);
+    for vcpu in 0..4 {
+        session.ready(vcpu.into()).unwrap();
+        send(&mut session, &[on_vcpu(10, vcpu, [4, 0, 1, 0, 0, 0, 0, 0]), on_vcpu(10, vcpu, [7, 0, 1, 0, 0, 0, 0, 0])]);
+    }
+    send(&mut session, &[on_vcpu(9, 0, [0; 8])]);
+    let int3 = own::Breakpoint { gpa: 0x1000, insn_len: 1 }.bytes();
+    assert_eq!(session.enter(0, &state, &mut out).unwrap().event(), Some(Event::PauseVcpu));
+    assert_eq!(session.enter_event(1, &state, Event::Breakpoint, &int3, &mut out).unwrap().event(), Some(Event::Breakpoint));
+    assert_eq!(session.enter_event(2, &state, Event::Xsetbv, &[], &mut out).unwrap().event(), Some(Event::Xsetbv));
+    assert_eq!(session.enter_event(3, &state, Event::Xsetbv, &[], &mut out).unwrap().event(), Some(Event::Xsetbv));
+    let at = |size: u64| [4090u64.to_le_bytes(), size.to_le_bytes()].concat();
+    let messages = vec![
+        message(15, &[0, 1, 1, 0, 0, 0, 0, 0]),
+        access(0, &(0..100).map(|page| (page, 5)).collect::<Vec<_>>()),
+        on_vcpu(9, 9, [0; 8]),
+        message(15, &[1, 1, 0, 0, 0, 0, 0, 0]),
+        reply(0, 0, Action::Continue, Event::PauseVcpu, &[]),
+        message(7, &[&at(3)[..], b"abc"].concat()),
+        reply(3, 3, Action::Crash, Event::Xsetbv, &[]),
+        on_vcpu(9, 3, [1, 0, 0, 0, 0, 0, 0, 0]),
+        reply(1, 1, Action::Retry, Event::Breakpoint, &[]),
+        message(6, &at(4)),
+        on_vcpu(9, 0, [0; 8]),
+        reply(2, 2, Action::Continue, Event::Xsetbv, &[]),
+        message(99, &[1, 2, 3]),
+        on_vcpu(9, 2, [1, 0, 0, 0, 0, 0, 0, 0]),
+    ];
+    (session, messages)
+}
+
+/// Whatever room there is, calls until the input is used up do what the single messages do.
+#[test]
+fn a_batch_is_its_messages() {
+    let (mut single, messages) = all_kinds();
+    let (mut out, mut memory, mut bytes, mut signals) = ([0; MESSAGE_OUT], [0; 4096], Vec::<u8>::new(), Vec::new());
+    for message in &messages {
+        let answer = single.message(message, &mut out, &mut memory).unwrap();
+        bytes.extend(answer.bytes());
+        signals.extend(Some(answer.signal()).filter(|signal| *signal != Signal::None));
+    }
+    assert_eq!(
+        signals,
+        [
+            Signal::Crash { vcpu: 3 },
+            Signal::Kick { vcpu: 3, wait: true },
+            Signal::Resume { vcpu: 1, action: Action::Retry, value: 0 },
+            Signal::Kick { vcpu: 0, wait: false },
+            Signal::Resume { vcpu: 2, action: Action::Continue, value: 0 },
+            Signal::Kick { vcpu: 2, wait: true },
+        ]
+    );
+    let input = messages.concat();
+    let resumes = [messages[..9].concat().len(), messages[..12].concat().len(), input.len()];
+    for room in [0, 1, 15, 16, 31, 32, 568, 599, 600, MESSAGE_OUT] {
+        for places in [1, 2, 3, 16] {
+            let (mut session, _) = all_kinds();
+            let (mut out, mut listed) = (vec![0; MESSAGE_OUT + room], vec![0; places]);
+            let (mut guest, mut wrote, mut told, mut at, mut ends) = ([0; 4096], Vec::<u8>::new(), Vec::new(), 0, Vec::new());
+            while at < input.len() {
+                let done = session.batch(&input[at..], &mut out, &mut listed, &mut guest).unwrap();
+                assert!(done.used > 0 && !done.closing && done.signals().len() == done.signals().count());
+                wrote.extend(done.bytes);
+                assert!(done.signals().all(|signal| !matches!(signal, Signal::None | Signal::Resume { .. })));
+                assert_eq!(done.signals().len(), done.listed.len());
+                told.extend(done.signals().chain(Some(done.resume).filter(|signal| *signal != Signal::None)));
+                at += done.used;
+                ends.push(at);
+                assert_eq!(done.resume != Signal::None, resumes[..2].contains(&at));
+            }
+            assert!(wrote == bytes && told == signals && guest == memory, "{room} bytes more, {places} places");
+            assert!(all(&session) == all(&single));
+            if (room, places) == (MESSAGE_OUT, 16) {
+                // a resume ends a batch, and nothing else does
+                assert_eq!(ends, resumes);
+            }
+        }
+    }
+}
+
+#[test]
+fn listed_signals() {
+    for vcpu in 0..MAX_VCPUS {
+        assert_eq!(Signal::from_listed(256 + 2 * vcpu), Some(Signal::Kick { vcpu, wait: false }));
+        assert_eq!(Signal::from_listed(257 + 2 * vcpu), Some(Signal::Kick { vcpu, wait: true }));
+        assert_eq!(Signal::from_listed(512 + vcpu), Some(Signal::Crash { vcpu }));
+    }
+    for code in (0..256).chain(288..512).chain(528..1100).chain([1 << 16 | 256, 1 << 31 | 512, u32::MAX]) {
+        assert_eq!(Signal::from_listed(code), None);
+    }
+    // every vCPU, as the library lists it
+    let mut session = Session::fresh(&Settings::allowing_all(MAX_VCPUS)).unwrap();
+    (0..MAX_VCPUS).for_each(|vcpu| session.ready(vcpu).unwrap());
+    let input: Vec<u8> = (0..16).flat_map(|vcpu| on_vcpu(9, vcpu, [u8::from(vcpu % 3 == 0), 0, 0, 0, 0, 0, 0, 0])).collect();
+    let (mut out, mut signals) = ([0; 2 * MESSAGE_OUT], [0; 16]);
+    let done = session.batch(&input, &mut out, &mut signals, &mut []).unwrap();
+    assert!(done.signals().eq((0..16).map(|vcpu| Signal::Kick { vcpu, wait: vcpu % 3 == 0 })) && done.used == input.len());
+    assert_eq!((done.listed[0], done.listed[15], done.bytes.len()), (257, 287, 256));
+}
+
 #[test]
 fn limits() {
     let mut session = Session::fresh(&Settings::allowing_all(1)).unwrap();
@@ -441,9 +645,10 @@ fn refusals_are_errors() {
         Refusal::BadForm { offset: 5 },
         Refusal::Forbidden { offset: 5 },
         Refusal::Busy,
+        Refusal::NoPlace,
         Refusal::NotApplicable,
     ];
-    assert_eq!(refusals.map(Refusal::number), [2, 3, 4, 5, 6, 7, 8, 9, 10, 14]);
+    assert_eq!(refusals.map(Refusal::number), [2, 3, 4, 5, 6, 7, 8, 9, 10, 11, 14]);
     let texts = refusals.map(|refusal| refusal.to_string());
     assert!((1..texts.len()).all(|i| !texts[..i].contains(&texts[i])));
 }
@@ -481,7 +686,18 @@ fn memory_behind_a_pointer() {
     // SAFETY: as before.
     let answer = unsafe { session.message_at(&read, &mut out, lent) }.unwrap();
     assert_eq!(&answer.bytes()[16..], b"\0abc\0");
-    assert_eq!(&guest[4100..4103], b"abc");
+    // both in one batch: the read sees what the write left
+    let write = message(7, &[&4101u64.to_le_bytes()[..], &1u64.to_le_bytes(), b"B"].concat());
+    let (input, mut out, mut signals) = ([&write[..], &read].concat(), [0; 2 * MESSAGE_OUT], [0; 1]);
+    // SAFETY: as before.
+    let done = unsafe { session.batch_at(&input, &mut out, &mut signals, lent) }.unwrap();
+    assert_eq!(
+        (done.used, done.bytes.len(), &done.bytes[32..], done.signals().next()),
+        (25 + 24, 16 + 21, &b"\0aBc\0"[..], None)
+    );
+    // SAFETY: as before.
+    assert_eq!(unsafe { session.batch_at(&input, &mut out, &mut [], lent) }, Err(Refusal::NoPlace));
+    assert_eq!(&guest[4100..4103], b"aBc");
 }
 
 #[test]
@@ -490,6 +706,8 @@ fn send_and_sync() {
     both::<Session>();
     both::<Settings>();
     both::<Answer<'static>>();
+    both::<Batch<'static>>();
+    both::<Signals<'static>>();
     both::<Entry<'static>>();
     both::<Refusal>();
     both::<Signal>();

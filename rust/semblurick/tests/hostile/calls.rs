@@ -9,7 +9,7 @@ use std::ptr::{copy_nonoverlapping, write_bytes};
 use std::slice::from_raw_parts_mut;
 use std::sync::atomic::Ordering;
 
-pub const KINDS: [(&str, &[u64]); 9] = [
+pub const KINDS: [(&str, &[u64]); 10] = [
     ("fresh", &[0, 7]),
     ("ready", &[0, 2, 4]),
     ("message", &[0, 1, 2, 3]),
@@ -19,9 +19,12 @@ pub const KINDS: [(&str, &[u64]); 9] = [
     ("image_size", &[]),
     ("list_ready", &[0, 4]),
     ("list_cr", &[0, 4, 14]),
+    ("batch", &[0, 1, 2, 3, 11]),
 ];
 
 pub const SIGNALS: [&str; 5] = ["none", "kick", "crash", "resume to continue", "resume to retry"];
+
+pub const ENDS: [&str; 4] = ["the input is used up", "a resume", "short output", "no place in the list"];
 
 pub const LOOKUPS: [&str; 12] = [
     "is_open",
@@ -44,9 +47,11 @@ pub struct Hostile {
     end: Side,
     beginning: Side,
     pub calls: u64,
-    pub answers: [[u64; 15]; 9],
+    pub answers: [[u64; 15]; 10],
     /// By signal of a message.
     pub signals: [u64; 5],
+    /// By what ended a batch with answer 0.
+    pub ends: [u64; 4],
     /// Messages that ask for execute-only pages, access 4: refused without the flag, and taken with it.
     pub execute_only: [u64; 2],
     /// By event that was offered: passed over, written.
@@ -68,8 +73,9 @@ impl Hostile {
             end: Side::new(true),
             beginning: Side::new(false),
             calls: 0,
-            answers: [[0; 15]; 9],
+            answers: [[0; 15]; 10],
             signals: [0; 5],
+            ends: [0; 4],
             execute_only: [0; 2],
             events: [[0; 2]; 15],
             lookups: [[0; 2]; 12],
@@ -146,8 +152,8 @@ impl Hostile {
         first
     }
 
-    /// A call with a result: all of it is written.
-    fn told(&mut self, kind: usize, reads: impl Fn(u64) -> Reads, call: impl Fn(&Side) -> u64) -> (u64, [u64; 12]) {
+    /// A call with a result of twelve words: all of it is written, and what is reserved is 0.
+    fn called(&mut self, kind: usize, reads: impl Fn(u64) -> Reads, call: impl Fn(&Side) -> u64) -> (u64, [u64; 12]) {
         // SAFETY: there is a result's room.
         unsafe {
             write_bytes(self.end.result, 0xAA, RESULT);
@@ -157,8 +163,15 @@ impl Hostile {
         // SAFETY: any bits are numbers.
         let [first, second] = [&self.end, &self.beginning].map(|side| unsafe { side.result.cast::<[u64; 12]>().read() });
         assert_eq!(first, second, "the two results");
-        let [count, offset, signal, vcpu, wait, action, value, rest @ ..] = first;
-        assert_eq!(rest, [0; 5], "the reserved words");
+        assert_eq!(first[7..], [0; 5], "the reserved words");
+        self.note(kind, answer);
+        (answer, first)
+    }
+
+    /// A call with a result, but for a batch.
+    fn told(&mut self, kind: usize, reads: impl Fn(u64) -> Reads, call: impl Fn(&Side) -> u64) -> (u64, [u64; 12]) {
+        let (answer, first) = self.called(kind, reads, call);
+        let [count, offset, signal, vcpu, wait, action, value, ..] = first;
         assert!(signal <= 3 && wait <= 1 && action <= 1, "{first:?}");
         assert!((signal != 0 || vcpu == 0) && (signal == 1 || wait == 0), "{first:?}");
         assert!(signal == 3 || (action, value) == (0, 0), "{first:?}");
@@ -168,7 +181,6 @@ impl Hostile {
         if !matches!(answer, 8 | 9) {
             assert_eq!(offset, 0);
         }
-        self.note(kind, answer);
         (answer, first)
     }
 
@@ -282,6 +294,72 @@ impl Hostile {
             }
         }
         if answer == 1 || message.first() == Some(&16) {
+            self.awaited = None;
+        }
+    }
+
+    /// Several messages, and beside it the same ones by single calls on a copy of all that is lent.
+    fn batch(&mut self) {
+        let mut input: Vec<u8> = Vec::new();
+        for _ in 0..self.random.below(7) {
+            input.extend(lent::message(&mut self.random, self.awaited));
+        }
+        let out = match self.random.below(30) {
+            0 => self.random.pick(&[0, 1, 16, 552, 4111]),
+            _ => 4112 + self.random.pick(&[0, 15, 16, 17, 100, 700, 5000, 20_000]),
+        };
+        let places = if self.random.percent(4) { 0 } else { self.random.pick(&[1, 1, 2, 3, 16]) };
+        let guest = self.random.pick(&[0, PAGE - 1, PAGE, 4 * PAGE, 4 * PAGE, 5 * PAGE - 1]);
+        self.lend_input(&input);
+        self.lend_out(out);
+        for side in [&self.end, &self.beginning] {
+            // SAFETY: inside the rooms, which hold nothing else.
+            unsafe {
+                copy_nonoverlapping(self.guest.as_ptr(), side.guest(guest), guest);
+                write_bytes(side.signals(places), BLANK, 4 * places);
+            }
+        }
+        let mut alone = Alone::new(&self.end, &self.guest[..guest], out);
+        let number = alone.take(&input, places);
+
+        let size = input.len();
+        let (answer, result) = self.called(9, refusal, |s| unsafe {
+            let (bytes, to, list, memory) = (s.input(size), s.out(out), s.signals(places), s.guest(guest));
+            semblurick_raw_batch(s.session, s.vcpus, s.pages, bytes, size, to, out, list, places, memory, guest, s.result)
+                .into()
+        });
+        assert_eq!(answer, number.into(), "the answer to a batch");
+        let Alone { used, count, listed, resume: [signal, vcpu, action, value], .. } = &alone;
+        let told = [*used as u64, *count as u64, listed.len() as u64, *signal, *vcpu, *action, *value];
+        assert_eq!(result[..7], told, "the result of a batch");
+        assert!(self.same_out(out, result[1]) == &alone.out[..*count], "the output of a batch");
+        self.same_input(&input);
+        let mut codes: Vec<u8> = listed.iter().flat_map(|code| code.to_le_bytes()).collect();
+        codes.resize(4 * places, BLANK);
+        for side in [&self.end, &self.beginning] {
+            // SAFETY: the sides are only read.
+            unsafe {
+                assert!(seen(side.signals(places), 4 * places) == codes, "the list of signals");
+                assert!(seen(side.guest(guest), guest) == alone.guest, "guest memory after a batch");
+                let words = alone.words.as_ptr().cast::<u8>().cast_mut();
+                let (session, tables) = (seen(words, SESSION), seen(words.add(SESSION), VCPU_BYTES + PAGE_BYTES));
+                assert!(seen(side.session, SESSION) == session, "the session after a batch");
+                assert!(seen(side.vcpus, VCPU_BYTES) == &tables[..VCPU_BYTES], "the words of the vCPUs after a batch");
+                assert!(seen(side.pages, PAGE_BYTES) == &tables[VCPU_BYTES..], "the words of the pages after a batch");
+            }
+        }
+        if answer == 0 {
+            self.ends[if *used == size {
+                0
+            } else if *signal != 0 {
+                1
+            } else if out - *count < 4112 {
+                2
+            } else {
+                3
+            }] += 1;
+        }
+        if answer < 2 && *used > 0 {
             self.awaited = None;
         }
     }
@@ -620,6 +698,7 @@ impl Hostile {
             155..175 => self.image_read(),
             175..400 => self.lookup(),
             400..450 => self.list(),
+            450..490 => self.batch(),
             _ => self.message(),
         }
     }
@@ -639,6 +718,81 @@ impl Hostile {
                 }
             }
         }
+    }
+}
+
+/// The messages of a batch by single calls, on a copy of what is lent.
+struct Alone {
+    /// A session, the words of the vCPUs and those of the pages.
+    words: Vec<u64>,
+    guest: Vec<u8>,
+    out: Vec<u8>,
+    used: usize,
+    count: usize,
+    listed: Vec<u32>,
+    /// Signal, vCPU, action and value.
+    resume: [u64; 4],
+}
+
+impl Alone {
+    fn new(side: &Side, guest: &[u8], out: usize) -> Alone {
+        let mut words = vec![0; (SESSION + VCPU_BYTES + PAGE_BYTES) / 8];
+        let to = words.as_mut_ptr().cast::<u8>();
+        // SAFETY: there is room for all three, one behind the other.
+        unsafe {
+            copy_nonoverlapping(side.session, to, SESSION);
+            copy_nonoverlapping(side.vcpus, to.add(SESSION), VCPU_BYTES);
+            copy_nonoverlapping(side.pages, to.add(SESSION + VCPU_BYTES), PAGE_BYTES);
+        }
+        let (guest, out) = (guest.to_vec(), vec![BLANK; out]);
+        Alone { words, guest, out, used: 0, count: 0, listed: Vec::new(), resume: [0; 4] }
+    }
+
+    /// Gives the number of the batch's answer.
+    fn take(&mut self, input: &[u8], places: usize) -> u32 {
+        let session = self.words.as_mut_ptr().cast::<u8>();
+        // SAFETY: there is a session.
+        if unsafe { semblurick_raw_is_open(session) } == 0 {
+            return 2;
+        }
+        if self.out.len() < 4112 {
+            return 3;
+        }
+        if places == 0 {
+            return 11;
+        }
+        while self.used < input.len() && self.out.len() - self.count >= 4112 && self.listed.len() < places {
+            let left = &input[self.used..];
+            let size = match *left {
+                [_, _, low, high, _, _, _, _, ..] => left.len().min(8 + usize::from(u16::from_le_bytes([low, high]))),
+                _ => left.len(),
+            };
+            let (mut message, mut result) = (left[..size].to_vec(), [0u64; 12]);
+            let out = &mut self.out[self.count..];
+            // SAFETY: all of it is this struct's own.
+            let number = unsafe {
+                let (vcpus, pages) = (session.add(SESSION), session.add(SESSION + VCPU_BYTES));
+                let (memory, told) = (self.guest.as_mut_ptr(), result.as_mut_ptr().cast());
+                let (bytes, to, room) = (message.as_mut_ptr(), out.as_mut_ptr(), out.len());
+                semblurick_raw_message(session, vcpus, pages, bytes, size, to, room, memory, self.guest.len(), told)
+            };
+            let [count, _, signal, vcpu, wait, action, value, ..] = result;
+            self.used += size;
+            self.count += count as usize;
+            match signal {
+                1 => self.listed.push(256 + 2 * vcpu as u32 + wait as u32),
+                2 => self.listed.push(512 + vcpu as u32),
+                3 => {
+                    self.resume = [signal, vcpu, action, value];
+                    return number;
+                }
+                _ => {}
+            }
+            if number != 0 {
+                return number;
+            }
+        }
+        0
     }
 }
 

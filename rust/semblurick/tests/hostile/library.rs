@@ -47,6 +47,20 @@ extern "C" {
         guest_size: usize,
         result: Bytes,
     ) -> u32;
+    pub fn semblurick_raw_batch(
+        session: Bytes,
+        vcpus: Bytes,
+        pages: Bytes,
+        input: Bytes,
+        input_size: usize,
+        out: Bytes,
+        out_size: usize,
+        signals: Bytes,
+        signals_size: usize,
+        guest: Bytes,
+        guest_size: usize,
+        result: Bytes,
+    ) -> u32;
     pub fn semblurick_raw_enter(
         session: Bytes,
         vcpus: Bytes,

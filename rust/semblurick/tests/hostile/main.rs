@@ -3,7 +3,7 @@
 //!
 //! Every call is made twice, on equal copies: once with each buffer at the end of its pages, and once with each at their beginning, and
 //! next to each is a page that cannot be touched. Both times the answer and every byte are the same; a lookup changes nothing, nor
-//! does a refusal. A run is fixed by its seed, SEED or the number in SEMBLURICK_SEED.
+//! does a refusal; a batch does what its messages do by single calls. A run is fixed by its seed, SEED or the number in SEMBLURICK_SEED.
 #![cfg(all(target_os = "linux", target_arch = "x86_64"))]
 
 mod calls;
@@ -12,7 +12,7 @@ mod library;
 mod memory;
 mod random;
 
-use calls::{Hostile, KINDS, LOOKUPS, SIGNALS};
+use calls::{Hostile, ENDS, KINDS, LOOKUPS, SIGNALS};
 use library::{_exit, fork, signal, waitpid, write};
 use memory::{Room, PAGE};
 // the library comes with it
@@ -105,6 +105,10 @@ fn memory_of_any_bits() {
     for (name, count) in SIGNALS.iter().zip(&hostile.signals) {
         println!("{count:>9}  signal: {name}");
         assert!(*count > 0, "no message had the signal {name} with seed {seed}");
+    }
+    for (name, count) in ENDS.iter().zip(&hostile.ends) {
+        println!("{count:>9}  batch: ended by {name}");
+        assert!(*count > 0, "no batch was ended by {name} with seed {seed}");
     }
     let [refused, taken] = hostile.execute_only;
     println!("{refused:>9}  execute-only pages: refused without the flag\n{taken:>9}  execute-only pages: taken with it");

@@ -48,6 +48,7 @@ pub struct Side {
     pub out: Room,
     pub guest: Room,
     pub list: Room,
+    pub signals: Room,
 }
 
 impl Side {
@@ -65,6 +66,7 @@ impl Side {
             out: Room::new(IMAGE_MAX + PAGE),
             guest: Room::new(5 * PAGE),
             list: Room::new(20 * RECORD),
+            signals: Room::new(PAGE),
         }
     }
 
@@ -86,6 +88,10 @@ impl Side {
 
     pub fn list(&self, records: usize) -> Bytes {
         self.list.place(self.at_end, records * RECORD)
+    }
+
+    pub fn signals(&self, places: usize) -> Bytes {
+        self.signals.place(self.at_end, 4 * places)
     }
 }
 
