@@ -6,8 +6,10 @@ use reference::Settings;
 use std::fmt;
 use std::fmt::Write;
 
-/// The most that calls can lend: output, guest memory and register block.
+/// The most that calls can lend: output, guest memory and register block; and a batch its output and its list.
 pub const OUT_ROOM: usize = 4200;
+pub const BATCH_ROOM: usize = 65_536;
+pub const LIST_ROOM: usize = 300;
 pub const GUEST_ROOM: usize = 4 * 4096 + 64;
 pub const STATE_ROOM: usize = 1100;
 
@@ -22,6 +24,8 @@ pub enum Call {
     Ready { vcpu: u32 },
     /// A message, with so many bytes of output and guest memory lent.
     Message { out: usize, guest: usize, bytes: Vec<u8> },
+    /// Several messages in one write, with so many bytes of output, places of a list and bytes of guest memory lent.
+    Batch { out: usize, places: usize, guest: usize, bytes: Vec<u8> },
     /// An entry, with so many bytes of a register block, chosen by `fill`, and of output lent; and an event offered, with its own
     /// bytes.
     Enter { vcpu: u32, state: usize, fill: u8, event: u32, own: Vec<u8>, out: usize },
@@ -42,6 +46,7 @@ impl Call {
             Call::Load { .. } => "load",
             Call::Ready { .. } => "ready",
             Call::Message { .. } => "message",
+            Call::Batch { .. } => "batch",
             Call::Enter { .. } => "enter",
             Call::Image { .. } => "image",
             Call::ListReady { .. } => "list_ready",
@@ -69,6 +74,10 @@ impl fmt::Display for Call {
             Call::Ready { vcpu } => write!(f, " vcpu={vcpu}"),
             Call::Message { out, guest, bytes } => {
                 write!(f, " out={out} guest={guest} bytes=")?;
+                put_hex(f, bytes)
+            }
+            Call::Batch { out, places, guest, bytes } => {
+                write!(f, " out={out} places={places} guest={guest} bytes=")?;
                 put_hex(f, bytes)
             }
             Call::Enter { vcpu, state, fill, event, own, out } => {
@@ -135,6 +144,12 @@ fn parse_call(line: &str) -> Result<Call, String> {
         "ready" => Call::Ready { vcpu: fields.number("vcpu")? },
         "message" => Call::Message {
             out: fields.up_to("out", OUT_ROOM)?,
+            guest: fields.up_to("guest", GUEST_ROOM)?,
+            bytes: fields.hex("bytes")?,
+        },
+        "batch" => Call::Batch {
+            out: fields.up_to("out", BATCH_ROOM)?,
+            places: fields.up_to("places", LIST_ROOM)?,
             guest: fields.up_to("guest", GUEST_ROOM)?,
             bytes: fields.hex("bytes")?,
         },

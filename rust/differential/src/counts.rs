@@ -1,21 +1,32 @@
 //! What a run has seen.
 
 use crate::access_counts::AccessCounts;
+use crate::batch_counts::BatchCounts;
 use crate::event_counts::{EventCounts, Stands};
 use crate::look::LOOKUPS;
+use crate::run::Taken;
 use crate::{Call, Lookup, Told};
-use reference::{Action, Answer, Settings, Signal};
+use reference::{Action, Answer, Batch, Settings, Signal};
 use std::fmt;
 
 /// Every error code of a reply.
 pub const CODES: [i32; 9] = [0, -1, -2, -11, -12, -16, -22, -95, -1000];
 
 /// The kinds of calls, as rows of the answers.
-const WORDS: [&str; 8] = ["fresh", "load", "ready", "message", "enter", "image", "list_ready", "list_cr"];
+const WORDS: [&str; 9] = ["fresh", "load", "ready", "message", "batch", "enter", "image", "list_ready", "list_cr"];
 
 /// The answers that each kind has.
-const ANSWERS: [&[usize]; 8] =
-    [&[0, 7], &[0, 7, 8, 9], &[0, 2, 4], &[0, 1, 2, 3], &[0, 2, 3, 4, 5, 6], &[0, 2, 3, 10], &[0, 4], &[0, 4, 14]];
+const ANSWERS: [&[usize]; 9] = [
+    &[0, 7],
+    &[0, 7, 8, 9],
+    &[0, 2, 4],
+    &[0, 1, 2, 3],
+    &[0, 1, 2, 3, 11],
+    &[0, 2, 3, 4, 5, 6],
+    &[0, 2, 3, 10],
+    &[0, 4],
+    &[0, 4, 14],
+];
 
 /// What calls on lists can be about.
 const LISTS: [&str; 7] = [
@@ -90,7 +101,7 @@ pub struct Counts {
     pub longest: u64,
     pub most_pages: u64,
     pub largest: u64,
-    answers: [[u64; 15]; 8],
+    answers: [[u64; 15]; 9],
     /// Lookups: by name and by what they told or were asked.
     looked: [[u64; 4]; 12],
     /// Lookups in closed sessions.
@@ -105,6 +116,7 @@ pub struct Counts {
     signals: [u64; 9],
     events: EventCounts,
     accesses: AccessCounts,
+    batches: BatchCounts,
     refused: [[u64; 2]; 8],
 }
 
@@ -148,7 +160,8 @@ impl Counts {
                 ];
                 self.lists.iter_mut().zip(kinds).for_each(|(count, seen)| *count += u64::from(seen));
             }
-            Call::Fresh { .. } | Call::Ready { .. } | Call::Look { .. } => {}
+            // what is seen of a batch is noted before
+            Call::Fresh { .. } | Call::Ready { .. } | Call::Batch { .. } | Call::Look { .. } => {}
         }
         match call {
             Call::Fresh { settings } | Call::Load { settings, keep: true, .. } if answer.number() == 0 => {
@@ -158,6 +171,25 @@ impl Counts {
             _ if answer == Answer::Closing => self.events.forget(),
             _ => {}
         }
+    }
+
+    /// Takes note of a batch that both sides answered alike, and of the signals listed.
+    pub(crate) fn saw_batch(&mut self, call: &Call, batch: &Batch, listed: &[u32]) {
+        let Call::Batch { bytes, .. } = call else { return };
+        if let Answer::Handled { .. } = batch.answer {
+            self.events.saw_replies(&bytes[..batch.used]);
+        }
+        self.batches.saw(call, batch, listed);
+    }
+
+    /// Takes note of a batch's messages as they are taken one by one.
+    pub(crate) fn saw_taken(&mut self, call: &Call, batch: &Batch, taken: &[Taken]) {
+        self.batches.saw_taken(call, batch, taken);
+    }
+
+    /// How many batches there were, and how many messages they used.
+    pub fn batches(&self) -> (u64, u64) {
+        (self.batches.batches, self.batches.messages)
     }
 
     /// Takes note of a lookup, and says whether what is asked of no session is off, or at rwx.
@@ -269,6 +301,7 @@ impl Counts {
         sum(&mut self.signals, &other.signals);
         self.events.add(&other.events);
         self.accesses.add(&other.accesses);
+        self.batches.add(&other.batches);
         sum(self.refused.as_flattened_mut(), other.refused.as_flattened());
     }
 
@@ -299,6 +332,7 @@ impl Counts {
         list.extend(SIGNALS.iter().zip(self.signals).map(|(name, count)| (format!("signal: {name}"), count)));
         list.extend(self.events.wanted());
         list.extend(self.accesses.wanted());
+        list.extend(self.batches.wanted());
         for (place, [form, forbidden]) in PLACES.iter().zip(self.refused) {
             list.push((format!("image: bad form at {place}"), form));
             if matches!(*place, "VM" | "VC" | "PA") {
@@ -354,6 +388,8 @@ fn sum(into: &mut [u64], from: &[u64]) {
 impl fmt::Display for Counts {
     fn fmt(&self, f: &mut fmt::Formatter<'_>) -> fmt::Result {
         writeln!(f, "{} sessions, {} messages, the longest with {}", self.sessions, self.messages, self.longest)?;
+        let (batches, messages) = self.batches();
+        writeln!(f, "{batches} batches with {messages} messages more, the longest with {}", self.batches.longest)?;
         writeln!(
             f,
             "{} images read, {} written, the largest of {} bytes",

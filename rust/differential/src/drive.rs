@@ -96,6 +96,9 @@ const KEPT: usize = 32;
 const ALL_LOOKS: u64 = 64;
 const ALL_MSRS: u64 = 4096;
 
+/// Once in so many calls of a session, several messages come in one write.
+const BATCHES: u64 = 120;
+
 impl<L: Filter, R: Filter> Player<L, R> {
     fn call(&mut self, call: Call) -> Result<Option<Answer>, Mismatch> {
         self.calls.push(call);
@@ -124,7 +127,11 @@ impl<L: Filter, R: Filter> Player<L, R> {
     /// A call that the guide is told of.
     fn guided(&mut self, guide: &mut Guide, call: Call) -> Result<(), Mismatch> {
         let answer = self.call(call)?.expect("there is a session");
-        guide.saw(self.calls.last().expect("the call made"), answer, self.runner.bytes());
+        let call = self.calls.last().expect("the call made");
+        match (call, self.runner.batch()) {
+            (Call::Batch { bytes, .. }, Some(batch)) => guide.saw_batch(bytes, batch),
+            _ => guide.saw(call, answer, self.runner.bytes()),
+        }
         Ok(())
     }
 
@@ -167,6 +174,10 @@ impl<L: Filter, R: Filter> Player<L, R> {
         for _ in 0..length {
             let call = guide.call(random);
             self.guided(&mut guide, call)?;
+            if !guide.closed && random.one_in(BATCHES) {
+                let call = guide.batch(random);
+                self.guided(&mut guide, call)?;
+            }
             if guide.closed {
                 break;
             }
@@ -240,6 +251,10 @@ impl<L: Filter, R: Filter> Player<L, R> {
         // mostly it is closed now, whatever is asked of it
         for _ in 0..random.below(4) {
             let call = guide.call(random);
+            self.guided(guide, call)?;
+        }
+        if random.one_in(16) {
+            let call = guide.batch(random);
             self.guided(guide, call)?;
         }
         self.call(Call::Image { room: 0 })?;

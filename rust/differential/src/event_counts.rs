@@ -1,5 +1,6 @@
 //! What a run has seen of events: the entries that offer them, and their replies.
 
+use crate::batch::messages;
 use crate::event::{own_size, register, reply_size, takes_retry, Awaited, OFFERED};
 use crate::{Answer, Call, Lookup, Told};
 
@@ -184,6 +185,15 @@ impl EventCounts {
             data.len() == 24 && action == 0 && data[16..24] == [0; 8],
         ];
         self.taken.iter_mut().zip(kinds).for_each(|(count, seen)| *count += u64::from(seen));
+    }
+
+    /// The messages of a batch, of which none closes: what they reply to is awaited no more.
+    pub fn saw_replies(&mut self, bytes: &[u8]) {
+        for message in messages(bytes) {
+            if let [16, 0, _, _, _, _, _, _, vcpu, ..] = message {
+                self.awaited[usize::from(*vcpu)] = None;
+            }
+        }
     }
 
     pub fn add(&mut self, other: &EventCounts) {

@@ -2,7 +2,7 @@
 
 use crate::{Lookup, Told};
 use reference::list::Record;
-use reference::{Action, Answer, Settings, Signal};
+use reference::{Action, Answer, Batch, Settings, Signal};
 use std::cell::RefCell;
 
 /// What can be asked of a filter. `fresh` and `load` begin a session or refuse it.
@@ -12,6 +12,7 @@ pub trait Filter: Sized {
     fn ready(&mut self, vcpu: u32) -> Answer;
     /// The answer, and the error that the bytes written tell.
     fn message(&mut self, message: &[u8], out: &mut [u8], guest: &mut [u8]) -> (Answer, Option<i32>);
+    fn batch(&mut self, input: &[u8], out: &mut [u8], signals: &mut [u32], guest: &mut [u8]) -> Batch;
     fn enter(&mut self, vcpu: u32, state: &[u8], event: u32, own: &[u8], out: &mut [u8]) -> Answer;
     fn image_size(&self) -> usize;
     fn write_image(&self, out: &mut [u8]) -> Answer;
@@ -23,6 +24,11 @@ pub trait Filter: Sized {
 
     /// The settings, where the filter tells them.
     fn settings(&self) -> Option<Settings> {
+        None
+    }
+
+    /// A copy of the session, where the filter gives one.
+    fn copied(&self) -> Option<Self> {
         None
     }
 }
@@ -105,25 +111,27 @@ impl Filter for Proved {
                 match answer {
                     semblurick::Answer::Closing => (Answer::Closing, error),
                     semblurick::Answer::Handled { bytes, signal, .. } => {
-                        let narrow = |vcpu: u32| u16::try_from(vcpu).expect("a vCPU below 16");
-                        let signal = match signal {
-                            semblurick::Signal::None => Signal::None,
-                            semblurick::Signal::Kick { vcpu, wait } => Signal::Kick { vcpu: narrow(vcpu), wait },
-                            semblurick::Signal::Crash { vcpu } => Signal::Crash { vcpu: narrow(vcpu) },
-                            semblurick::Signal::Resume { vcpu, action, value } => {
-                                let action = match action {
-                                    semblurick::Action::Continue => Action::Continue,
-                                    semblurick::Action::Retry => Action::Retry,
-                                    other => panic!("a resume has no {other}"),
-                                };
-                                Signal::Resume { vcpu: narrow(vcpu), action, value }
-                            }
-                            other => panic!("the reference has no {other}"),
-                        };
-                        (Answer::Handled { count: bytes.len(), signal }, error)
+                        (Answer::Handled { count: bytes.len(), signal: signalled(signal) }, error)
                     }
                     other => panic!("the reference has no {other}"),
                 }
+            }
+        }
+    }
+
+    fn batch(&mut self, input: &[u8], out: &mut [u8], signals: &mut [u32], guest: &mut [u8]) -> Batch {
+        let (first, list) = (out.as_ptr(), signals.as_ptr());
+        match self.s_mut().batch(input, out, signals, guest) {
+            Err(refusal) => Batch { answer: refused(refusal), used: 0, count: 0, listed: 0, resume: Signal::None },
+            Ok(batch) => {
+                assert!(batch.bytes.as_ptr() == first && batch.listed.as_ptr() == list);
+                let (used, count, listed) = (batch.used, batch.bytes.len(), batch.listed.len());
+                let resume = signalled(batch.resume);
+                let answer = match batch.closing {
+                    true => Answer::Closing,
+                    false => Answer::Handled { count, signal: resume },
+                };
+                Batch { answer, used, count, listed, resume }
             }
         }
     }
@@ -201,6 +209,29 @@ impl Filter for Proved {
             execute_only: told.execute_only,
         })
     }
+
+    fn copied(&self) -> Option<Proved> {
+        Some(Proved(self.0.clone()))
+    }
+}
+
+/// A signal of the wrapper, as the reference has it.
+fn signalled(signal: semblurick::Signal) -> Signal {
+    let narrow = |vcpu: u32| u16::try_from(vcpu).expect("a vCPU below 16");
+    match signal {
+        semblurick::Signal::None => Signal::None,
+        semblurick::Signal::Kick { vcpu, wait } => Signal::Kick { vcpu: narrow(vcpu), wait },
+        semblurick::Signal::Crash { vcpu } => Signal::Crash { vcpu: narrow(vcpu) },
+        semblurick::Signal::Resume { vcpu, action, value } => {
+            let action = match action {
+                semblurick::Action::Continue => Action::Continue,
+                semblurick::Action::Retry => Action::Retry,
+                other => panic!("a resume has no {other}"),
+            };
+            Signal::Resume { vcpu: narrow(vcpu), action, value }
+        }
+        other => panic!("the reference has no {other}"),
+    }
 }
 
 /// A call on the wrapper's records, which get the words of these and give them back.
@@ -246,6 +277,7 @@ fn refused(refusal: semblurick::Refusal) -> Answer {
         Refusal::BadForm { offset } => Answer::BadForm { offset },
         Refusal::Forbidden { offset } => Answer::Forbidden { offset },
         Refusal::Busy => Answer::Busy,
+        Refusal::NoPlace => Answer::NoPlace,
         Refusal::NotApplicable => Answer::NotApplicable,
         other => panic!("the reference has no {other}"),
     };
@@ -292,6 +324,10 @@ impl Filter for Plain {
         }
     }
 
+    fn batch(&mut self, input: &[u8], out: &mut [u8], signals: &mut [u32], guest: &mut [u8]) -> Batch {
+        self.0.batch(input, out, signals, guest)
+    }
+
     fn enter(&mut self, vcpu: u32, state: &[u8], event: u32, own: &[u8], out: &mut [u8]) -> Answer {
         self.0.enter(narrow(vcpu), state, event, own, out)
     }
@@ -336,6 +372,10 @@ impl Filter for Plain {
 
     fn settings(&self) -> Option<Settings> {
         Some(self.0.settings().clone())
+    }
+
+    fn copied(&self) -> Option<Plain> {
+        Some(self.clone())
     }
 }
 

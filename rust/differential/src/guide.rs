@@ -8,6 +8,7 @@ use crate::message::{damage, message, spoil_padding, unknown, wild};
 use crate::{Answer, Call, Random, Settings, GUEST_ROOM};
 
 /// What a session is mostly about.
+#[derive(Clone)]
 pub(crate) struct Taste {
     /// The weight of each message, 0 for unknown ones.
     messages: [u32; 17],
@@ -77,6 +78,7 @@ impl Taste {
 const MSRS: usize = 16;
 
 /// Makes the calls of one session.
+#[derive(Clone)]
 pub struct Guide {
     pub settings: Settings,
     pub closed: bool,
@@ -250,14 +252,19 @@ impl Guide {
             1..4 => 4112 + random.index(80),
             _ => 4112,
         };
-        let guest = match random.below(40) {
-            0 => lent_guest(random),
-            _ => self.guest,
-        };
+        let guest = self.lent(random);
         if random.one_in(self.taste.closing) {
             damage(random, &mut bytes);
         }
         Call::Message { out, guest, bytes }
+    }
+
+    /// How much guest memory is lent.
+    pub(crate) fn lent(&self, random: &mut Random) -> usize {
+        match random.below(40) {
+            0 => lent_guest(random),
+            _ => self.guest,
+        }
     }
 
     pub(crate) fn command_allowed(&self, id: u16) -> bool {
@@ -279,7 +286,7 @@ impl Guide {
     }
 
     /// A message that a tool could mean, though some fields may be at fault.
-    fn proper(&self, random: &mut Random) -> Vec<u8> {
+    pub(crate) fn proper(&self, random: &mut Random) -> Vec<u8> {
         // an event that is awaited is switched off before its reply comes
         if !self.awaited.is_empty() && random.one_in(20) {
             match self.switch_off(random) {
@@ -301,7 +308,7 @@ impl Guide {
     }
 
     /// A message with this number, 0 for an unknown one.
-    fn of(&self, random: &mut Random, id: u16) -> Vec<u8> {
+    pub(crate) fn of(&self, random: &mut Random, id: u16) -> Vec<u8> {
         let seq = match random.below(3) {
             0 => random.pick(&[0, 1, 2, 0xFF, u32::MAX]),
             _ => random.word() as u32,

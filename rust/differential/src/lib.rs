@@ -4,14 +4,16 @@
 //! * [`Call`] is one call, with a text form that can be replayed;
 //! * [`Runner`] makes calls on both sides and compares answers, outputs, guest memory and images, and what lookups tell;
 //! * [`look`] has the lookups that are asked between calls;
-//! * [`settings`], [`guide`], [`event`], [`image`] and [`list`] make settings, calls, entries with their events, images and
-//!   lists of records, good and damaged;
+//! * [`settings`], [`guide`], [`batch`], [`event`], [`image`] and [`list`] make settings, calls, writes of several messages, entries
+//!   with their events, images and lists of records, good and damaged;
 //! * [`shrink`] makes a failing list of calls short;
 //! * [`drive`] does all this for a seed, and [`Counts`] says what was seen.
 
 #![forbid(unsafe_code)]
 
 mod access_counts;
+pub mod batch;
+mod batch_counts;
 mod call;
 mod counts;
 pub mod drive;
@@ -28,11 +30,11 @@ mod run;
 pub mod settings;
 pub mod shrink;
 
-pub use call::{parse, Call, GUEST_ROOM, OUT_ROOM, STATE_ROOM};
+pub use call::{parse, Call, BATCH_ROOM, GUEST_ROOM, LIST_ROOM, OUT_ROOM, STATE_ROOM};
 pub use counts::{Counts, CODES};
 pub use filter::{told_error, Filter, Plain, Proved};
 pub use look::{Lookup, Told};
 pub use random::Random;
 pub use reference::list::Record;
-pub use reference::{Action, Answer, Settings, Signal};
+pub use reference::{Action, Answer, Batch, Settings, Signal};
 pub use run::{run, Mismatch, Runner};

@@ -2,6 +2,7 @@
 //!
 //! After every call what it touched is asked, and some of the rest; every so often, and after an image, all of it.
 
+use crate::batch::messages;
 use crate::event::register;
 use crate::message::msr;
 use crate::{Call, Random};
@@ -163,11 +164,23 @@ pub fn near(random: &mut Random, call: &Call, pages: usize, list: &mut Vec<Looku
     list.extend([Lookup::IsOpen, Lookup::PageCount]);
     vm_events(random, list);
 
-    let (vcpu, register) = match call {
-        Call::Ready { vcpu } => (Some(*vcpu), None),
-        Call::Enter { vcpu, event, own, .. } => (Some(*vcpu), register(*event, own)),
-        Call::Message { bytes, .. } if matches!(half(bytes, 0), Some(8..=12 | 14 | 16)) => (half(bytes, 8), word(bytes, 20)),
-        _ => (None, None),
+    // the message, or some of a batch
+    let sent: [&[u8]; 4] = match call {
+        Call::Message { bytes, .. } => [bytes, &[], &[], &[]],
+        Call::Batch { bytes, .. } => {
+            let count = messages(bytes).count().max(1);
+            [(); 4].map(|()| messages(bytes).nth(random.index(count)).unwrap_or_default())
+        }
+        _ => [&[]; 4],
+    };
+    let of_host = match call {
+        Call::Ready { vcpu } => Some((*vcpu, None)),
+        Call::Enter { vcpu, event, own, .. } => Some((*vcpu, register(*event, own))),
+        _ => None,
+    };
+    let touched = |bytes: &&[u8]| match half(bytes, 0) {
+        Some(8..=12 | 14 | 16) => Some((half(bytes, 8)?, word(bytes, 20))),
+        _ => None,
     };
     let other = match random.below(4) {
         0 => random.pick(&[15, 16, 17, 0x100, 0x1_0000]),
@@ -177,14 +190,16 @@ pub fn near(random: &mut Random, call: &Call, pages: usize, list: &mut Vec<Looku
         }
         _ => random.below(16) as u32,
     };
-    for vcpu in vcpu.into_iter().chain([other]) {
+    let touched: Vec<(u32, Option<u32>)> = of_host.into_iter().chain(sent.iter().filter_map(touched)).collect();
+    let register = touched.first().and_then(|(_, register)| *register);
+    for (vcpu, register) in touched.into_iter().chain([(other, register)]) {
         switches(random, vcpu, list);
         for number in register.into_iter().chain([random.pick(&MSR_EDGES), msr(random, 8)]) {
             list.push(Lookup::Msr { vcpu, msr: number });
         }
     }
 
-    if let Call::Message { bytes, .. } = call {
+    for bytes in sent {
         if let (Some(13), Some(view), Some(entries)) = (half(bytes, 0), half(bytes, 10), bytes.get(16..)) {
             // the first, the last and one between
             let count = entries.len() / 16;

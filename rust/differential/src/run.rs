@@ -1,13 +1,16 @@
 //! Calls on both sides, and the comparing.
 
+mod batch;
+
 use crate::look::{self, Lookup, Told};
-use crate::{Call, Counts, Filter, Random, GUEST_ROOM, OUT_ROOM, STATE_ROOM};
+use crate::{Call, Counts, Filter, Random, BATCH_ROOM, GUEST_ROOM, LIST_ROOM, OUT_ROOM, STATE_ROOM};
+pub(crate) use batch::Taken;
 use reference::list::Record;
-use reference::{Answer, Settings, Signal};
+use reference::{Answer, Batch, Settings, Signal};
 use std::fmt;
 use std::panic::{catch_unwind, AssertUnwindSafe};
 
-/// Bytes that no call is lent, after each output and guest memory: they are compared too.
+/// Bytes that no call is lent, after each output and guest memory, and places after each list: they are compared too.
 const GUARD: usize = 64;
 
 /// What stands in an image's output before it is written.
@@ -47,6 +50,7 @@ struct Lent {
     out: Vec<u8>,
     guest: Vec<u8>,
     image: Vec<u8>,
+    signals: Vec<u32>,
 }
 
 struct Pair<L, R> {
@@ -75,13 +79,21 @@ pub struct Runner<L, R> {
     lookups: Vec<Lookup>,
     left: Lent,
     right: Lent,
-    /// What stands in the outputs and guest memories at first, and what register blocks are taken from: no byte is zero.
+    /// For the messages of a batch, one by one.
+    single: Lent,
+    /// What stands in the outputs, guest memories and lists at first, and what register blocks are taken from: no byte is zero.
     pattern: Vec<u8>,
     guest: Vec<u8>,
+    signals: Vec<u32>,
     states: Vec<u8>,
-    /// How many bytes of the outputs the last call wrote, and how many of the images.
+    /// How many bytes of the outputs the last call wrote, how many of the images, and how many places of the lists.
     written: usize,
     image: usize,
+    listed: usize,
+    /// The last call's result, if it was a batch.
+    batch: Option<Batch>,
+    /// The most output that was lent, since it was all as at first.
+    lent: usize,
     pub counts: Counts,
 }
 
@@ -144,20 +156,27 @@ impl<L: Filter, R: Filter> Default for Runner<L, R> {
 impl<L: Filter, R: Filter> Runner<L, R> {
     pub fn new() -> Runner<L, R> {
         let bytes = |seed, length| -> Vec<u8> { Random::new(seed).bytes(length).into_iter().map(|byte| byte.max(1)).collect() };
-        let (pattern, guest, states) = (bytes(0, OUT_ROOM + GUARD), bytes(1, GUEST_ROOM + GUARD), bytes(2, STATE_ROOM + 256));
-        let lent = || Lent { out: pattern.clone(), guest: guest.clone(), image: Vec::new() };
-        let (left, right) = (lent(), lent());
+        let (pattern, guest, states) = (bytes(0, BATCH_ROOM + GUARD), bytes(1, GUEST_ROOM + GUARD), bytes(2, STATE_ROOM + 256));
+        let (words, _) = pattern.as_chunks();
+        let signals: Vec<u32> = words[..LIST_ROOM + GUARD].iter().map(|word| u32::from_le_bytes(*word)).collect();
+        let lent = || Lent { out: pattern.clone(), guest: guest.clone(), image: Vec::new(), signals: signals.clone() };
+        let (left, right, single) = (lent(), lent(), lent());
         Runner {
             session: None,
             passing: None,
             lookups: Vec::new(),
             left,
             right,
+            single,
             pattern,
             guest,
+            signals,
             states,
             written: 0,
             image: 0,
+            listed: 0,
+            batch: None,
+            lent: 0,
             counts: Counts::default(),
         }
     }
@@ -165,11 +184,19 @@ impl<L: Filter, R: Filter> Runner<L, R> {
     /// No session, and lent memory as at first.
     pub fn reset(&mut self) {
         (self.session, self.passing) = (None, None);
-        (self.written, self.image) = (0, 0);
-        for lent in [&mut self.left, &mut self.right] {
-            lent.out.copy_from_slice(&self.pattern);
+        (self.written, self.image, self.listed, self.batch) = (0, 0, 0, None);
+        let end = compared(self.lent);
+        for lent in [&mut self.left, &mut self.right, &mut self.single] {
+            lent.out[..end].copy_from_slice(&self.pattern[..end]);
             lent.guest.copy_from_slice(&self.guest);
+            lent.signals.copy_from_slice(&self.signals);
         }
+        self.lent = 0;
+    }
+
+    /// The last call's result, if it was a batch.
+    pub fn batch(&self) -> Option<&Batch> {
+        self.batch.as_ref()
     }
 
     /// The bytes that the last call wrote, images excepted.
@@ -187,8 +214,10 @@ impl<L: Filter, R: Filter> Runner<L, R> {
         // the outputs as at first
         for lent in [&mut self.left, &mut self.right] {
             lent.out[..self.written].copy_from_slice(&self.pattern[..self.written]);
+            lent.signals[..self.listed].copy_from_slice(&self.signals[..self.listed]);
         }
-        (self.written, self.image, self.passing) = (0, 0, None);
+        (self.written, self.image, self.listed) = (0, 0, 0);
+        (self.batch, self.passing) = (None, None);
         self.make(call).map_err(|Unlike { part, left, right }| {
             let id = match call {
                 Call::Message { bytes, .. } => bytes.first_chunk().map_or(0, |id| u16::from_le_bytes(*id)),
@@ -384,7 +413,8 @@ impl<L: Filter, R: Filter> Runner<L, R> {
                     || pair.right.message(bytes, &mut theirs.out[..*out], &mut theirs.guest[..*guest]),
                 )?;
                 same("answer and error", &left, &right)?;
-                self.same_output(left.0)?;
+                self.written = written(left.0);
+                self.same_output(*out)?;
                 same_bytes("guest memory", &self.left.guest, &self.right.guest)?;
                 Ok(left.0)
             }
@@ -396,21 +426,21 @@ impl<L: Filter, R: Filter> Runner<L, R> {
                     || pair.right.enter(*vcpu, state, *event, own, theirs),
                 )?;
                 same("answer", &left, &right)?;
-                self.same_output(left)?;
+                self.written = written(left);
+                self.same_output(*out)?;
                 Ok(left)
             }
+            Call::Batch { .. } => self.make_batch(pair, call),
             Call::Image { room } => self.write_image(pair, *room),
             _ => unreachable!("these are made elsewhere"),
         }
     }
 
-    /// Compares the outputs in full; past the count they have to be as they were.
-    fn same_output(&mut self, answer: Answer) -> Result<(), Unlike> {
-        if let Answer::Handled { count, .. } = answer {
-            self.written = count;
-        }
-        same_bytes("output", &self.left.out, &self.right.out)?;
-        same_bytes("output past the count", &self.left.out[self.written..], &self.pattern[self.written..])
+    /// Compares the outputs in full, of which so many bytes were lent; past the count they have to be as they were.
+    fn same_output(&self, lent: usize) -> Result<(), Unlike> {
+        let (from, end) = (self.written, compared(lent));
+        same_bytes("output", &self.left.out[..end], &self.right.out[..end])?;
+        same_bytes("output past the count", &self.left.out[from..end], &self.pattern[from..end])
     }
 
     /// Writes the images with so many bytes more lent than they need.
@@ -457,6 +487,19 @@ impl<L: Filter, R: Filter> Runner<L, R> {
             }
         }
         Ok(())
+    }
+}
+
+/// How many bytes of the outputs are compared where so many are lent.
+fn compared(lent: usize) -> usize {
+    lent.max(OUT_ROOM) + GUARD
+}
+
+/// How many bytes a message or an entry wrote.
+fn written(answer: Answer) -> usize {
+    match answer {
+        Answer::Handled { count, .. } => count,
+        _ => 0,
     }
 }
 

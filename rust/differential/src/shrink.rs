@@ -1,6 +1,7 @@
 //! Makes a failing list of calls short.
 
-use crate::{image, Call, Filter, Mismatch, Record, Runner};
+use crate::batch::{events, messages, messages_mut};
+use crate::{image, Call, Filter, Mismatch, Record, Runner, BATCH_ROOM, LIST_ROOM};
 use std::ops::Range;
 use std::time::{Duration, Instant};
 
@@ -12,14 +13,15 @@ const PAIRS: usize = 40;
 
 /// The shortest list found that fails in the same way as these calls do.
 pub fn shrink<L: Filter, R: Filter>(runner: &mut Runner<L, R>, calls: Vec<Call>, first: Mismatch) -> (Vec<Call>, Mismatch) {
-    let events = vec![0; calls.len()];
-    let mut search = Search { runner, calls, events, mismatch: first, until: Instant::now() + PATIENCE };
+    let (events, used) = (vec![0; calls.len()], vec![0; calls.len()]);
+    let mut search = Search { runner, calls, events, used, mismatch: first, until: Instant::now() + PATIENCE };
     // a list that fails only now and then is given as it is
     if !search.offer(search.calls.clone()) {
         return (search.calls, search.mismatch);
     }
     loop {
         let before = search.calls.clone();
+        search.split();
         search.drop_calls();
         search.drop_pairs();
         for at in 0..search.calls.len() {
@@ -36,9 +38,10 @@ pub fn shrink<L: Filter, R: Filter>(runner: &mut Runner<L, R>, calls: Vec<Call>,
 
 struct Search<'a, L, R> {
     runner: &'a mut Runner<L, R>,
-    /// The best list so far, how many events each call wrote, and how it fails.
+    /// The best list so far, how many events each call wrote, how many bytes it used if it is a batch, and how it fails.
     calls: Vec<Call>,
     events: Vec<u32>,
+    used: Vec<usize>,
     mismatch: Mismatch,
     until: Instant,
 }
@@ -54,15 +57,19 @@ impl<L: Filter, R: Filter> Search<'_, L, R> {
             return false;
         }
         self.runner.reset();
-        let mut events = Vec::with_capacity(calls.len());
+        let (mut written, mut used) = (Vec::with_capacity(calls.len()), Vec::with_capacity(calls.len()));
         for (at, call) in calls.iter().enumerate() {
             match self.runner.step(at, call) {
-                Ok(_) => events.push(u32::from(is_event(self.runner.bytes()))),
+                Ok(_) => {
+                    written.push(events(self.runner.bytes()));
+                    used.push(self.runner.batch().map_or(0, |batch| batch.used));
+                }
                 Err(mismatch) if !mismatch.is_like(&self.mismatch) => return false,
                 Err(mismatch) => {
-                    events.push(0);
+                    written.push(0);
+                    used.push(0);
                     calls.truncate(at + 1);
-                    (self.calls, self.events, self.mismatch) = (calls, events, mismatch);
+                    (self.calls, self.events, self.used, self.mismatch) = (calls, written, used, mismatch);
                     return true;
                 }
             }
@@ -84,10 +91,8 @@ impl<L: Filter, R: Filter> Search<'_, L, R> {
         for (at, call) in calls.iter_mut().enumerate() {
             match call {
                 Call::Fresh { .. } | Call::Load { keep: true, .. } if kept(at) => fewer = 0,
-                Call::Message { bytes, .. } if bytes.starts_with(&[16, 0]) && bytes.len() >= 8 => {
-                    let seq = u32::from_le_bytes([bytes[4], bytes[5], bytes[6], bytes[7]]);
-                    bytes[4..8].copy_from_slice(&seq.wrapping_sub(fewer).to_le_bytes());
-                }
+                Call::Message { bytes, .. } => move_seq(bytes, fewer),
+                Call::Batch { bytes, .. } => messages_mut(bytes).for_each(|message| move_seq(message, fewer)),
                 _ => {}
             }
             fewer += if kept(at) { 0 } else { self.events[at] };
@@ -133,6 +138,7 @@ impl<L: Filter, R: Filter> Search<'_, L, R> {
     fn simplify(&mut self, at: usize) {
         match &self.calls[at] {
             Call::Message { bytes, .. } if bytes.starts_with(&[13, 0]) && bytes.len() >= 16 => self.drop_entries(at),
+            Call::Batch { .. } => self.drop_messages(at),
             Call::Load { .. } => {
                 self.drop_vcpus(at);
                 self.drop_records(at);
@@ -142,6 +148,7 @@ impl<L: Filter, R: Filter> Search<'_, L, R> {
         let ways: &[fn(&mut Call)] = match self.calls.get(at) {
             Some(Call::Fresh { .. } | Call::Load { .. }) => BEGINNINGS,
             Some(Call::Message { .. }) => MESSAGES,
+            Some(Call::Batch { .. }) => BATCHES,
             Some(Call::Enter { .. }) => ENTRIES,
             Some(Call::Image { .. }) => IMAGES,
             Some(Call::ListReady { .. } | Call::ListCr { .. }) => LISTS,
@@ -170,6 +177,37 @@ impl<L: Filter, R: Filter> Search<'_, L, R> {
             }
             Call::Message { bytes, out, guest }
         });
+    }
+
+    /// Sends the messages that a batch used one by one, where the list then fails alike: each of them may be dropped.
+    fn split(&mut self) {
+        let mut at = 0;
+        while at < self.calls.len() {
+            if let Call::Batch { guest, bytes, .. } = &self.calls[at] {
+                let single = |message: &[u8]| Call::Message { out: 4112, guest: *guest, bytes: message.to_vec() };
+                let singles: Vec<Call> = messages(&bytes[..self.used[at]]).map(single).collect();
+                let mut calls = self.calls.clone();
+                calls.splice(at..=at, singles);
+                if self.offer(calls) {
+                    continue;
+                }
+            }
+            at += 1;
+        }
+    }
+
+    /// Drops messages of a batch; then pauses too, each with its place of the list.
+    fn drop_messages(&mut self, at: usize) {
+        for with_places in [false, true] {
+            let Call::Batch { out, places, guest, bytes } = self.calls[at].clone() else { return };
+            let pauses = |messages: &[&[u8]]| messages.iter().filter(|message| message.starts_with(&[9, 0])).count();
+            let messages: Vec<&[u8]> = messages(&bytes).collect();
+            let before = pauses(&messages);
+            self.fewer(at, messages, |messages| {
+                let dropped = if with_places { before - pauses(messages) } else { 0 };
+                Call::Batch { out, places: places.saturating_sub(dropped), guest, bytes: messages.concat() }
+            });
+        }
     }
 
     /// Drops vCPUs, from the settings and from the image.
@@ -220,9 +258,11 @@ impl<L: Filter, R: Filter> Search<'_, L, R> {
     }
 }
 
-/// Whether these bytes are an event; the reply to an unknown message with id 17 is shorter.
-fn is_event(bytes: &[u8]) -> bool {
-    bytes.len() >= 552 && bytes.starts_with(&[17, 0])
+/// Moves the seq of an event reply: there are so many events fewer before it.
+fn move_seq(message: &mut [u8], fewer: u32) {
+    if let [16, 0, _, _, a, b, c, d, ..] = message {
+        [*a, *b, *c, *d] = u32::from_le_bytes([*a, *b, *c, *d]).wrapping_sub(fewer).to_le_bytes();
+    }
 }
 
 /// Ways to make calls plainer.
@@ -269,6 +309,46 @@ const MESSAGES: &[fn(&mut Call)] = &[
     |call| match call {
         Call::Message { bytes, .. } if bytes.starts_with(&[16, 0]) => bytes.iter_mut().skip(24).for_each(|byte| *byte = 0),
         _ => {}
+    },
+];
+
+const BATCHES: &[fn(&mut Call)] = &[
+    |call| {
+        if let Call::Batch { out, .. } = call {
+            *out = BATCH_ROOM;
+        }
+    },
+    |call| {
+        if let Call::Batch { out, .. } = call {
+            *out = 4112;
+        }
+    },
+    |call| {
+        if let Call::Batch { places, .. } = call {
+            *places = LIST_ROOM;
+        }
+    },
+    |call| {
+        if let Call::Batch { places, .. } = call {
+            *places = 1;
+        }
+    },
+    |call| {
+        if let Call::Batch { guest, .. } = call {
+            *guest = 4096;
+        }
+    },
+    |call| {
+        if let Call::Batch { guest, .. } = call {
+            *guest = 0;
+        }
+    },
+    // the seqs, but those of event replies
+    |call| {
+        if let Call::Batch { bytes, .. } = call {
+            let commands = messages_mut(bytes).filter(|message| !message.starts_with(&[16, 0]));
+            commands.for_each(|message| message.iter_mut().skip(4).take(4).for_each(|byte| *byte = 0));
+        }
     },
 ];
 

@@ -12,6 +12,7 @@ const SEED: u64 = 1;
 const MESSAGES: u64 = 3_000_000;
 const IMAGES: u64 = 300_000;
 const LOOKUPS: u64 = 100 * MESSAGES;
+const BATCHES: u64 = 10_000;
 const WORKERS: u64 = 2;
 
 /// Prints even where a test's own output is kept back.
@@ -51,8 +52,9 @@ fn both_sides_agree() {
         .unwrap_or_else(|failure| panic!("\n# left is the proved filter, right the plain one\n{failure}"));
     let time = begun.elapsed().as_secs_f64();
     println!("{counts}");
+    let (batches, batched) = counts.batches();
     say(&format!(
-        "differential: {} messages, {} images read and {} written in {} sessions, with {} lookups, alike on both sides; {time:.1} s",
+        "differential: {} messages, {batches} batches with {batched} more, {} images read and {} written in {} sessions, with {} lookups, alike on both sides; {time:.1} s",
         counts.messages,
         counts.images_read,
         counts.images_written,
@@ -60,6 +62,7 @@ fn both_sides_agree() {
         counts.lookups()
     ));
     assert!(counts.messages >= MESSAGES && counts.images_read >= IMAGES && counts.lookups() >= LOOKUPS);
+    assert!(batches >= BATCHES && batched >= 10 * BATCHES);
     assert_eq!(counts.missing(), Vec::<String>::new(), "not seen with seed {seed}");
 }
 

@@ -1,157 +1,17 @@
 //! The harness itself: it finds a fault, shows it in a short list of calls, and finds none where there is none.
 
-use differential::drive::{work, Failure, Quota};
+mod wrong;
+
+use differential::drive::{work, Quota};
 use differential::event::register;
 use differential::image::page_starts;
 use differential::{
-    parse, run, Action, Answer, Call, Counts, Filter, Lookup, Plain, Record, Runner, Settings, Signal, Told, GUEST_ROOM,
-    OUT_ROOM, STATE_ROOM,
+    parse, Action, Answer, Call, Counts, Filter, Lookup, Plain, Record, Settings, Signal, Told, BATCH_ROOM, GUEST_ROOM,
+    LIST_ROOM, OUT_ROOM, STATE_ROOM,
 };
-use std::cell::Cell;
 use std::collections::BTreeMap;
 use std::sync::atomic::AtomicBool;
-
-/// A way to be wrong: each function does what the right filter does, unless a fault says otherwise.
-trait Fault {
-    fn load(&self, settings: &Settings, image: &[u8]) -> Result<Plain, Answer> {
-        Plain::load(settings, image)
-    }
-
-    fn message(&mut self, right: &mut Plain, message: &[u8], out: &mut [u8], guest: &mut [u8]) -> (Answer, Option<i32>) {
-        right.message(message, out, guest)
-    }
-
-    fn enter(&mut self, right: &mut Plain, entry: &Entry, out: &mut [u8]) -> Answer {
-        entry.of(right, out)
-    }
-
-    fn image_size(&self, right: &Plain) -> usize {
-        right.image_size()
-    }
-
-    fn write_image(&self, right: &Plain, out: &mut [u8]) -> Answer {
-        right.write_image(out)
-    }
-
-    fn look(&self, right: &Plain, lookup: Lookup) -> Told {
-        right.look(lookup)
-    }
-
-    fn pages(&self, right: &Plain) -> Vec<(u32, u64, u8)> {
-        right.pages()
-    }
-
-    fn list_ready(&self, records: &mut [Record], index: usize) -> Answer {
-        Plain::list_ready(records, index)
-    }
-
-    fn list_cr(&self, records: &mut [Record], index: usize, cr: u32, on: bool) -> Answer {
-        Plain::list_cr(records, index, cr, on)
-    }
-}
-
-/// What an entry is about.
-#[derive(Clone, Copy)]
-struct Entry<'a> {
-    vcpu: u32,
-    state: &'a [u8],
-    event: u32,
-    own: &'a [u8],
-}
-
-impl Entry<'_> {
-    /// As the right filter does it.
-    fn of(&self, right: &mut Plain, out: &mut [u8]) -> Answer {
-        right.enter(self.vcpu, self.state, self.event, self.own, out)
-    }
-}
-
-type MakeFault = fn() -> Box<dyn Fault>;
-
-thread_local! {
-    /// The fault of the sessions that this thread begins.
-    static FAULT: Cell<Option<MakeFault>> = const { Cell::new(None) };
-}
-
-struct Wrong {
-    right: Plain,
-    fault: Box<dyn Fault>,
-}
-
-fn fault() -> Box<dyn Fault> {
-    FAULT.get().expect("a fault was chosen")()
-}
-
-impl Filter for Wrong {
-    fn fresh(settings: &Settings) -> Result<Wrong, Answer> {
-        Ok(Wrong { right: Plain::fresh(settings)?, fault: fault() })
-    }
-
-    fn load(settings: &Settings, image: &[u8]) -> Result<Wrong, Answer> {
-        let fault = fault();
-        Ok(Wrong { right: fault.load(settings, image)?, fault })
-    }
-
-    fn ready(&mut self, vcpu: u32) -> Answer {
-        self.right.ready(vcpu)
-    }
-
-    fn message(&mut self, message: &[u8], out: &mut [u8], guest: &mut [u8]) -> (Answer, Option<i32>) {
-        self.fault.message(&mut self.right, message, out, guest)
-    }
-
-    fn enter(&mut self, vcpu: u32, state: &[u8], event: u32, own: &[u8], out: &mut [u8]) -> Answer {
-        self.fault.enter(&mut self.right, &Entry { vcpu, state, event, own }, out)
-    }
-
-    fn image_size(&self) -> usize {
-        self.fault.image_size(&self.right)
-    }
-
-    fn write_image(&self, out: &mut [u8]) -> Answer {
-        self.fault.write_image(&self.right, out)
-    }
-
-    fn look(&self, lookup: Lookup) -> Told {
-        self.fault.look(&self.right, lookup)
-    }
-
-    fn pages(&self) -> Vec<(u32, u64, u8)> {
-        self.fault.pages(&self.right)
-    }
-
-    fn list_ready(records: &mut [Record], index: usize) -> Answer {
-        fault().list_ready(records, index)
-    }
-
-    fn list_cr(records: &mut [Record], index: usize, cr: u32, on: bool) -> Answer {
-        fault().list_cr(records, index, cr, on)
-    }
-}
-
-const QUOTA: Quota = Quota { messages: 100_000, images: 10_000 };
-
-/// For a fault that shows seldom, such as a wrong size of one event's reply alone.
-const PATIENCE: Quota = Quota { messages: 400_000, images: 40_000 };
-
-/// The fault is found soon, and the list that shows it has few calls, which show it again when read from their text.
-fn found(most: usize, fault: MakeFault) -> Box<Failure> {
-    found_within(QUOTA, most, fault)
-}
-
-fn found_within(quota: Quota, most: usize, fault: MakeFault) -> Box<Failure> {
-    FAULT.set(Some(fault));
-    let failure = work::<Wrong, Plain>(1, 0, quota, &AtomicBool::new(false)).err().expect("the fault is found");
-    println!("after {} messages and {} images:\n{failure}", failure.seen.messages, failure.seen.images_read);
-    assert!(failure.list.len() <= most, "{} calls, and not at most {most}", failure.list.len());
-
-    let calls = parse(&failure.to_string()).expect("what is printed can be replayed");
-    assert_eq!(calls, failure.list);
-    let again = run(&mut Runner::<Wrong, Plain>::new(), &calls).expect_err("it fails again");
-    assert!(again.is_like(&failure.mismatch) && again.at == calls.len() - 1);
-    run(&mut Runner::<Plain, Plain>::new(), &calls).expect("the right filter agrees with itself");
-    failure
-}
+use wrong::{choose, found, found_within, Entry, Fault, Wrong, PATIENCE, QUOTA};
 
 fn number(bytes: &[u8], at: usize) -> u64 {
     u64::from_le_bytes(bytes[at..at + 8].try_into().unwrap())
@@ -198,6 +58,8 @@ fn texts_are_read_back() {
         Call::Ready { vcpu: u32::MAX },
         Call::Message { out: 0, guest: 1, bytes: Vec::new() },
         Call::Message { out: OUT_ROOM, guest: GUEST_ROOM, bytes: (0..=255).collect() },
+        Call::Batch { out: 0, places: 0, guest: 0, bytes: Vec::new() },
+        Call::Batch { out: BATCH_ROOM, places: LIST_ROOM, guest: GUEST_ROOM, bytes: (0..=255).collect() },
         Call::Enter { vcpu: 0, state: STATE_ROOM, fill: 255, event: 0, own: Vec::new(), out: 576 },
         Call::Enter { vcpu: u32::MAX, state: 0, fill: 0, event: u32::MAX, own: (0..=255).collect(), out: 0 },
         Call::Image { room: -1_000_000 },
@@ -233,6 +95,10 @@ fn texts_are_read_back() {
         "enter vcpu=0 state=536 fill=0 out=576 event=0x100000000 own=",
         "enter vcpu=0 state=536 fill=0 out=576 event=5 own=0",
         "message out=4201 guest=0 bytes=",
+        "batch out=4112 guest=0 bytes=",
+        "batch out=4112 places=301 guest=0 bytes=",
+        "batch out=65537 places=1 guest=0 bytes=",
+        "batch out=4112 places=1 guest=0 bytes=000",
         "list_ready index=0 records=00",
         "list_cr index=0 cr=0 on=2 records=",
         "look name=nothing of=0 number=0",
@@ -330,7 +196,7 @@ wrong_message! {
 
 wrong_message! {
     /// "Stopping at the first skipped entry."
-    stops_at_the_first_skipped_entry, StopsAtSkip, 12, |right, message, out, guest| {
+    stops_at_the_first_skipped_entry, StopsAtSkip, 16, |right, message, out, guest| {
         let mut trial = right.clone();
         let result = trial.message(message, out, guest);
         if result.1 != Some(-12) {
@@ -442,7 +308,7 @@ wrong_message! {
 }
 
 wrong_message! {
-    takes_a_value_of_a_breakpoint, BreakpointValued, 5, |right, message, out, guest| {
+    takes_a_value_of_a_breakpoint, BreakpointValued, 5 in PATIENCE, |right, message, out, guest| {
         match message {
             [16, 0, 24, 0, rest @ ..] if message.len() == 32 && message[17] == 4 => {
                 right.message(&[&[16, 0, 16, 0], &rest[..20]].concat(), out, guest)
@@ -798,7 +664,7 @@ wrong_entry! {
 
 wrong_entry! {
     /// The common size counts an event's own bytes.
-    counts_own_bytes_in_the_common_size, CommonSize, 4, |right, entry, out| {
+    counts_own_bytes_in_the_common_size, CommonSize, 5, |right, entry, out| {
         let answer = entry.of(right, out);
         if let Answer::Handled { count: 553.., .. } = answer {
             out.copy_within(2..4, 8);
@@ -1084,7 +950,7 @@ wrong_look! {
 }
 
 wrong_look! {
-    takes_every_awaited_event_for_a_pause, AwaitsPauses, 5, "awaited", |right, lookup| match right.look(lookup) {
+    takes_every_awaited_event_for_a_pause, AwaitsPauses, 6, "awaited", |right, lookup| match right.look(lookup) {
         Told::Number(1..) if matches!(lookup, Lookup::Awaited { .. }) => Told::Number(2),
         told => told,
     }
@@ -1155,7 +1021,7 @@ impl Fault for Unsorted {
 
 #[test]
 fn lists_pages_out_of_order() {
-    FAULT.set(Some(|| Box::new(Unsorted)));
+    choose(|| Box::new(Unsorted));
     let failure = work::<Wrong, Plain>(1, 0, QUOTA, &AtomicBool::new(false)).err().expect("the fault is found");
     assert_eq!(failure.mismatch.part, "page_at");
 }

@@ -3,11 +3,13 @@
 //! kvmi.rst (API version 1) gives the layouts; document 01 gives the numbers,
 //! the order of the tests, the host's answers and the table image, and decides
 //! where kvmi.rst is silent or contradicts itself. Document 02 changes them: of
-//! its requests W1, the other events, and W2, execute-only pages, are built.
-//! Comments quote or name the sentence that a rule stands for; `NOTES.md` lists
-//! the readings of sentences that are open.
+//! its requests W1, the other events, W2, execute-only pages, and W3, several
+//! messages in one write, are built. Comments quote or name the sentence
+//! that a rule stands for; `NOTES.md` lists the readings of sentences that are
+//! open.
 //!
-//! * [`Session::message`] takes one message of the tool,
+//! * [`Session::message`] takes one message of the tool, and
+//!   [`Session::batch`] several of them,
 //! * [`Session::ready`] and [`Session::enter`] are the host's calls,
 //! * [`Session::write_image`] and [`Session::read_image`] hand the tables from
 //!   one host to another,
@@ -16,6 +18,7 @@
 
 #![forbid(unsafe_code)]
 
+mod batch;
 mod event;
 mod image;
 pub mod list;
@@ -25,6 +28,7 @@ mod session;
 mod standing;
 mod wire;
 
+pub use batch::Batch;
 pub use lookup::Page;
 pub use session::Session;
 use standing::EXECUTE_ONLY;
@@ -120,7 +124,8 @@ pub enum Action {
     Retry,
 }
 
-/// Document 01, "Host answers"; the number of each is named beside it.
+/// Document 01, "Host answers", and document 02, W3, "a list with no place 11";
+/// the number of each is named beside it.
 #[derive(Clone, Copy, Debug, PartialEq, Eq)]
 pub enum Answer {
     /// 0: handled; so many bytes were written.
@@ -146,6 +151,8 @@ pub enum Answer {
     Forbidden { offset: usize },
     /// 10: an image is asked while a reply is awaited.
     Busy,
+    /// 11: the lent list of signals has no place.
+    NoPlace,
     /// 14: the CR switch of a list has no such CR, or the record is not ready.
     NotApplicable,
 }
@@ -165,6 +172,7 @@ impl Answer {
             Answer::BadForm { .. } => 8,
             Answer::Forbidden { .. } => 9,
             Answer::Busy => 10,
+            Answer::NoPlace => 11,
             Answer::NotApplicable => 14,
         }
     }

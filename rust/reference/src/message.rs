@@ -10,7 +10,7 @@ use crate::wire::{id, is_zero, put_reply, u16_at, u32_at, u64_at, Header, REPLY}
 use crate::{Action, Answer, Signal};
 
 /// Answer 3: "output below 4,112 (message)".
-const LEAST_OUTPUT: usize = REPLY + PAGE as usize;
+pub(crate) const LEAST_OUTPUT: usize = REPLY + PAGE as usize;
 
 /// "a page (4,096 bytes)".
 const PAGE: u64 = 4096;
