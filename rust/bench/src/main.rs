@@ -16,6 +16,7 @@ trait Filter: Sized {
     fn fresh() -> Self;
     fn ready(&mut self, vcpu: u32);
     fn message(&mut self, message: &[u8], out: &mut [u8], guest: &mut [u8]) -> usize;
+    fn batch(&mut self, input: &[u8], out: &mut [u8], signals: &mut [u32], guest: &mut [u8]) -> usize;
     fn enter(&mut self, vcpu: u32, state: &[u8], out: &mut [u8]) -> usize;
     fn write_image(&self, out: &mut [u8]) -> usize;
     fn from_image(image: &[u8]) -> Self;
@@ -39,6 +40,12 @@ impl Filter for semblurick::Session {
             Ok(semblurick::Answer::Handled { bytes, .. }) => bytes.len(),
             other => panic!("{other:?}"),
         }
+    }
+
+    fn batch(&mut self, input: &[u8], out: &mut [u8], signals: &mut [u32], guest: &mut [u8]) -> usize {
+        let done = semblurick::Session::batch(self, input, out, signals, guest).expect("a batch");
+        assert_eq!(done.used, input.len());
+        done.bytes.len()
     }
 
     fn enter(&mut self, vcpu: u32, state: &[u8], out: &mut [u8]) -> usize {
@@ -86,6 +93,12 @@ impl Filter for reference::Session {
 
     fn message(&mut self, message: &[u8], out: &mut [u8], guest: &mut [u8]) -> usize {
         count(reference::Session::message(self, message, out, guest))
+    }
+
+    fn batch(&mut self, input: &[u8], out: &mut [u8], signals: &mut [u32], guest: &mut [u8]) -> usize {
+        let done = reference::Session::batch(self, input, out, signals, guest);
+        assert_eq!((count(done.answer), done.used), (done.count, input.len()));
+        done.count
     }
 
     fn enter(&mut self, vcpu: u32, state: &[u8], out: &mut [u8]) -> usize {
@@ -237,6 +250,47 @@ fn small_commands<F: Filter>() -> Measured {
     measure(list.len() * 16, || (0..16).for_each(|_| b.send(&mut f, &list)))
 }
 
+/// Writes of 64 small commands each, end to end.
+fn batches() -> Vec<Vec<u8>> {
+    let mut r = Random(1);
+    let list: Vec<_> = (0..4096).map(|seq| small(&mut r, seq)).collect();
+    list.chunks(64).map(|part| part.concat()).collect()
+}
+
+fn batch_commands<F: Filter>() -> Measured {
+    let list = batches();
+    let (mut f, mut b) = (begun::<F>(), Bench::new());
+    let (mut out, mut signals) = (vec![0; 4112 + 64 * 16], [0; 64]);
+    let mut send = || {
+        for m in &list {
+            black_box(f.batch(black_box(m), &mut out, &mut signals, &mut b.guest));
+        }
+    };
+    send();
+    measure(64 * list.len() * 16, || (0..16).for_each(|_| send()))
+}
+
+/// The same, each message cut off by its size field and taken by a call of its own.
+fn batch_singly<F: Filter>() -> Measured {
+    let list = batches();
+    let (mut f, mut b) = (begun::<F>(), Bench::new());
+    let mut out = vec![0; 4112 + 64 * 16];
+    let mut send = || {
+        for m in &list {
+            let input: &[u8] = black_box(m);
+            let (mut at, mut wrote) = (0, 0);
+            while at < input.len() {
+                let n = 8 + usize::from(u16::from_le_bytes([input[at + 2], input[at + 3]]));
+                wrote += f.message(&input[at..at + n], &mut out[wrote..], &mut b.guest);
+                at += n;
+            }
+            black_box(wrote);
+        }
+    };
+    send();
+    measure(64 * list.len() * 16, || (0..16).for_each(|_| send()))
+}
+
 fn pause_cycles<F: Filter>() -> Measured {
     let (mut f, mut b) = (begun::<F>(), Bench::new());
     let state = [7; 536];
@@ -337,7 +391,7 @@ fn image_reads<F: Filter>() -> Measured {
 
 type Round = fn() -> Measured;
 
-const ROWS: [(&str, Round, Round); 8] = [
+const ROWS: [(&str, Round, Round); 10] = [
     ("small commands: 5, 10, 11, 12", small_commands::<semblurick::Session>, small_commands::<reference::Session>),
     ("pause, entry, reply: each call", pause_cycles::<semblurick::Session>, pause_cycles::<reference::Session>),
     ("message 13: 16 ascending entries on 1,000 pages", ascending::<semblurick::Session>, ascending::<reference::Session>),
@@ -350,6 +404,8 @@ const ROWS: [(&str, Round, Round); 8] = [
     ("write 4,096 bytes", writes::<semblurick::Session>, writes::<reference::Session>),
     ("image write: 256 MSR switches, 1,024 pages", image_writes::<semblurick::Session>, image_writes::<reference::Session>),
     ("image read: the same", image_reads::<semblurick::Session>, image_reads::<reference::Session>),
+    ("64 small commands in a batch: each", batch_commands::<semblurick::Session>, batch_commands::<reference::Session>),
+    ("the same as single calls: each", batch_singly::<semblurick::Session>, batch_singly::<reference::Session>),
 ];
 
 /// The least of several rounds of both, taken in turns, so that a busy machine is as busy for the one as for the other.
