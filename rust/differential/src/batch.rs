@@ -53,7 +53,8 @@ impl Guide {
             1..5 => 1 + random.index(5),
             5..11 => random.index(40),
             11..14 => random.index(150),
-            _ => 100 + random.index(201),
+            14 => 100 + random.index(201),
+            _ => 300,
         };
         let mut bytes = Vec::with_capacity(24 * count);
         let mut starts = Vec::with_capacity(count);

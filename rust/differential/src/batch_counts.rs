@@ -38,9 +38,10 @@ const REFUSALS: [&str; 7] = [
 ];
 
 /// What can happen within one.
-const WITHIN: [&str; 22] = [
+const WITHIN: [&str; 23] = [
     "100 messages used",
     "200 messages used",
+    "300 messages used, and none left",
     "100 messages used, and signals listed",
     "kick listed, no wait",
     "kick listed, wait",
@@ -71,7 +72,7 @@ pub(crate) struct BatchCounts {
     pub longest: u64,
     ends: [u64; 18],
     refusals: [u64; 7],
-    within: [u64; 22],
+    within: [u64; 23],
 }
 
 impl BatchCounts {
@@ -134,6 +135,7 @@ impl BatchCounts {
         let within = [
             count >= 100,
             count >= 200,
+            is_handled && is_over && count == 300,
             count >= 100 && !listed.is_empty(),
             listed.iter().any(|code| is_kick(code) && code % 2 == 0),
             listed.iter().any(|code| is_kick(code) && code % 2 == 1),
