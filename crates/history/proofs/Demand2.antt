@@ -4,20 +4,24 @@ use mathlib.Core.Logic.{_≢_}
 use Prim.Native.Nat.{ℕ, _+_, _*_, _/_, _<_}
 use native.Mathlib.Omega.{arith}
 use mathlib.Core.List.{List}
-use mathlib.Core.Bool.{Bool, true, false, _&&_, So}
+use mathlib.Core.Bool.{Bool, _&&_, So}
 use mathlib.Core.Option.{none}
 use lib.IntN.{ℤ}
 use lib.ListN.{getD, drop, List·getD-eq-default}
 use lib.Seq.{getD-take, getD-drop}
 use lib.Dec.{ltb}
 use borrow.Author.Tests.{ltb-true, ltb-false}
+use Rattle.msrs.specs.declared.Place.{Place}
+use Rattle.msrs.specs.declared.Place.the-variants.{At, None}
+use Rattle.msrs.specs.Place.{msrPlace, isMsr}
+use Rattle.msrs.proofs.Ranges.{in-places}
 use Rattle.kvmi.specs.declared.Settings.{Settings}
 use Rattle.kvmi.specs.Bits.{isOn}
 use Rattle.kvmi.specs.Codes.{isError}
-use Rattle.kvmi.specs.Tables.{Vcpu, resting, vcpuAt, isCr, crBit, isMsr, eventOn, crOn, msrIn, msrOn}
+use Rattle.kvmi.specs.Tables.{Vcpu, resting, vcpuAt, isCr, crBit, eventOn, crOn, msrIn, msrOn}
 use Rattle.kvmi.specs.Model.{Model}
 use Rattle.kvmi.specs.Call.{Call, step, after}
-use Rattle.store.specs.Words.{field, msrSlot, msrWord, msrSlotOn, AWAITED, AWAITED-SEQ}
+use Rattle.store.specs.Words.{field, switchOn, readSwitch, msrBitOn, AWAITED, AWAITED-SEQ}
 use Rattle.store.specs.Meaning.{msrsOf, vcpusOf}
 use Rattle.session.specs.declared.Session.{Session}
 use Rattle.session.specs.State.{State}
@@ -31,7 +35,7 @@ use Rattle.history.specs.History.{stepOf, afterOf}
 use Rattle.history.specs.Demand2.{SameStep, WritesError, Names, SameVcpu, Demand2}
 use Rattle.laws.proofs.Bool.{test}
 use Rattle.laws.proofs.Same.{equal-same}
-use Rattle.refine.proofs.Msrs.{slot-below, msrs-look}
+use Rattle.refine.proofs.Msrs.{msrs-look}
 use Rattle.refine.proofs.Vcpus.{vcpus-length, vcpus-at, fields-same}
 use Rattle.refine.proofs.Awaited.{awaited-length, awaited-at, awaited-fields}
 use Rattle.refine.proofs.Theorems.{block, message-apart, error-spares}
@@ -80,21 +84,16 @@ module _ (w x : List ℕ) (i : ℕ) (e : block x i ≡ block w i) where
   unfolding field
   field-same k h = word-same k h
 
-  bit-same : (m : ℕ) → So (isMsr m) → msrSlotOn x i m ≡ msrSlotOn w i m
-  unfolding msrSlotOn msrWord
-  bit-same m h =
-      let at : i * 272 + 16 + msrSlot m / 64 ≡ i * 272 + (16 + msrSlot m / 64) = omega arith in
-      rw (at, word-same (16 + msrSlot m / 64) (omega (arith, slot-below m h)))
+  bit-same : (m : ℕ) → msrBitOn x i m ≡ msrBitOn w i m
+  unfolding msrBitOn switchOn
+  bit-same m = step (msrPlace m) refl
+    where
+      step : (p : Place) → msrPlace m ≡ p → readSwitch x i p ≡ readSwitch w i p
+      step (At place) e = rw (field-same (16 + place / 64) (omega (arith, in-places m place e)))
+      step None e = refl
 
   msr-same : (n m : ℕ) → msrIn (msrsOf x 0 n) i m ≡ msrIn (msrsOf w 0 n) i m
-  msr-same n m =
-      msrs-look x n i m
-      ∙ test (isMsr m) (λ h. rw (bit-same m h)) (λ h. rw h (no-msr (ltb i n)))
-      ∙ sym (msrs-look w n i m)
-    where
-      no-msr : (b : Bool) → (b && false && msrSlotOn x i m) ≡ (b && false && msrSlotOn w i m)
-      no-msr true = refl
-      no-msr false = refl
+  msr-same n m = msrs-look x n i m ∙ rw (bit-same m) (sym (msrs-look w n i m))
 
   -- past the count there is none
   vcpu-same : (r n : ℕ) → getD (vcpusOf r x 0 n) i resting ≡ getD (vcpusOf r w 0 n) i resting
@@ -128,7 +127,7 @@ block-says st st′ i s r e =
       ready = ap (λ (x : Vcpu). x .ready) v;
       events = λ event. ap (λ (x : Vcpu). isOn (x .events) event) v;
       crs = λ cr. ap (λ (x : Vcpu). isCr cr && isOn (x .crs) (crBit cr)) v;
-      msrs = λ msr. msr-same (st .vcpus) (st′ .vcpus) i e n msr ∙ ap (λ (k : ℕ). msrIn (msrsOf (st .vcpus) 0 k) i msr) count;
+      msrs = λ msr. ap (λ (b : Bool). isMsr msr && b) (msr-same (st .vcpus) (st′ .vcpus) i e n msr ∙ ap (λ (k : ℕ). msrIn (msrsOf (st .vcpus) 0 k) i msr) count);
       singlestep = ap (λ (x : Vcpu). x .singlestep) v;
       pauses = ap (λ (x : Vcpu). x .pauses) v;
       awaited = awaited-same (st .vcpus) (st′ .vcpus) i e n ∙ ap (λ (k : ℕ). getD (awaitedOf (st .vcpus) 0 k) i none) count;

@@ -1,6 +1,6 @@
 -- The image calls on well-formed sessions are the model's, and an accepted image makes a well-formed session. Assumes nothing.
 use mathlib.Core.Path.{_≡_, refl, sym, ap, _∙_, subst}
-use Prim.Native.Nat.{ℕ, zero, suc, _+_, _-_, _*_, _/_, _^_, _≤_, _<_, zero-le, min}
+use Prim.Native.Nat.{ℕ, zero, suc, _+_, _-_, _*_, _^_, _≤_, _<_, zero-le, min}
 use native.Mathlib.Nat.{zero-add}
 use native.Mathlib.Omega.{arith}
 use mathlib.Core.List.{List, [], _∷_, _++_}
@@ -119,7 +119,7 @@ module _ (s : Settings) (t : Tables) (ok : So (inRange s)) (a : Valid s t) (vcpu
 
   -- a field of 16, MSR switches apart
   plain : (i k : ℕ) → k < 16 → field words i k ≡ field fields i k
-  plain i k h = msrs-loaded-field (s .vcpus) fields (t .msrs) all i k h
+  plain i k h = msrs-loaded-field (s .vcpus) fields (t .msrs) i k h
 
   spare : (i k : ℕ) → 4 ≤ k → k < 16 → field words i k ≡ 0
   spare i k g h = plain i k h ∙ vcpus-loaded-other (cleared vcpus) 0 (t .vcpus) i k (omega arith) (λ p q. omega arith) ∙ zero-field i k
@@ -149,16 +149,12 @@ module _ (s : Settings) (t : Tables) (ok : So (inRange s)) (a : Valid s t) (vcpu
       (λ i h. let l : i < s .vcpus = rw (vcpus-length ready words 0 (s .vcpus)) at h in
       vcpus-at ready words (s .vcpus) i l ∙ vcpu-held i (rw count l))
 
-  -- a word of MSR switches is no plain field
-  switches-kept : (i k : ℕ) → k < 16384 → getD fields (i * 272 + 16 + k / 64) 0 ≡ getD (cleared vcpus) (i * 272 + 16 + k / 64) 0
-  unfolding field
-  switches-kept i k h =
-      let e : i * 272 + 16 + k / 64 ≡ i * 272 + (16 + k / 64) = omega arith in
-      rw e (vcpus-loaded-other (cleared vcpus) 0 (t .vcpus) i (16 + k / 64) (omega arith) (λ p q. omega arith))
-
   no-msrs : msrsOf fields 0 (s .vcpus) ≡ []
   unfolding cleared
-  no-msrs = msrs-same (cleared vcpus) fields 0 (s .vcpus) (λ i k h. switches-kept i k h) ∙ zeros-msrs (length vcpus) (s .vcpus)
+  no-msrs =
+      -- a word of MSR switches is no plain field
+      msrs-same (cleared vcpus) fields 0 (s .vcpus) (λ i k a b. vcpus-loaded-other (cleared vcpus) 0 (t .vcpus) i k b (λ p q. omega arith))
+      ∙ zeros-msrs (length vcpus) (s .vcpus)
 
   cleared-zero : (j : ℕ) → getD (cleared vcpus) j 0 ≡ 0
   unfolding field

@@ -11,14 +11,15 @@ use lib.Seq.{ext-getD, getD-set-other, set-at, take-at, drop-at}
 use lib.Pow.{pow-pos}
 use lib.Dec.{leb, ltb, eqb}
 use borrow.Author.Tests.{leb-true, le-leb, lt-ltb, eqb-true}
+use Rattle.msrs.specs.Place.{isMsr}
 use Rattle.kvmi.specs.declared.Settings.{Settings}
 use Rattle.kvmi.specs.Bits.{bit, among, every, isOn, putBit}
 use Rattle.kvmi.specs.Ascending.{rising, put}
-use Rattle.kvmi.specs.Tables.{Vcpu, Msr, Page, Tables, msrKey, pageKey, resting, isMsr}
+use Rattle.kvmi.specs.Tables.{Vcpu, Msr, Page, Tables, msrKey, pageKey, resting}
 use Rattle.kvmi.specs.Image.{msForm, paForm, paMay}
 use Rattle.kvmi.specs.Change.{setMsr}
 use Rattle.kvmi.specs.Valid.{Valid, paGood}
-use Rattle.store.specs.Words.{field, setField, setMsrSlot, setMsrBit, msrWord, msrSlot, cleared, SINGLESTEP, CRS, EVENTS, PAUSES}
+use Rattle.store.specs.Words.{field, setField, setMsrBit, cleared, SINGLESTEP, CRS, EVENTS, PAUSES}
 use Rattle.page_words.specs.PageWords.{wordKey, pageWordCount}
 use Rattle.store.specs.Meaning.{msrsOf, vcpuOfWords, vcpusOf}
 use Rattle.page_words.specs.Meaning.{pageOfWord, pagesOf, goodWord, PagesGood}
@@ -28,7 +29,7 @@ use Rattle.laws.proofs.Bool.{and-l, and-r, and-i, every-head, every-tail, test,
 use Rattle.laws.proofs.Bits.{on-put, on-put-other, put-below, on-none}
 use Rattle.laws.proofs.Ascending.{Side, below, level, over, side, above, above-snoc, rising-snoc, rising-low, rising-rest, rising-cons, put-cases}
 use Rattle.laws.proofs.Valid.{ms-numbers, pa-numbers}
-use Rattle.refine.proofs.Msrs.{field-set, field-set-other, field-length, bit-length, bit-field, set-msr, slot-below, msrs-field}
+use Rattle.refine.proofs.Msrs.{field-set, field-set-other, field-length, bit-cases, bit-length, bit-field, set-msr, msrs-field}
 
 -- ---- vCPU fields
 -- one record's four fields
@@ -172,14 +173,16 @@ module _ (n : ℕ) where
   msrs-loaded-length w [] = refl
   msrs-loaded-length w (m ∷ ms) = msrs-loaded-length (setMsrBit w (m .vcpu) (m .msr) true) ms ∙ bit-length w (m .vcpu) (m .msr) true
 
-  pub msrs-loaded-field : (w : List ℕ) (ms : List Msr) → AllIn ms → (i k : ℕ) → k < 16 → field (msrsLoaded w ms) i k ≡ field w i k
+  pub msrs-loaded-field : (w : List ℕ) (ms : List Msr) (i k : ℕ) → k < 16 → field (msrsLoaded w ms) i k ≡ field w i k
   unfolding msrsLoaded
-  msrs-loaded-field w [] a i k h = refl
-  msrs-loaded-field w (m ∷ ms) a i k h = msrs-loaded-field (setMsrBit w (m .vcpu) (m .msr) true) ms (a .1) i k h ∙ bit-field w (m .vcpu) (m .msr) true (a .0 .1) i k h
+  msrs-loaded-field w [] i k h = refl
+  msrs-loaded-field w (m ∷ ms) i k h = msrs-loaded-field (setMsrBit w (m .vcpu) (m .msr) true) ms i k h ∙ bit-field w (m .vcpu) (m .msr) true i k h
 
   bit-past : (w : List ℕ) (m : Msr) → InRange m → (p : ℕ) → n * 272 ≤ p → getD (setMsrBit w (m .vcpu) (m .msr) true) p 0 ≡ getD w p 0
-  unfolding setMsrBit setMsrSlot msrWord
-  bit-past w m a p h = rw (a .1) (getD-set-other w (m .vcpu * 272 + 16 + msrSlot (m .msr) / 64) p _ 0 (λ e. let b = slot-below (m .msr) (a .1) in omega arith))
+  unfolding setField
+  bit-past w m a p h =
+      let l = a .0 in
+      bit-cases w (m .vcpu) (λ u. getD u p 0 ≡ getD w p 0) (m .msr) true (λ k x b c. getD-set-other w (m .vcpu * 272 + k) p x 0 (λ e. omega arith)) refl
 
   pub msrs-loaded-past : (w : List ℕ) (ms : List Msr) → AllIn ms → (p : ℕ) → n * 272 ≤ p → getD (msrsLoaded w ms) p 0 ≡ getD w p 0
   unfolding msrsLoaded
@@ -191,7 +194,7 @@ module _ (n : ℕ) where
   unfolding msrsLoaded setMsr
   msrs-loaded w [] acc l a e g h = e ∙ sym (append-nil acc)
   msrs-loaded w (m ∷ ms) acc l a e g h =
-      let one : msrsOf (setMsrBit w (m .vcpu) (m .msr) true) 0 n ≡ acc ++ (m ∷ []) = set-msr w n (m .vcpu) (m .msr) l (a .0 .0) (a .0 .1) true ∙ ap (put msrKey m) e ∙ put-last msrKey 0 m acc g (rising-low msrKey (above msrKey 0 acc) m ms h) in
+      let one : msrsOf (setMsrBit w (m .vcpu) (m .msr) true) 0 n ≡ acc ++ (m ∷ []) = set-msr w n (m .vcpu) (m .msr) l (a .0 .0) true ∙ rw (a .0 .1) (ap (put msrKey m) e) ∙ put-last msrKey 0 m acc g (rising-low msrKey (above msrKey 0 acc) m ms h) in
       msrs-loaded (setMsrBit w (m .vcpu) (m .msr) true) ms (acc ++ (m ∷ [])) (rw (bit-length w (m .vcpu) (m .msr) true) l) (a .1) one
       (rising-snoc msrKey 0 acc m g (rising-low msrKey (above msrKey 0 acc) m ms h))
       (rw (above-snoc msrKey 0 acc m) (rising-rest msrKey (above msrKey 0 acc) m ms h))

@@ -6,12 +6,12 @@ use mathlib.Core.Option.{Option, none, some}
 use lib.ListN.{getD, drop}
 use lib.Dec.{eqb, leb, ltb}
 use Rattle.wire.specs.Bytes.{load}
+use Rattle.msrs.specs.Place.{isMsr}
 use Rattle.kvmi.specs.declared.Settings.{Settings}
 use Rattle.kvmi.specs.Bits.{isOn}
 use Rattle.kvmi.specs.Limits.{pageLimit}
 use Rattle.kvmi.specs.Row.{Row}
 use Rattle.kvmi.specs.Record.{Kind, VM, VC, MS, PA, EN, kindIn, kinds, widths, size, vcVcpu, vcFlags, vcZero, msVcpu, msMsr, paZero, kindAt}
-use Rattle.kvmi.specs.Tables.{isMsr}
 use Rattle.kvmi.specs.Image.{vcpuOfRow, pageOfRow, vcForm, paForm}
 use Rattle.image_form.specs.declared.Mark.{Mark}
 use Rattle.image_form.specs.declared.Mark.the-variants.{Vm, Vc, Ms, Pa, En, Cut}

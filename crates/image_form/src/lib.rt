@@ -209,7 +209,7 @@ pub fn ms_form(count: u32, ready: u64, vcpu: u16, msr: u32) -> bool
     if count <= vcpu as u32 {
         return false;
     }
-    if !store::words::is_msr(msr) {
+    if !msrs::is_msr(msr) {
         return false;
     }
     kvmi::bits::is_on(ready, vcpu as u32)

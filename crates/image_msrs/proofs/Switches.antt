@@ -1,4 +1,4 @@
--- Laws of the MSR switches: they are found along one row of places, and their records are stored one behind the other. Assumes nothing.
+-- Laws of the MSR switches: they are found along one row, and their records are stored one behind the other. Assumes nothing.
 use mathlib.Core.Path.{_≡_, refl, sym, ap, _∙_}
 use mathlib.Core.Logic.{⊎-elim}
 use mathlib.Core.List.{List, [], _∷_, _++_, append-assoc}
@@ -22,24 +22,23 @@ use Rattle.kvmi.specs.Tables.{Msr}
 use Rattle.kvmi.specs.Image.{msRecord}
 use Rattle.laws.proofs.Bool.{test}
 use Rattle.laws.proofs.Record.{length-write}
-use Rattle.store.specs.Words.{field}
+use Rattle.store.specs.Words.{field, switchOn}
 use Rattle.store.specs.Meaning.{switchesOn, msrsOf}
-use Rattle.image_msrs.specs.Switches.{msBytes, switchAt, msrOfPlace, switchesFrom, bitsFrom, oneAt, fourAt, fourBits, fourOf, Marked, Marks, SwitchesPut}
+use Rattle.image_msrs.specs.Switches.{msBytes, switchAt, msrOfSwitch, switchesFrom, bitsFrom, oneAt, fourAt, fourBits, fourOf, Marked, Marks, SwitchesPut}
 use Rattle.image_msrs.specs.declared.Four.{Four}
 use Rattle.image_msrs.proofs.Stores.{Going, going-end}
 
--- ---- switches along one row of places
+-- ---- switches along one row
 module _ (w : List ℕ) where
   -- those of one vCPU
-  from-vcpu : (v slot m k : ℕ) → slot + m ≤ 16384 → switchesOn w v slot m (switchesFrom w (v * 16384 + (slot + m)) k) ≡ switchesFrom w (v * 16384 + slot) (m + k)
-  unfolding switchesOn switchesFrom switchAt msrOfPlace field
-  from-vcpu v slot zero k h = rw (add-zero, zero-add)
-  from-vcpu v slot (suc m) k h =
-      let vcpu : (v * 16384 + slot) / 16384 ≡ v = omega arith in
-      let place : (v * 16384 + slot) % 16384 ≡ slot = omega arith in
-      let next : slot + suc m ≡ suc slot + m = omega arith in
-      let word : v * 272 + 16 + slot / 64 ≡ v * 272 + (16 + slot / 64) = omega arith in
-      rw (suc-add, vcpu, place, word, next, from-vcpu v (suc slot) m k (omega arith), add-suc (v * 16384) slot)
+  from-vcpu : (v place m k : ℕ) → place + m ≤ 16384 → switchesOn w v place m (switchesFrom w (v * 16384 + (place + m)) k) ≡ switchesFrom w (v * 16384 + place) (m + k)
+  unfolding switchesOn switchesFrom switchAt msrOfSwitch
+  from-vcpu v place zero k h = rw (add-zero, zero-add)
+  from-vcpu v place (suc m) k h =
+      let vcpu : (v * 16384 + place) / 16384 ≡ v = omega arith in
+      let within : (v * 16384 + place) % 16384 ≡ place = omega arith in
+      let next : place + suc m ≡ suc place + m = omega arith in
+      rw (suc-add, vcpu, within, next, from-vcpu v (suc place) m k (omega arith), add-suc (v * 16384) place)
 
   from-nil : (g : ℕ) → switchesFrom w g 0 ≡ []
   unfolding switchesFrom
@@ -61,10 +60,10 @@ module _ (w : List ℕ) where
       let next : g + suc m ≡ suc g + m = omega arith in
       rw (suc-add, next) (test (switchAt w g) (λ e. rw (e, from-split (suc g) m n)) (λ e. rw (e, from-split (suc g) m n)))
 
-  -- the places of a word, from its bit k on
+  -- the switches of a word, from its bit k on
   from-word : (v j k m : ℕ) → j < 256 → k + m ≤ 64
       → switchesFrom w (v * 16384 + j * 64 + k) m ≡ bitsFrom oneAt (getD w (v * 272 + (16 + j)) 0 / 2 ^ k) (v * 16384 + j * 64 + k) m
-  unfolding switchesFrom bitsFrom switchAt field isOn bitOf
+  unfolding switchesFrom bitsFrom switchAt switchOn field isOn bitOf
   from-word v j k zero h g = refl
   from-word v j k (suc m) h g =
       let vcpu : (v * 16384 + j * 64 + k) / 16384 ≡ v = omega arith in
@@ -78,7 +77,7 @@ module _ (w : List ℕ) where
   from-bound g zero = omega arith
   from-bound g (suc n) = let more = from-bound (suc g) n in test (switchAt w g) (λ e. rw e (omega arith)) (λ e. rw e (omega arith))
 
-  -- the places of a word
+  -- the switches of a word
   word-bits : (v j g i : ℕ) → j < 256 → g ≡ v * 16384 + j * 64 → i ≡ v * 272 + 16 + j → switchesFrom w g 64 ≡ bitsFrom oneAt (getD w i 0) g 64
   word-bits v j g i h e f =
       let word : v * 272 + (16 + j) ≡ i = omega arith in

@@ -1,5 +1,6 @@
 // The MS records of an image, from the lent words: one pass over them counts, and marks the fours of words that have a switch on; the next
 // writes, and reads these fours alone. A record is stored into the part of the output that it fills, so that its stores need no tests.
+use msrs::PLACES;
 use store::words::BLOCK_WORDS;
 use store::words::MSRS;
 ghost use mathlib.Core.Path.{_≡_};
@@ -8,11 +9,8 @@ ghost use lib.ListN.{length};
 ghost use Rattle.wire.specs.Bytes.{store};
 ghost use Rattle.kvmi.specs.Record.{write};
 ghost use Rattle.kvmi.specs.Image.{msRecord};
-ghost use Rattle.store.specs.Meaning.{msrAt, msrsOf};
-ghost use Rattle.image_msrs.specs.Switches.{msBytes, msrOfPlace, oneAt, switchesFrom, bitsFrom, fourAt, fourBits, fourOf, Marked, Marks, SwitchesPut};
-
-// How many MSR switches a vCPU has.
-const SWITCHES: usize = 16384;
+ghost use Rattle.store.specs.Meaning.{msrsOf};
+ghost use Rattle.image_msrs.specs.Switches.{msBytes, msrOfSwitch, oneAt, switchesFrom, bitsFrom, fourAt, fourBits, fourOf, Marked, Marks, SwitchesPut};
 
 // How many switches four words have, 64 each.
 const FOUR: usize = 256;
@@ -45,7 +43,7 @@ fn read_four(words: &[u64], v: usize, j: usize) -> Four
     }
 }
 
-// How many bits of four words are on, whatever their places are.
+// How many bits of four words are on, whichever switches they are.
 fn count_four(f: Four) -> usize
     ensures { λ r. ⌜ ((g : ℕ) → r ≡ length (fourBits f g)) ⌝ }
 {
@@ -91,29 +89,17 @@ fn find_all(words: &[u64], n: usize, marks: &mut [u64]) -> usize
     on
 }
 
-// The MSR of a place among those of a vCPU.
-fn msr_at(slot: usize) -> u32
-    requires { ⌜ slot < 16384 ⌝ }
-    ensures { λ r. ⌜ r ≡ msrAt slot ⌝ }
-{
-    if slot < 8192 {
-        slot as u32
-    } else {
-        (slot as u32) - 8192 + 0xC0000000
-    }
-}
-
-// The MS record of a place.
+// The MS record of switch g, among those of all vCPUs.
 fn put_ms(out: &mut [u8], at: usize, g: usize)
     requires { ⌜ (at + 8 ≤ length (now out)) × (g < 262144) ⌝ }
-    ensures { λ _. ⌜ now (out .exit) ≡ store (now (out .entry)) at (write (msRecord (msrOfPlace g))) ⌝ }
+    ensures { λ _. ⌜ now (out .exit) ≡ store (now (out .entry)) at (write (msRecord (msrOfSwitch g))) ⌝ }
 {
     let end = at + 8;
-    let msr = msr_at(g % SWITCHES);
-    image_record::ms(&mut out[at..end], (g / SWITCHES) as u16, msr);
+    let msr = msrs::msr_at((g % PLACES) as u16);
+    image_record::ms(&mut out[at..end], (g / PLACES) as u16, msr);
 }
 
-// The MS records of the bits of a word, whose lowest has the place g. Gives the place behind them.
+// The MS records of the bits of a word, whose lowest is switch g. Gives the offset behind them.
 fn put_bits(out: &mut [u8], at: usize, g: usize, w: u64) -> usize
     requires { ⌜ (g + 64 ≤ 262144) × (at + 8 * length (bitsFrom oneAt w g 64) ≤ length (now out)) ⌝ }
     ensures { λ r. ⌜ SwitchesPut (now (out .entry)) at (bitsFrom oneAt w g 64) (now (out .exit)) r ⌝ }
@@ -131,7 +117,7 @@ fn put_bits(out: &mut [u8], at: usize, g: usize, w: u64) -> usize
     to
 }
 
-// The MS records of the bits of four words, whose lowest has the place g. Gives the place behind them.
+// The MS records of the bits of four words, whose lowest is switch g. Gives the offset behind them.
 fn put_four(out: &mut [u8], at: usize, g: usize, f: Four) -> usize
     requires { ⌜ (g + 256 ≤ 262144) × (at + 8 * length (fourBits f g) ≤ length (now out)) ⌝ }
     ensures { λ r. ⌜ SwitchesPut (now (out .entry)) at (fourBits f g) (now (out .exit)) r ⌝ }
@@ -142,7 +128,7 @@ fn put_four(out: &mut [u8], at: usize, g: usize, f: Four) -> usize
     put_bits(out, d, g + 192, f.d)
 }
 
-// The MS records of the fours of a vCPU that are marked. Gives the place behind them.
+// The MS records of the fours of a vCPU that are marked. Gives the offset behind them.
 fn put_vcpu(out: &mut [u8], at: usize, words: &[u64], v: usize, fours: u64) -> usize
     requires { ⌜ (v < 16) × (at + 8 * length (bitsFrom (fourOf (now words) v) fours 0 64) ≤ length (now out)) ⌝ }
     ensures { λ r. ⌜ SwitchesPut (now (out .entry)) at (bitsFrom (fourOf (now (words .entry)) v) fours 0 64) (now (out .exit)) r ⌝ }
@@ -154,7 +140,7 @@ fn put_vcpu(out: &mut [u8], at: usize, words: &[u64], v: usize, fours: u64) -> u
         let k = u64::trailing_zeros(x) as usize;
         let i = j + k;
         let f = read_four(words, v, i);
-        to = put_four(out, to, v * SWITCHES + FOUR * i, f);
+        to = put_four(out, to, v * PLACES + FOUR * i, f);
         j += k + 1;
         x = x >> k >> 1;
     }
@@ -182,7 +168,7 @@ pub fn count(words: &[u64], n: u16) -> usize
     find_all(words, wire::smaller(n as usize, 16), &mut marks)
 }
 
-// The MS records of these switches at a place, where there is room for all of them. Gives how many there are.
+// The MS records of these switches at an offset, where there is room for all of them. Gives how many there are.
 pub fn put(out: &mut [u8], at: usize, words: &[u64], n: u16) -> usize
     ensures { λ r. ⌜ r ≡ length (msrsOf (now (words .entry)) 0 (min n 16)) ⌝ }
     ensures { λ r. ⌜ now (out .exit) ≡ store (now (out .entry)) at (msBytes (msrsOf (now (words .entry)) 0 (min n 16))) ⌝ }

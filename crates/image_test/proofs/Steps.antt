@@ -12,11 +12,12 @@ use lib.Dec.{eqb, ltb}
 use mathlib.Core.Logic.{⊎-elim}
 use borrow.Author.Tests.{leb-true, eqb-true, ltb-true, lt-ltb, le-ltb, eq-eqb, ne-eqb}
 use Rattle.wire.proofs.Laws.{le-or-lt, load-whole, load-byte}
+use Rattle.msrs.specs.Place.{isMsr}
 use Rattle.kvmi.specs.declared.Settings.{Settings}
 use Rattle.kvmi.specs.Bits.{isOn, putBit}
 use Rattle.kvmi.specs.Row.{readRow}
 use Rattle.kvmi.specs.Record.{Kind, VM, VC, MS, PA, EN, widths, size, Rec, whole, orderAt, orderOf, kindAt, from, parse}
-use Rattle.kvmi.specs.Tables.{Vcpu, Tables, resting, isMsr}
+use Rattle.kvmi.specs.Tables.{Vcpu, Tables, resting}
 use Rattle.kvmi.specs.Image.{vcpuOfRow, msrOfRow, pageOfRow, withRecord, vmForm, vmMay, msForm, Loaded, loaded, badForm, judge, ending, fitsIn, mayOf, loadRest, stated, loadRecords, loadImage}
 use Rattle.laws.proofs.Bool.{and-l, and-r, length-snoc}
 use Rattle.laws.proofs.Bits.{on-put, on-put-other}

@@ -5,10 +5,11 @@ use mathlib.Core.Option.{some}
 use Rattle.wire.specs.Bytes.{le, num, load, store}
 use Rattle.wire.specs.Header.{isWhole, headerOf}
 use Rattle.wire.specs.Code.{twos, codeBytes}
+use Rattle.msrs.specs.Place.{msrPlace, isMsr}
 use Rattle.kvmi.specs.Bits.{bitOf, isOn, putBit, bitsHave}
 use Rattle.kvmi.specs.Row.{writeRow, readRow}
 use Rattle.kvmi.specs.Settings.{inRange, isSet, allowsCommand, allowsEvent, canSinglestep, uncatchable, heldByHost, hasExecuteOnly}
-use Rattle.kvmi.specs.Tables.{isCr, crBit, isMsr, vmEventOn, eventOn, crOn, msrIn, msrOn, accessIn, access}
+use Rattle.kvmi.specs.Tables.{isCr, crBit, vmEventOn, eventOn, crOn, msrIn, msrOn, accessIn, access}
 use Rattle.kvmi.specs.Model.{nextSeq}
 use Rattle.kvmi.specs.Message.{layoutOf, sizeFits, namesVcpu, vcpuOf, enableAt, enables, switchesAt, eventOf, registerOf, gpaOf, sizeOf, countOf, countFits, viewOf, entryOf, entriesOf, entryPadding, padding, firstNonZero, firstOfRuns, firstPadding, isVmEvent, isVcpuEvent, takesEvent}
 use Rattle.kvmi.specs.Event.{eventRowOf, offerFits, asksFor, isAskedFor}
@@ -22,7 +23,7 @@ use Rattle.kvmi.specs.Batch.{nextLength, refusalOf, goesOn, turnOf, turn
 use Rattle.kvmi.specs.Case.{Case, seen, cases}
 use Rattle.kvmi.proofs.Edge.{Edge, outcome}
 use Rattle.kvmi.proofs.MessageEdges.{ofMessages, paddings, paddingsSeen}
-use Rattle.kvmi.proofs.SessionEdges.{ofSessions, lookups, lookupsSeen, accesses, accessesSeen, skips, skipsSeen}
+use Rattle.kvmi.proofs.SessionEdges.{ofSessions, lookups, lookupsSeen, edgeLooks, edgeLooksSeen, edgeSets, edgeSetsSeen, accesses, accessesSeen, skips, skipsSeen}
 use Rattle.kvmi.proofs.EventEdges.{ofEvents}
 use Rattle.kvmi.proofs.ImageEdges.{ofImages, pageLimitLoads, pageLimitSeen}
 use Rattle.kvmi.proofs.ExecuteOnlyEdges.{ofExecuteOnly, limitsLoad, limitsSeen}
@@ -38,7 +39,7 @@ abbrev In-one-write : List BatchEdge → Type 0
 In-one-write es = map batchOutcome es ≡ map (λ (e : BatchEdge). some (e .expected)) es
 
 computed : Right cases × As-expected ofMessages × As-expected ofSessions × As-expected ofEvents × As-expected ofImages × As-expected ofExecuteOnly × In-one-write ofBatches × (batchCalls ≡ batchCallsSeen)
-unfolding le num load store isWhole headerOf twos codeBytes bitOf isOn putBit bitsHave writeRow readRow inRange isSet allowsCommand allowsEvent canSinglestep uncatchable heldByHost hasExecuteOnly isCr crBit isMsr nextSeq layoutOf sizeFits namesVcpu vcpuOf enableAt enables switchesAt eventOf registerOf gpaOf sizeOf countOf countFits viewOf entryOf entriesOf entryPadding padding firstNonZero firstOfRuns firstPadding isVmEvent isVcpuEvent takesEvent vmEventOn eventOn crOn msrIn msrOn eventRowOf offerFits asksFor isAskedFor isAccess takesAccess inOnePage isInvalid isUnready isDenied isUnsupported isBusy pageExists isAbsent changeOf losesErrors commandVerdict isAwaited replyFits eventReplyVerdict verdict isSkipped setPage takeEntry takeEntries setMsr apply messageBytes replyBytes replyData eventBytes pauseEvent commandErrorEvent answerBytes answerSeq answerOf kindAt image vmForm isIdle vcForm msForm paForm vmMay mayEnable vcMay paMay loadImage beginFresh beginFrom answering judged headed messageStep readyStep sending pausing dequeuing entering enterStep imageStep step nextLength refusalOf goesOn turnOf turnsOf batchBy usedIn usedBy batchStep usedOn seen outcome batchOutcome usedAt
+unfolding le num load store isWhole headerOf twos codeBytes bitOf isOn putBit bitsHave writeRow readRow inRange isSet allowsCommand allowsEvent canSinglestep uncatchable heldByHost hasExecuteOnly isCr crBit msrPlace isMsr nextSeq layoutOf sizeFits namesVcpu vcpuOf enableAt enables switchesAt eventOf registerOf gpaOf sizeOf countOf countFits viewOf entryOf entriesOf entryPadding padding firstNonZero firstOfRuns firstPadding isVmEvent isVcpuEvent takesEvent vmEventOn eventOn crOn msrIn msrOn eventRowOf offerFits asksFor isAskedFor isAccess takesAccess inOnePage isInvalid isUnready isDenied isUnsupported isBusy pageExists isAbsent changeOf losesErrors commandVerdict isAwaited replyFits eventReplyVerdict verdict isSkipped setPage takeEntry takeEntries setMsr apply messageBytes replyBytes replyData eventBytes pauseEvent commandErrorEvent answerBytes answerSeq answerOf kindAt image vmForm isIdle vcForm msForm paForm vmMay mayEnable vcMay paMay loadImage beginFresh beginFrom answering judged headed messageStep readyStep sending pausing dequeuing entering enterStep imageStep step nextLength refusalOf goesOn turnOf turnsOf batchBy usedIn usedBy batchStep usedOn seen outcome batchOutcome usedAt
 computed = (refl, refl, refl, refl, refl, refl, refl, refl)
 
 pub cases-right : Right cases
@@ -84,8 +85,16 @@ paddings-right = refl
 
 -- how tables are read
 pub lookups-right : lookups ≡ lookupsSeen
-unfolding bitOf isOn isCr crBit vmEventOn eventOn crOn msrIn msrOn
+unfolding bitOf isOn isCr crBit msrPlace isMsr vmEventOn eventOn crOn msrIn msrOn
 lookups-right = refl
+
+pub edge-looks-right : edgeLooks ≡ edgeLooksSeen
+unfolding msrPlace isMsr msrIn msrOn
+edge-looks-right = refl
+
+pub edge-sets-right : edgeSets ≡ edgeSetsSeen
+unfolding msrPlace isMsr setMsr
+edge-sets-right = refl
 
 pub accesses-right : accesses ≡ accessesSeen
 unfolding accessIn access

@@ -109,7 +109,7 @@ formEdges =
     ∷ broken 13 8 8
     ∷ broken 16 9 8
     ∷ broken 17 1 8
-    -- MS: a vCPU that is not below the count, in both bytes; an MSR beside the ranges; a vCPU that is not ready
+    -- MS: a vCPU that is not below the count, in both bytes; an MSR between the ranges, and above them; a vCPU that is not ready
     ∷ broken 30 2 28
     ∷ broken 31 1 28
     ∷ broken 33 0x20 28
@@ -137,6 +137,8 @@ formEdges =
     -- event bits that message 5 does not take, and those that message 10 does not take
     ∷ map (λ e. badForm two (vmHas (2 ^ e) ++ idle 0 ++ idle 1 ++ en 3) 0) (0 ∷ 2 ∷ 3 ∷ 4 ∷ 5 ∷ 6 ∷ 7 ∷ 8 ∷ 9 ∷ 10 ∷ 11 ∷ 13 ∷ 14 ∷ 15 ∷ [])
     ++ map (λ e. badForm two (first (vc 0 1 0 (2 ^ e) 0)) 8) (0 ∷ 1 ∷ 2 ∷ 6 ∷ 12 ∷ 13 ∷ 15 ∷ [])
+    -- the MSRs beside the ranges, and the last of all
+    ++ map (λ msr. badForm two (tailed (ms 0 msr ++ en 4)) 28) (0x2000 ∷ 0xBFFFFFFF ∷ 0xC0002000 ∷ 0xFFFFFFFF ∷ [])
     -- an unready vCPU with singlestep, a CR switch, an event switch, a pause
     ++ map (λ l. badForm two (first l) 8) (vc 0 2 0 0 0 ∷ vc 0 0 4 0 0 ∷ vc 0 0 0 0x200 0 ∷ vc 0 0 0 0 1 ∷ [])
 

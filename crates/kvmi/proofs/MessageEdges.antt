@@ -160,11 +160,15 @@ switchEdges =
     ∷ afresh two (ready 0 ∷ map (λ r. controlCr 0 r 1) (1 ∷ 2 ∷ 5 ∷ 6 ∷ 7 ∷ 8 ∷ 0x103 ∷ 0x10003 ∷ 0x1000003 ∷ [])) (answered 11 c22 readyImage)
     ∷ afresh two (ready 0 ∷ controlCr 0 0 1 ∷ controlCr 0 3 1 ∷ controlCr 0 4 1 ∷ controlCr 0 3 0 ∷ []) (answered 11 c0 (vm ++ vc 0 1 5 0 0 ++ idle 1 ++ en 3))
     ∷ taken 11 (registerData 0 4 0) readyImage
-    -- message 12: the ends of both ranges, in whichever order they come, and nothing beside them; off again, and off where it is off
+    -- message 12: the ends of both ranges, in whichever order they come, and nothing beside them; off again, and off where it is off; each beside them, on or off
     ∷ afresh two (ready 0 ∷ map (λ r. controlMsr 0 r 1) (0xC0001FFF ∷ 0x1FFF ∷ 0xC0000000 ∷ 0 ∷ 0x2000 ∷ 0xBFFFFFFF ∷ 0xC0002000 ∷ 0xFFFFFFFF ∷ []))
     (answered 12 c22 (vm ++ vc 0 1 0 0 0 ++ idle 1 ++ ms 0 0 ++ ms 0 0x1FFF ++ ms 0 0xC0000000 ++ ms 0 0xC0001FFF ++ en 7))
     ∷ afresh two (ready 0 ∷ controlMsr 0 0x10 1 ∷ controlMsr 0 0x20 1 ∷ controlMsr 0 0x10 0 ∷ []) (answered 12 c0 (vm ++ vc 0 1 0 0 0 ++ idle 1 ++ ms 0 0x20 ++ en 4))
     ∷ taken 12 (registerData 0 0x10 0) readyImage
+    ∷ fails 12 (registerData 0 0x2000 1) c22
+    ∷ fails 12 (registerData 0 0xBFFFFFFF 1) c22
+    ∷ fails 12 (registerData 0 0xC0002000 0) c22
+    ∷ fails 12 (registerData 0 0xFFFFFFFF 0) c22
     -- message 14, off again
     ∷ afresh two (ready 0 ∷ singlestep 0 1 ∷ singlestep 0 0 ∷ []) (answered 14 c0 readyImage)
     -- message 8 only asks

@@ -3,15 +3,15 @@ use Prim.Native.Nat.{ℕ, zero, suc}
 use mathlib.Core.List.{List, [], _∷_, _++_, map}
 use mathlib.Core.Bool.{Bool, true, false}
 use mathlib.Core.Option.{none}
-use lib.ListN.{take, drop, set, replicate}
+use lib.ListN.{length, take, drop, set, replicate}
 use Rattle.kvmi.specs.declared.ReplyMode.{ReplyMode}
 use Rattle.kvmi.specs.declared.ReplyMode.the-variants.{On, Off, ErrorsOnly}
 use Rattle.kvmi.specs.declared.Signal.the-variants.{Quiet, Kick, Crash}
 use Rattle.kvmi.specs.Answer.{handled, plain}
-use Rattle.kvmi.specs.Tables.{Page, Tables, resting, emptyTables, withReady, withSinglestep, withCrs, withEvents, withPauses, withVmEvents, withVcpus, withMsrs, withPages, vmEventOn, eventOn, crOn, msrOn, access}
+use Rattle.kvmi.specs.Tables.{Msr, Page, Tables, resting, emptyTables, withReady, withSinglestep, withCrs, withEvents, withPauses, withVmEvents, withVcpus, withMsrs, withPages, vmEventOn, eventOn, crOn, msrOn, access}
 use Rattle.kvmi.specs.Model.{Model, fresh, withTables, withMode, withSeq, onVcpu}
 use Rattle.kvmi.specs.Message.{Entry}
-use Rattle.kvmi.specs.Change.{Run, takeEntries}
+use Rattle.kvmi.specs.Change.{Run, takeEntries, setMsr}
 use Rattle.kvmi.specs.Reply.{messageBytes}
 use Rattle.kvmi.specs.Call.{Call, message, ready, enter, writeImage}
 use Rattle.kvmi.specs.Case.{anew, fromBytes, standing, two, out, page, send, vcpuHeader, physical, entry, pause, controlMsr, setAccess, reply, c0, c22, vm, vc, en, freshImage, readyImage}
@@ -201,6 +201,26 @@ lookupsSeen =
     ∷ false ∷ true
     ∷ true ∷ false ∷ true ∷ false ∷ true ∷ false ∷ false
     ∷ true ∷ false ∷ false ∷ true ∷ []
+
+-- records of the MSRs at the ends of the ranges and beside them, the last ones of which no session has: what is read there, and what setting each leaves
+abbrev pub edgeMsrs : List ℕ
+edgeMsrs = 0 ∷ 0x1FFF ∷ 0xC0000000 ∷ 0xC0001FFF ∷ 0x2000 ∷ 0xBFFFFFFF ∷ 0xC0002000 ∷ 0xFFFFFFFF ∷ []
+
+abbrev pub edgeRecords : List Msr
+edgeRecords = map (λ msr. record { vcpu = 0; msr = msr }) edgeMsrs
+
+abbrev pub edgeLooks : List Bool
+edgeLooks = map (λ msr. msrOn (withMsrs tables edgeRecords) 0 msr) edgeMsrs
+
+abbrev pub edgeLooksSeen : List Bool
+edgeLooksSeen = true ∷ true ∷ true ∷ true ∷ false ∷ false ∷ false ∷ false ∷ []
+
+abbrev pub edgeSets : List ℕ
+edgeSets =
+    map (λ m. length (setMsr m true [])) edgeRecords ++ map (λ m. length (setMsr m false (m ∷ []))) edgeRecords
+
+abbrev pub edgeSetsSeen : List ℕ
+edgeSetsSeen = 1 ∷ 1 ∷ 1 ∷ 1 ∷ 0 ∷ 0 ∷ 0 ∷ 0 ∷ 0 ∷ 0 ∷ 0 ∷ 0 ∷ 1 ∷ 1 ∷ 1 ∷ 1 ∷ []
 
 -- pages 5 and 6 of each view
 abbrev pub accesses : List ℕ

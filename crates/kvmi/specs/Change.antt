@@ -8,6 +8,7 @@ use lib.IntN.{ℤ}
 use lib.ListN.{length, drop}
 use lib.Dec.{leb, eqb}
 use Rattle.wire.specs.Bytes.{store}
+use Rattle.msrs.specs.Place.{isMsr}
 use Rattle.kvmi.specs.declared.ReplyMode.{ReplyMode}
 use Rattle.kvmi.specs.declared.Signal.{Signal}
 use Rattle.kvmi.specs.declared.Signal.the-variants.{Quiet, Kick, Crash, Resume}
@@ -52,9 +53,9 @@ takeEntries limit view [] r = r
 takeEntries limit view (e ∷ es) r = takeEntries limit view es (takeEntry limit view e r)
 
 -- ---- message 12
--- "sets its switch to enable": a switch that is off has no record
+-- "sets its switch to enable": a switch that is off has no record; an MSR of no place has no switch
 unfoldable pub setMsr : Msr → Bool → List Msr → List Msr
-setMsr m on ms = cond on (put msrKey m ms) (forget msrKey (msrKey m) ms)
+setMsr m on ms = cond (isMsr (m .msr)) (cond on (put msrKey m ms) (forget msrKey (msrKey m) ms)) ms
 
 -- ---- each change
 -- the model and guest memory after a change, and its code: 0, or -12 of message 13 ("any skip gives -12")

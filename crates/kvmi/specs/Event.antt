@@ -87,8 +87,8 @@ crNamed own = load 2 own 0
 abbrev pub msrNamed : List ℕ → ℕ
 msrNamed own = load 4 own 0
 
--- "it is sent exactly if its switch is on, and for CR and MSR also that of the register its bytes name". A CR other than 0, 3 and 4 has none (`crOn`), and
--- an MSR outside message 12's ranges is never on: no session has a record of it (Valid: `msForm`).
+-- "it is sent exactly if its switch is on, and for CR and MSR also that of the register its bytes name". A CR other than 0, 3 and 4 has none (`crOn`), nor
+-- has an MSR outside message 12's ranges, one of no place (`msrOn`).
 unfoldable pub asksFor : Tables → ℕ → ℕ → List ℕ → EventSwitch → Bool
 asksFor t vcpu event own Unoffered = false
 asksFor t vcpu event own NoEvent = false

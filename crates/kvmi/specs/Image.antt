@@ -4,13 +4,14 @@ use mathlib.Core.List.{List, [], _∷_, _++_}
 use mathlib.Core.Bool.{Bool, true, false, _&&_, _||_, not}
 use lib.ListN.{length, getD}
 use lib.Dec.{eqb, leb, ltb}
+use Rattle.msrs.specs.Place.{isMsr}
 use Rattle.kvmi.specs.declared.Settings.{Settings}
 use Rattle.kvmi.specs.Limits.{pageLimit, pauseLimit}
 use Rattle.kvmi.specs.Bits.{bit, bitsHave, among}
 use Rattle.kvmi.specs.Settings.{allowsEvent, canSinglestep, uncatchable, heldByHost}
 use Rattle.kvmi.specs.Row.{Row}
 use Rattle.kvmi.specs.Record.{Kind, VM, VC, MS, PA, EN, widths, size, vmVersion, vmCount, vmEvents, vcVcpu, vcFlags, vcCrs, vcEvents, vcPauses, vcZero, msVcpu, msMsr, paView, paAccess, paZero, paPage, enCount, Rec, whole, cut, orderOf, writeAll, parse}
-use Rattle.kvmi.specs.Tables.{Vcpu, Msr, Page, Tables, resting, emptyTables, isMsr, withVmEvents, withVcpus, withMsrs, withPages}
+use Rattle.kvmi.specs.Tables.{Vcpu, Msr, Page, Tables, resting, emptyTables, withVmEvents, withVcpus, withMsrs, withPages}
 use Rattle.kvmi.specs.Message.{isVmEvent, isVcpuEvent}
 use Rattle.kvmi.specs.Verdict.{takesAccess}
 
@@ -166,11 +167,11 @@ abbrev pub ending : Tables → ℕ → List Rec → Loaded
 ending t off [] = loaded t
 ending t off (r ∷ rs) = badForm off
 
--- a record's whole form: its place in the order, not before lo, and its own
+-- a record's whole form: its order, not before lo, and its own
 abbrev pub fitsIn : (k : Kind) → ℕ → ℕ → Tables → Row (widths k) → Bool
 fitsIn k n lo t f = leb lo (orderOf k f) && isNext k n t f && formOf k n t f
 
--- the records behind VM in an image of n vCPUs: off bytes and the tables t come before them, lo is the least place that may follow.
+-- the records behind VM in an image of n vCPUs: off bytes and the tables t come before them, lo is the least order that may follow.
 -- "Form fails at the start of the first record that breaks a rule or is cut (the length, if EN is missing [..])."
 abbrev pub loadRest : Settings → ℕ → ℕ → ℕ → Tables → List Rec → Loaded
 loadRest s n off lo t [] = badForm off

@@ -4,7 +4,8 @@ use mathlib.Core.Path.{_≡_}
 use mathlib.Core.List.{List, [], _∷_}
 use mathlib.Core.Bool.{Bool, false, cond, _&&_, _||_}
 use lib.ListN.{getD, set, replicate}
-use lib.Dec.{eqb, leb}
+use lib.Dec.{eqb}
+use Rattle.msrs.specs.Place.{isMsr}
 use Rattle.kvmi.specs.Bits.{isOn, among}
 
 -- CR switches are bits 0, 1, 2 for CR0, CR3, CR4; event switches bit e for event e
@@ -92,13 +93,9 @@ setVcpu t i v = withVcpus t (set (t .vcpus) i v)
 unfoldable pub isCr : ℕ → Bool
 isCr cr = among cr (0 ∷ 3 ∷ 4 ∷ [])
 
--- the place of a CR's bit: 0, 1, 2, whose bits are "1, 2, 4 for CR0, CR3, CR4"
+-- which bit a CR's switch is: 0, 1, 2, whose bits are "1, 2, 4 for CR0, CR3, CR4"
 unfoldable pub crBit : ℕ → ℕ
 crBit cr = cond (eqb cr 0) 0 (cond (eqb cr 3) 1 2)
-
--- "MSR outside 0..0x1FFF and 0xC0000000..0xC0001FFF"
-unfoldable pub isMsr : ℕ → Bool
-isMsr m = leb m 0x1FFF || leb 0xC0000000 m && leb m 0xC0001FFF
 
 -- ---- lookups, by which a reader reads the tables: whether a switch is on
 -- "VM event switches"
@@ -118,8 +115,9 @@ unfoldable pub msrIn : List Msr → ℕ → ℕ → Bool
 msrIn [] vcpu msr = false
 msrIn (m ∷ ms) vcpu msr = eqb (m .vcpu) vcpu && eqb (m .msr) msr || msrIn ms vcpu msr
 
+-- an MSR of no place (one outside message 12's ranges) has no switch
 unfoldable pub msrOn : Tables → ℕ → ℕ → Bool
-msrOn t vcpu msr = msrIn (t .msrs) vcpu msr
+msrOn t vcpu msr = isMsr msr && msrIn (t .msrs) vcpu msr
 
 -- "for each view and page number an access": "R 1, W 2, X 4"; a page with no record stands at rwx
 unfoldable pub accessIn : List Page → ℕ → ℕ → ℕ

@@ -13,7 +13,7 @@ use borrow.Author.Tests.{leb-true, leb-false, ltb-true, eqb-true, eqb-false, le-
 use Rattle.kvmi.specs.declared.Settings.{Settings}
 use Rattle.kvmi.specs.Bits.{every, among, putBit, bitsHave}
 use Rattle.kvmi.specs.Settings.{inRange, allowsEvent, canSinglestep}
-use Rattle.kvmi.specs.Tables.{Vcpu, Msr, Page, Tables, resting, emptyTables, vcpuAt, setVcpu, withReady, withSinglestep, withCrs, withEvents, withPauses, crBit, isMsr}
+use Rattle.kvmi.specs.Tables.{Vcpu, Msr, Page, Tables, resting, emptyTables, vcpuAt, setVcpu, withReady, withSinglestep, withCrs, withEvents, withPauses, crBit}
 use Rattle.kvmi.specs.Message.{isVmEvent, isVcpuEvent}
 use Rattle.kvmi.specs.Image.{vmForm, isIdle, vcForm, msForm, vmMay, mayEnable, vcMay}
 use Rattle.laws.proofs.Bool.{and-l, and-r, and-i, or-l, or-r, either, test, clash, every-head, every-tail, every-imp, every-getD, every-set, every-replicate, small-among}

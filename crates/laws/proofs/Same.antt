@@ -4,20 +4,21 @@ use Prim.Native.Nat.{ℕ, zero, suc, _+_, _/_, _^_, _≤_, _<_}
 use native.Mathlib.Nat.{pow-suc}
 use native.Mathlib.Omega.{arith}
 use mathlib.Core.List.{List, [], _∷_}
-use mathlib.Core.Bool.{Bool, true, false, not, _&&_, So}
+use mathlib.Core.Bool.{Bool, true, false, not, _&&_, So, and-false}
 use lib.ListN.{length}
 use lib.Seq.{ext-getD}
 use lib.Dec.{eqb, ltb}
 use borrow.Author.Tests.{eqb-true, lt-ltb, ne-eqb}
+use Rattle.msrs.specs.Place.{isMsr}
 use Rattle.kvmi.specs.declared.Settings.{Settings}
 use Rattle.kvmi.specs.Bits.{isOn, every}
-use Rattle.kvmi.specs.Tables.{Vcpu, Msr, Page, Tables, resting, vcpuAt, isCr, crBit, vmEventOn, eventOn, crOn, msrOn, access, SameTables}
+use Rattle.kvmi.specs.Tables.{Vcpu, Msr, Page, Tables, resting, vcpuAt, isCr, crBit, vmEventOn, eventOn, crOn, msrIn, msrOn, access, SameTables}
 use Rattle.kvmi.specs.Image.{vmMay, msForm, paForm, paMay, vcForm, vcMay}
-use Rattle.laws.proofs.Bool.{and-l, and-r, every-imp}
+use Rattle.laws.proofs.Bool.{and-l, and-r, test, clash, every-head, every-tail, every-imp}
 use Rattle.laws.proofs.Bits.{on-none, on-suc, bits-ext}
 use Rattle.laws.proofs.Lookup.{paged, lowered, numbered, access-ext, msr-ext}
 use Rattle.kvmi.specs.Valid.{Valid, vcGood, paGood}
-use Rattle.laws.proofs.Valid.{vm-bits, vm-few, vc-numbers, ms-numbers, pa-numbers}
+use Rattle.laws.proofs.Valid.{vm-bits, vm-few, vc-numbers, ms-msr, ms-numbers, pa-numbers}
 use Rattle.laws.proofs.Kept.{vcpu-good}
 
 -- a set of numbers below n has none above
@@ -77,12 +78,24 @@ pub lowered-all : (s : Settings) (t : Tables) → Valid s t → So (every lowere
 lowered-all s t a =
     every-imp (paGood s) lowered (λ p h. let w = pa-numbers p (and-l (paForm p) (paMay s p) h) in ap not (ne-eqb (p .access) 7 (λ q. omega arith))) (t .pages) (a .pas)
 
+-- what has no place has no record
+msr-none : (vs : List Vcpu) (ms : List Msr) (v n : ℕ) → So (every (msForm vs) ms) → isMsr n ≡ false → msrIn ms v n ≡ false
+unfolding msrIn
+msr-none vs [] v n h e = refl
+msr-none vs (m ∷ ms) v n h e =
+    let other = ne-eqb (m .msr) n (λ p. clash (ms-msr vs m (every-head (msForm vs) m ms h)) (rw p e)) in
+    rw (other, and-false, msr-none vs ms v n (every-tail (msForm vs) m ms h) e)
+
+pub msr-on : (s : Settings) (t : Tables) (v n : ℕ) → Valid s t → msrOn t v n ≡ msrIn (t .msrs) v n
+unfolding msrOn
+msr-on s t v n a = test (isMsr n) (λ h. rw h) (λ h. rw h (sym (msr-none (t .vcpus) (t .msrs) v n (a .mss) h)))
+
 pub same-equal : (s : Settings) (t u : Tables) → Valid s t → Valid s u → SameTables t u → t ≡ u
-unfolding msrOn access
+unfolding access
 same-equal s t u a b e =
     let events = vm-events-same s t u a b e in
     let vcpus = vcpus-same s t u a b e in
-    let msrs = msr-ext (t .msrs) (u .msrs) (a .msUp) (numbered-all s t a) (b .msUp) (numbered-all s u b) (λ v n. e .msrs v n) in
+    let msrs = msr-ext (t .msrs) (u .msrs) (a .msUp) (numbered-all s t a) (b .msUp) (numbered-all s u b) (λ v n. sym (msr-on s t v n a) ∙ e .msrs v n ∙ msr-on s u v n b) in
     let pages = access-ext (t .pages) (u .pages) (a .paUp) (paged-all s t a) (lowered-all s t a) (b .paUp) (paged-all s u b) (lowered-all s u b) (λ v n. e .pages v n) in
     tables-ext t u events vcpus msrs pages
 

@@ -14,6 +14,7 @@ use Rattle.wire.specs.Bytes.{load}
 use Rattle.wire.specs.Header.{headerOf}
 use Rattle.wire.specs.declared.Header.{Header}
 use Rattle.wire.specs.declared.Header.the-variants.{Whole, Broken}
+use Rattle.msrs.specs.Place.{isMsr}
 use Rattle.kvmi.specs.declared.Settings.{Settings}
 use Rattle.kvmi.specs.declared.Change.{Change}
 use Rattle.kvmi.specs.declared.Change.the-variants.{Nothing, SetVmEvent, WritePhysical, QueuePause, SetVcpuEvent, SetCr, SetMsr, SetPages, SetSinglestep, SetReplies, EndWait}
@@ -22,7 +23,7 @@ use Rattle.kvmi.specs.declared.Verdict.the-variants.{Closes, Fails, Does}
 use Rattle.kvmi.specs.Bits.{every, among, putBit, bitsHave}
 use Rattle.kvmi.specs.Settings.{inRange, allowsEvent, canSinglestep, uncatchable, heldByHost}
 use Rattle.kvmi.specs.Ascending.{rising, has, put, forget}
-use Rattle.kvmi.specs.Tables.{Vcpu, Msr, Page, Tables, msrKey, pageKey, resting, vcpuAt, setVcpu, withVmEvents, withMsrs, withPages, withReady, withPauses, withEvents, withCrs, withSinglestep, isMsr}
+use Rattle.kvmi.specs.Tables.{Vcpu, Msr, Page, Tables, msrKey, pageKey, resting, vcpuAt, setVcpu, withVmEvents, withMsrs, withPages, withReady, withPauses, withEvents, withCrs, withSinglestep}
 use Rattle.kvmi.specs.Model.{Model, fresh, begun, onVcpu, awaitedBy, isSome}
 use Rattle.kvmi.specs.Message.{namesVcpu, vcpuOf, enables, eventOf, registerOf, countOf, countFits, viewOf, Entry, entryOf, entriesOf, isVmEvent, isVcpuEvent, takesEvent}
 use Rattle.kvmi.specs.declared.Facts.{Facts}
@@ -138,9 +139,9 @@ module _ (s : Settings) (ok : So (inRange s)) (m : Model) (a : Valid s (m .table
       let own : Msr = record { vcpu = vcpuOf d; msr = msr } in
       let count = eqb-true (length (m .tables .vcpus)) (s .vcpus) (let w = a .may in search (and-l, and-r)) in
       let form : So (msForm (m .tables .vcpus) own) = and-i _ _ (and-i _ _ (lt-ltb (vcpuOf d) (length (m .tables .vcpus)) (omega arith)) h) r in
-      pick (λ (ms : List Msr). Valid s (withMsrs (m .tables) ms)) on (put msrKey own (m .tables .msrs)) (forget msrKey (msrKey own) (m .tables .msrs))
+      rw h (pick (λ (ms : List Msr). Valid s (withMsrs (m .tables) ms)) on (put msrKey own (m .tables .msrs)) (forget msrKey (msrKey own) (m .tables .msrs))
       (λ _. valid-msrs s (m .tables) a _ (every-put msrKey (msForm (m .tables .vcpus)) own (m .tables .msrs) form (a .mss)) (rising-put msrKey 0 own (m .tables .msrs) zero-le (a .msUp)))
-      (λ _. valid-msrs s (m .tables) a _ (every-forget msrKey (msForm (m .tables .vcpus)) (msrKey own) (m .tables .msrs) (a .mss)) (rising-forget msrKey 0 (msrKey own) (m .tables .msrs) (a .msUp)))
+      (λ _. valid-msrs s (m .tables) a _ (every-forget msrKey (msForm (m .tables .vcpus)) (msrKey own) (m .tables .msrs) (a .mss)) (rising-forget msrKey 0 (msrKey own) (m .tables .msrs) (a .msUp))))
 
   pages-fine : (view count : ℕ) → view < s .views → So (every (λ (e : Entry). takesAccess s (e .access)) (entriesOf count (drop 8 d))) → Fine (SetPages view count)
   unfolding apply

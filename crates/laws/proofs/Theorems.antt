@@ -3,12 +3,15 @@
 use mathlib.Core.Path.{_≡_, refl, sym, ap, _∙_}
 use mathlib.Core.Logic.{_↔_}
 use Prim.Native.Nat.{ℕ, _^_, _<_}
+use native.Mathlib.Omega.{arith}
 use mathlib.Core.List.{List}
 use mathlib.Core.Bool.{Bool, true, false, cond, not, _&&_, So}
 use lib.ListN.{length}
 use lib.Dec.{leb, eqb}
 use lib.Pow.{areBytes}
 use borrow.Author.Tests.{eqb-true, lt-ltb, eq-eqb}
+use Rattle.msrs.specs.Place.{isMsr}
+use Rattle.msrs.proofs.Ranges.{small}
 use Rattle.kvmi.specs.declared.Settings.{Settings}
 use Rattle.kvmi.specs.Settings.{inRange}
 use Rattle.kvmi.specs.Ascending.{put, forget}
@@ -100,13 +103,17 @@ entry-sets s t limit view e skips v n a h k =
     (λ _. by-place view (e .page) v n (accessIn (put pageKey p ps)) (accessIn ps) (e .access) (access-put p ps)
     (λ d. access-put-other v n p ps d (lt-ltb (e .page) (2 ^ 64) h) (paged-all s t a))))
 
--- message 12 sets that MSR's switch of that vCPU and no other
-pub msr-sets : (s : Settings) (t : Tables) (m : Msr) (on : Bool) (v n : ℕ) → Valid s t → m .msr < 2 ^ 64
-    → msrIn (setMsr m on (t .msrs)) v n ≡ cond (eqb (m .vcpu) v && eqb (m .msr) n) on (msrIn (t .msrs) v n)
+-- message 12 sets that MSR's switch of that vCPU and no other; one of no place is no switch
+pub msr-sets : (s : Settings) (t : Tables) (m : Msr) (on : Bool) (v n : ℕ) → Valid s t
+    → msrIn (setMsr m on (t .msrs)) v n ≡ cond (isMsr (m .msr) && (eqb (m .vcpu) v && eqb (m .msr) n)) on (msrIn (t .msrs) v n)
 unfolding setMsr
-msr-sets s t m true v n a h =
-    by-place (m .vcpu) (m .msr) v n (msrIn (put msrKey m (t .msrs))) (msrIn (t .msrs)) true (msr-put m (t .msrs))
-    (λ d. msr-put-other v n m (t .msrs) d (lt-ltb (m .msr) (2 ^ 64) h) (numbered-all s t a))
-msr-sets s t m false v n a h =
-    by-place (m .vcpu) (m .msr) v n (msrIn (forget msrKey (msrKey m) (t .msrs))) (msrIn (t .msrs)) false (msr-forget (m .vcpu) (m .msr) (t .msrs) (a .msUp))
-    (λ d. msr-forget-other v n (m .vcpu) (m .msr) (t .msrs) d h (numbered-all s t a))
+msr-sets s t m on v n a = test (isMsr (m .msr)) (λ h. let w = small (m .msr) h in rw h (sets on (omega arith))) (λ h. rw h)
+  where
+    sets : (to : Bool) → m .msr < 2 ^ 64
+        → msrIn (cond to (put msrKey m (t .msrs)) (forget msrKey (msrKey m) (t .msrs))) v n ≡ cond (eqb (m .vcpu) v && eqb (m .msr) n) to (msrIn (t .msrs) v n)
+    sets true h =
+        by-place (m .vcpu) (m .msr) v n (msrIn (put msrKey m (t .msrs))) (msrIn (t .msrs)) true (msr-put m (t .msrs))
+        (λ d. msr-put-other v n m (t .msrs) d (lt-ltb (m .msr) (2 ^ 64) h) (numbered-all s t a))
+    sets false h =
+        by-place (m .vcpu) (m .msr) v n (msrIn (forget msrKey (msrKey m) (t .msrs))) (msrIn (t .msrs)) false (msr-forget (m .vcpu) (m .msr) (t .msrs) (a .msUp))
+        (λ d. msr-forget-other v n (m .vcpu) (m .msr) (t .msrs) d h (numbered-all s t a))

@@ -8,6 +8,7 @@ use lib.ListN.{getD, drop, length}
 use lib.Dec.{leb, eqb}
 use borrow.Author.Tests.{not-false, eqb-true}
 use Rattle.wire.specs.Bytes.{load}
+use Rattle.msrs.specs.Place.{isMsr}
 use Rattle.kvmi.specs.declared.Settings.{Settings}
 use Rattle.kvmi.specs.declared.Layout.{Layout}
 use Rattle.kvmi.specs.declared.ReplyMode.{ReplyMode}
@@ -18,7 +19,7 @@ use Rattle.kvmi.specs.declared.Verdict.the-variants.{Closes, Fails, Does}
 use Rattle.kvmi.specs.Bits.{among, every}
 use Rattle.kvmi.specs.Codes.{isError, EPERM, ENOENT, EAGAIN, EBUSY, EINVAL, EOPNOTSUPP, ENOSYS}
 use Rattle.kvmi.specs.Settings.{allowsCommand, allowsEvent}
-use Rattle.kvmi.specs.Tables.{isCr, isMsr}
+use Rattle.kvmi.specs.Tables.{isCr}
 use Rattle.kvmi.specs.Message.{layoutOf, sizeFits, carriesData, namesVcpu, vcpuOf, switchesAt, actionOf, repliedEvent, eventOf, registerOf, gpaOf, sizeOf, countOf, countFits, viewOf, Entry, entriesOf, firstPadding, takesEvent}
 use Rattle.kvmi.specs.declared.Facts.{Facts}
 use Rattle.kvmi.specs.Event.{eventRowOf, newValue}

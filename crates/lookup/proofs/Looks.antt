@@ -6,11 +6,12 @@ use native.Mathlib.Nat.{not-suc-le-zero, le-of-suc-le-suc}
 use native.Mathlib.Omega.{arith}
 use mathlib.Core.List.{List, [], _∷_, map}
 use mathlib.Core.Option.{none}
-use mathlib.Core.Bool.{Bool, true, false, cond, not, _&&_, So}
+use mathlib.Core.Bool.{Bool, true, false, cond, not, _&&_, So, and-false}
 use lib.ListN.{length, getD, take, set, replicate, length-take, List·getD-map, List·getD-eq-default}
 use lib.Seq.{set-getD, getD-take, length-take-le}
 use lib.Dec.{ltb, eqb}
 use borrow.Author.Tests.{ltb-true, ltb-false, eqb-true, ne-eqb, not-true}
+use Rattle.msrs.specs.Place.{isMsr}
 use Rattle.kvmi.specs.Bits.{bit, isOn, every, among}
 use Rattle.kvmi.specs.Settings.{inRange, isSet}
 use Rattle.kvmi.specs.Ascending.{rising, has, put}
@@ -163,7 +164,7 @@ module _ (st : State) (g : WordsGood st) (few : st .session .settings .vcpus ≤
 
     msrs-shut : (v msr : ℕ) → lookMsr (st .session) w v msr ≡ bit (msrOn t v msr)
     unfolding lookMsr msrOn msrIn
-    msrs-shut v msr = rw shut (sym (ap (λ (m : Model). bit (msrIn (m .tables .msrs) v msr)) rests))
+    msrs-shut v msr = rw shut (sym (ap (λ (m : Model). bit (isMsr msr && msrIn (m .tables .msrs) v msr)) rests ∙ ap bit (and-false (isMsr msr))))
 
   -- ---- the pages
   abbrev ws : List ℕ

@@ -17,7 +17,7 @@ use Rattle.kvmi.specs.declared.Change.the-variants.{Nothing, SetVmEvent, WriteP
 use Rattle.kvmi.specs.Bits.{bit, every, putBit}
 use Rattle.kvmi.specs.Codes.{OK, ENOMEM}
 use Rattle.kvmi.specs.Settings.{inRange}
-use Rattle.kvmi.specs.Tables.{Vcpu, Msr, Tables, vcpuAt, setVcpu, withCrs, withEvents, withPauses, withSinglestep, withVcpus, withMsrs, withPages, isMsr, crBit}
+use Rattle.kvmi.specs.Tables.{Vcpu, Msr, Tables, vcpuAt, setVcpu, withCrs, withEvents, withPauses, withSinglestep, withVcpus, withMsrs, withPages, crBit}
 use Rattle.kvmi.specs.Model.{Awaited, awaiting, withTables, withMode, withAwaited, onVcpu, setAwaited}
 use Rattle.kvmi.specs.Message.{Entry, entriesOf, isVmEvent, isVcpuEvent}
 use Rattle.kvmi.specs.Verdict.{isAccess}
@@ -144,20 +144,20 @@ module _ (st : State) (g : WordsGood st) (few : st .session .settings .vcpus ≤
         words = field-kept st g few v h SINGLESTEP (bit on) (omega arith) (λ q. bit-one on);
       }
 
-  pub msr-meant : (v msr : ℕ) (on : Bool) → v < count → So (isMsr msr) → Meant (change st guest d (SetMsr on v msr)) (apply (modelOf st) guest d (SetMsr on v msr))
+  pub msr-meant : (v msr : ℕ) (on : Bool) → v < count → Meant (change st guest d (SetMsr on v msr)) (apply (modelOf st) guest d (SetMsr on v msr))
   unfolding change apply
-  msr-meant v msr on h m =
+  msr-meant v msr on h =
       let l = block-inside st g few v h in
       let u = setMsrBit words v msr on in
-      let vcpus : vcpusOf ready u 0 count ≡ vcpusOf ready words 0 count = vcpus-msr ready words v msr on count m in
-      let msrs : msrsOf u 0 count ≡ setMsr (record { vcpu = v; msr = msr }) on (msrsOf words 0 count) = set-msr words count v msr l h m on in
+      let vcpus : vcpusOf ready u 0 count ≡ vcpusOf ready words 0 count = vcpus-msr ready words v msr on count in
+      let msrs : msrsOf u 0 count ≡ setMsr (record { vcpu = v; msr = msr }) on (msrsOf words 0 count) = set-msr words count v msr l h on in
       let awaited : awaitedOf u 0 count ≡ awaitedOf words 0 count
-      = awaited-same words u count (λ i. awaited-fields words u i (bit-field words v msr on m i AWAITED (omega arith)) (bit-field words v msr on m i AWAITED-SEQ (omega arith))) in
+      = awaited-same words u count (λ i. awaited-fields words u i (bit-field words v msr on i AWAITED (omega arith)) (bit-field words v msr on i AWAITED-SEQ (omega arith))) in
       record {
         model = words-model u _ _ _ vcpus msrs awaited;
         guest = refl;
         code = refl;
-        words = msr-kept st g few v h msr on m;
+        words = msr-kept st g few v h msr on;
       }
 
   pub vm-event-meant : (event : ℕ) (on : Bool) → So (isVmEvent event) → Meant (change st guest d (SetVmEvent on event)) (apply (modelOf st) guest d (SetVmEvent on event))

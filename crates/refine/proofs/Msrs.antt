@@ -8,55 +8,22 @@ use mathlib.Core.List.{List, [], _∷_, _++_}
 use mathlib.Core.Bool.{Bool, true, false, cond, not, _&&_, _||_, So, and-false}
 use lib.ListN.{length, getD, set, take, drop, replicate, length-set, getD-replicate, List·getD-eq-default}
 use lib.Seq.{getD-set-same, getD-set-other, take-set-le, drop-set-lt, drop-set-add, take-take, drop-drop}
-use lib.Dec.{leb, ltb, eqb}
-use borrow.Author.Tests.{ltb-true, ltb-false, leb-true, leb-false, eqb-true, eqb-false, lt-ltb, le-ltb, le-leb, lt-leb, eq-eqb, ne-eqb}
+use lib.Dec.{ltb, eqb}
+use borrow.Author.Tests.{ltb-true, ltb-false, leb-false, eqb-true, eqb-false, lt-ltb, le-ltb, lt-leb, eq-eqb, ne-eqb}
+use Rattle.msrs.specs.declared.Place.{Place}
+use Rattle.msrs.specs.declared.Place.the-variants.{At, None}
+use Rattle.msrs.specs.Place.{msrPlace, isAt, isMsr, msrAt}
+use Rattle.msrs.proofs.Ranges.{none≢at, in-places, one, onto, small, at-up, at-small}
 use Rattle.kvmi.specs.Bits.{every, isOn, putBit}
 use Rattle.kvmi.specs.Ascending.{rising, put, forget}
-use Rattle.kvmi.specs.Tables.{Msr, msrKey, isMsr, msrIn}
+use Rattle.kvmi.specs.Tables.{Msr, msrKey, msrIn}
 use Rattle.kvmi.specs.Change.{setMsr}
-use Rattle.store.specs.Words.{field, setField, msrSlot, msrWord, msrSlotOn, setMsrSlot, setMsrBit}
-use Rattle.store.specs.Meaning.{msrAt, switchesOn, msrsOf}
-use Rattle.laws.proofs.Bool.{and-l, and-r, and-i, or-l, or-r, either, test, clash, same-test, every-cons, every-imp}
+use Rattle.store.specs.Words.{field, setField, putBit64, switchedField, switchOn, readSwitch, setSwitch, msrBitOn, setMsrBit}
+use Rattle.store.specs.Meaning.{switchesOn, msrsOf}
+use Rattle.laws.proofs.Bool.{and-l, and-r, and-i, test, clash, same-test, every-cons, every-imp}
 use Rattle.laws.proofs.Bits.{on-none, on-put, on-put-other}
 use Rattle.laws.proofs.Ascending.{Side, below, level, over, side, rising-cons, rising-weak, rising-put, rising-forget, every-put, every-forget}
 use Rattle.laws.proofs.Lookup.{numbered, msr-put, msr-put-other, msr-forget, msr-forget-other, msr-ext}
-
--- ---- message 12's 16,384 MSRs and their places, 0 to 16,383
--- which of the two ranges an MSR is in, and its place
-slot-range : {C : Type 0} (m : ℕ) → So (isMsr m) → (m < 8192 → msrSlot m ≡ m → C) → (0xC0000000 ≤ m → m < 0xC0002000 → msrSlot m + 0xC0000000 ≡ m + 8192 → C) → C
-unfolding isMsr msrSlot
-slot-range m h f g =
-    either (leb m 0x1FFF) (leb 0xC0000000 m && leb m 0xC0001FFF) h (λ a. let l = leb-true m 0x1FFF a in f (omega arith) (omega arith))
-    (λ a. let l = leb-true 0xC0000000 m (and-l (leb 0xC0000000 m) (leb m 0xC0001FFF) a) in
-    let k = leb-true m 0xC0001FFF (and-r (leb 0xC0000000 m) (leb m 0xC0001FFF) a) in
-    g l (omega arith) (omega arith))
-
--- which of the two ranges a place is for, and its MSR
-at-range : {C : Type 0} (s : ℕ) → (s < 8192 → msrAt s ≡ s → C) → (8192 ≤ s → msrAt s ≡ s - 8192 + 0xC0000000 → C) → C
-unfolding msrAt
-at-range s f g = test (ltb s 8192) (λ h. f (ltb-true s 8192 h) (rw h)) (λ h. g (ltb-false s 8192 h) (rw h))
-
-pub slot-below : (m : ℕ) → So (isMsr m) → msrSlot m < 16384
-slot-below m h = slot-range m h (λ a e. omega arith) (λ a b e. omega arith)
-
-pub at-slot : (m : ℕ) → So (isMsr m) → msrAt (msrSlot m) ≡ m
-at-slot m h = slot-range m h (λ a e. at-range (msrSlot m) (λ l f. omega arith) (λ l f. omega arith)) (λ a b e. at-range (msrSlot m) (λ l f. omega arith) (λ l f. omega arith))
-
-pub at-msr : (s : ℕ) → s < 16384 → So (isMsr (msrAt s))
-unfolding isMsr
-at-msr s h =
-    at-range s (λ l e. or-l (leb (msrAt s) 0x1FFF) _ (le-leb (msrAt s) 0x1FFF (omega arith)))
-    (λ l e. or-r (leb (msrAt s) 0x1FFF) _ (and-i (leb 0xC0000000 (msrAt s)) (leb (msrAt s) 0xC0001FFF) (le-leb 0xC0000000 (msrAt s) (omega arith)) (le-leb (msrAt s) 0xC0001FFF (omega arith))))
-
-pub slot-at : (s : ℕ) → s < 16384 → msrSlot (msrAt s) ≡ s
-unfolding msrSlot
-slot-at s h = at-range s (λ l e. rw e (omega arith)) (λ l e. rw e (omega arith))
-
-pub at-up : (s t : ℕ) → s < t → msrAt s < msrAt t
-at-up s t h = at-range s (λ l e. at-range t (λ k f. omega arith) (λ k f. omega arith)) (λ l e. at-range t (λ k f. omega arith) (λ k f. omega arith))
-
-pub at-small : (s : ℕ) → s ≤ 16384 → msrAt s < 2 ^ 32
-at-small s h = at-range s (λ l e. omega arith) (λ l e. omega arith)
 
 -- ---- a list's first switch
 in-here : (v m : ℕ) (ms : List Msr) → msrIn (record { vcpu = v; msr = m } ∷ ms) v m ≡ true
@@ -69,58 +36,54 @@ in-past u k v m ms d = test (eqb u v) (λ a. rw (a, ne-eqb k m (d (eqb-true u v 
 
 -- ---- the switches of one vCPU
 module _ (w : List ℕ) (vcpu : ℕ) where
-  -- the switch of a place
-  abbrev slotOn : ℕ → Bool
-  slotOn s = isOn (getD w (vcpu * 272 + 16 + s / 64) 0) (s % 64)
-
-  switches-cases : (P : List Msr → Type 0) (slot n : ℕ) (rest : List Msr)
-      → (slotOn slot ≡ true → P (record { vcpu = vcpu; msr = msrAt slot } ∷ switchesOn w vcpu (suc slot) n rest)) → (slotOn slot ≡ false → P (switchesOn w vcpu (suc slot) n rest))
-      → P (switchesOn w vcpu slot (suc n) rest)
+  switches-cases : (P : List Msr → Type 0) (place n : ℕ) (rest : List Msr)
+      → (switchOn w vcpu place ≡ true → P (record { vcpu = vcpu; msr = msrAt place } ∷ switchesOn w vcpu (suc place) n rest)) → (switchOn w vcpu place ≡ false → P (switchesOn w vcpu (suc place) n rest))
+      → P (switchesOn w vcpu place (suc n) rest)
   unfolding switchesOn
-  switches-cases P slot n rest f g = test (slotOn slot) (λ h. rw h (f h)) (λ h. rw h (g h))
+  switches-cases P place n rest f g = test (switchOn w vcpu place) (λ h. rw h (f h)) (λ h. rw h (g h))
 
-  switches-rising : (lo slot n : ℕ) (rest : List Msr) → slot + n ≤ 16384 → lo ≤ vcpu * 2 ^ 64 + msrAt slot → So (rising msrKey (suc vcpu * 2 ^ 64) rest)
-      → So (rising msrKey lo (switchesOn w vcpu slot n rest))
+  switches-rising : (lo place n : ℕ) (rest : List Msr) → place + n ≤ 16384 → lo ≤ vcpu * 2 ^ 64 + msrAt place → So (rising msrKey (suc vcpu * 2 ^ 64) rest)
+      → So (rising msrKey lo (switchesOn w vcpu place n rest))
   unfolding switchesOn
-  switches-rising lo slot zero rest h l g = rising-weak msrKey lo (suc vcpu * 2 ^ 64) rest (omega (arith, at-small slot (omega arith))) g
-  switches-rising lo slot (suc n) rest h l g =
-      let up = at-up slot (suc slot) (le-refl _) in
-      switches-cases (λ ms. So (rising msrKey lo ms)) slot n rest
-      (λ t. rising-cons msrKey lo _ (switchesOn w vcpu (suc slot) n rest) l (switches-rising (suc (vcpu * 2 ^ 64 + msrAt slot)) (suc slot) n rest (omega arith) (omega arith) g))
-      (λ t. switches-rising lo (suc slot) n rest (omega arith) (omega arith) g)
+  switches-rising lo place zero rest h l g = rising-weak msrKey lo (suc vcpu * 2 ^ 64) rest (omega (arith, at-small place (omega arith))) g
+  switches-rising lo place (suc n) rest h l g =
+      let up = at-up place (suc place) (le-refl _) in
+      switches-cases (λ ms. So (rising msrKey lo ms)) place n rest
+      (λ t. rising-cons msrKey lo _ (switchesOn w vcpu (suc place) n rest) l (switches-rising (suc (vcpu * 2 ^ 64 + msrAt place)) (suc place) n rest (omega arith) (omega arith) g))
+      (λ t. switches-rising lo (suc place) n rest (omega arith) (omega arith) g)
 
   switches-every : (f : Msr → Bool) → ((s : ℕ) → s < 16384 → So (f (record { vcpu = vcpu; msr = msrAt s })))
-      → (slot n : ℕ) (rest : List Msr) → slot + n ≤ 16384 → So (every f rest) → So (every f (switchesOn w vcpu slot n rest))
+      → (place n : ℕ) (rest : List Msr) → place + n ≤ 16384 → So (every f rest) → So (every f (switchesOn w vcpu place n rest))
   unfolding switchesOn
-  switches-every f q slot zero rest h g = g
-  switches-every f q slot (suc n) rest h g =
-      let r = switches-every f q (suc slot) n rest (omega arith) g in
-      switches-cases (λ ms. So (every f ms)) slot n rest (λ t. every-cons f _ (switchesOn w vcpu (suc slot) n rest) (q slot (omega arith)) r) (λ t. r)
+  switches-every f q place zero rest h g = g
+  switches-every f q place (suc n) rest h g =
+      let r = switches-every f q (suc place) n rest (omega arith) g in
+      switches-cases (λ ms. So (every f ms)) place n rest (λ t. every-cons f _ (switchesOn w vcpu (suc place) n rest) (q place (omega arith)) r) (λ t. r)
 
   -- what is found behind switches that are all others
-  switches-other : (v m slot n : ℕ) (rest : List Msr) → ((s : ℕ) → slot ≤ s → s < slot + n → vcpu ≡ v → msrAt s ≡ m → ⊥)
-      → msrIn (switchesOn w vcpu slot n rest) v m ≡ msrIn rest v m
+  switches-other : (v m place n : ℕ) (rest : List Msr) → ((s : ℕ) → place ≤ s → s < place + n → vcpu ≡ v → msrAt s ≡ m → ⊥)
+      → msrIn (switchesOn w vcpu place n rest) v m ≡ msrIn rest v m
   unfolding switchesOn
-  switches-other v m slot zero rest d = refl
-  switches-other v m slot (suc n) rest d =
-      let r = switches-other v m (suc slot) n rest (λ s a b. d s (omega arith) (omega arith)) in
-      switches-cases (λ ms. msrIn ms v m ≡ msrIn rest v m) slot n rest (λ t. in-past vcpu (msrAt slot) v m _ (d slot (le-refl slot) (omega arith)) ∙ r) (λ t. r)
+  switches-other v m place zero rest d = refl
+  switches-other v m place (suc n) rest d =
+      let r = switches-other v m (suc place) n rest (λ s a b. d s (omega arith) (omega arith)) in
+      switches-cases (λ ms. msrIn ms v m ≡ msrIn rest v m) place n rest (λ t. in-past vcpu (msrAt place) v m _ (d place (le-refl place) (omega arith)) ∙ r) (λ t. r)
 
   -- a switch of a place
-  switches-here : (s slot n : ℕ) (rest : List Msr) → slot ≤ s → s < slot + n → msrIn rest vcpu (msrAt s) ≡ false
-      → msrIn (switchesOn w vcpu slot n rest) vcpu (msrAt s) ≡ slotOn s
+  switches-here : (s place n : ℕ) (rest : List Msr) → place ≤ s → s < place + n → msrIn rest vcpu (msrAt s) ≡ false
+      → msrIn (switchesOn w vcpu place n rest) vcpu (msrAt s) ≡ switchOn w vcpu s
   unfolding switchesOn
-  switches-here s slot zero rest l k g = absurd (omega arith)
-  switches-here s slot (suc n) rest l k g =
-      test (eqb slot s)
-      (λ e. let here = eqb-true slot s e in
-      let past : msrIn (switchesOn w vcpu (suc slot) n rest) vcpu (msrAt s) ≡ false =
-      switches-other vcpu (msrAt s) (suc slot) n rest (λ u a b p q. absurd (omega (arith, at-up s u (omega arith)))) ∙ g in
-      switches-cases (λ ms. msrIn ms vcpu (msrAt s) ≡ slotOn s) slot n rest (λ t. rw (← here) (in-here vcpu (msrAt slot) _ ∙ sym t)) (λ t. past ∙ sym (rw here at t)))
-      (λ e. let gone = eqb-false slot s e in
-      let r = switches-here s (suc slot) n rest (omega arith) (omega arith) g in
-      switches-cases (λ ms. msrIn ms vcpu (msrAt s) ≡ slotOn s) slot n rest
-      (λ t. in-past vcpu (msrAt slot) vcpu (msrAt s) _ (λ p q. absurd (omega (arith, at-up slot s (omega arith)))) ∙ r) (λ t. r))
+  switches-here s place zero rest l k g = absurd (omega arith)
+  switches-here s place (suc n) rest l k g =
+      test (eqb place s)
+      (λ e. let here = eqb-true place s e in
+      let past : msrIn (switchesOn w vcpu (suc place) n rest) vcpu (msrAt s) ≡ false =
+      switches-other vcpu (msrAt s) (suc place) n rest (λ u a b p q. absurd (omega (arith, at-up s u (omega arith)))) ∙ g in
+      switches-cases (λ ms. msrIn ms vcpu (msrAt s) ≡ switchOn w vcpu s) place n rest (λ t. rw (← here) (in-here vcpu (msrAt place) _ ∙ sym t)) (λ t. past ∙ sym (rw here at t)))
+      (λ e. let gone = eqb-false place s e in
+      let r = switches-here s (suc place) n rest (omega arith) (omega arith) g in
+      switches-cases (λ ms. msrIn ms vcpu (msrAt s) ≡ switchOn w vcpu s) place n rest
+      (λ t. in-past vcpu (msrAt place) vcpu (msrAt s) _ (λ p q. absurd (omega (arith, at-up place s (omega arith)))) ∙ r) (λ t. r))
 
 -- ---- the switches of n vCPUs
 module _ (w : List ℕ) where
@@ -129,7 +92,7 @@ module _ (w : List ℕ) where
   msrs-up v zero = refl
   msrs-up v (suc n) = switches-rising w v (v * 2 ^ 64) 0 16384 (msrsOf w (suc v) n) (omega arith) (omega arith) (msrs-up (suc v) n)
 
-  msrs-every : (f : Msr → Bool) → ((u s : ℕ) → s < 16384 → So (f (record { vcpu = u; msr = msrAt s }))) → (v n : ℕ) → So (every f (msrsOf w v n))
+  pub msrs-every : (f : Msr → Bool) → ((u s : ℕ) → s < 16384 → So (f (record { vcpu = u; msr = msrAt s }))) → (v n : ℕ) → So (every f (msrsOf w v n))
   unfolding msrsOf
   msrs-every f q v zero = refl
   msrs-every f q v (suc n) = switches-every w v f (q v) 0 16384 (msrsOf w (suc v) n) (omega arith) (msrs-every f q (suc v) n)
@@ -141,7 +104,7 @@ module _ (w : List ℕ) where
       switches-other w u v m 0 16384 (msrsOf w (suc u) n) (λ s a b p. d s (omega arith) (omega arith) (omega arith))
       ∙ msrs-none (suc u) n v m (λ s a b. d s (omega arith) (omega arith))
 
-  msrs-here : (u n v s : ℕ) → u ≤ v → v < u + n → s < 16384 → msrIn (msrsOf w u n) v (msrAt s) ≡ slotOn w v s
+  msrs-here : (u n v s : ℕ) → u ≤ v → v < u + n → s < 16384 → msrIn (msrsOf w u n) v (msrAt s) ≡ switchOn w v s
   unfolding msrsOf
   msrs-here u zero v s a b h = absurd (omega arith)
   msrs-here u (suc n) v s a b h =
@@ -161,14 +124,22 @@ module _ (w : List ℕ) where
   msrs-numbered n =
       every-imp (λ (m : Msr). ltb (m .msr) (2 ^ 32)) numbered (λ m h. lt-ltb (m .msr) (2 ^ 64) (omega (arith, ltb-true (m .msr) (2 ^ 32) h))) (msrsOf w 0 n) (msrs-small n)
 
-  pub msrs-look : (n v m : ℕ) → msrIn (msrsOf w 0 n) v m ≡ (ltb v n && isMsr m && msrSlotOn w v m)
-  unfolding msrSlotOn msrWord
-  msrs-look n v m =
-      test (ltb v n)
-      (λ a. test (isMsr m)
-      (λ b. rw (a, b) (rw (at-slot m b) at (msrs-here 0 n v (msrSlot m) zero-le (omega (arith, ltb-true v n a)) (slot-below m b))))
-      (λ b. rw (a, b) (msrs-none 0 n v m (λ s p q r e. clash (rw e at (at-msr s r)) b))))
-      (λ a. rw a (msrs-none 0 n v m (λ s p q r e. absurd (omega (arith, ltb-false v n a)))))
+  pub msrs-look : (n v m : ℕ) → msrIn (msrsOf w 0 n) v m ≡ (ltb v n && msrBitOn w v m)
+  unfolding msrBitOn
+  msrs-look n v m = test (ltb v n) (λ a. rw a (step (msrPlace m) refl (ltb-true v n a))) (λ a. rw a (msrs-none 0 n v m (λ s p q r e. absurd (omega (arith, ltb-false v n a)))))
+    where
+      step : (p : Place) → msrPlace m ≡ p → v < n → msrIn (msrsOf w 0 n) v m ≡ readSwitch w v p
+      step (At place) e a = rw (one m place e) at (msrs-here 0 n v place zero-le (omega arith) (in-places m place e))
+      step None e a = msrs-none 0 n v m (λ s p q r f. absurd (none≢at (sym e ∙ ap msrPlace (sym f) ∙ onto s r)))
+
+-- one that is on has a place
+pub bit-placed : (w : List ℕ) (v m : ℕ) → (isMsr m && msrBitOn w v m) ≡ msrBitOn w v m
+unfolding isMsr msrBitOn
+bit-placed w v m = step (msrPlace m)
+  where
+    step : (p : Place) → (isAt p && readSwitch w v p) ≡ readSwitch w v p
+    step (At place) = refl
+    step None = refl
 
 -- ---- places in blocks of 272 words
 -- two places are one only in the same block
@@ -204,75 +175,90 @@ module _ (w : List ℕ) (v : ℕ) where
   unfolding setField
   field-length k x = length-set w (v * 272 + k) x
 
-  -- ---- an MSR's switch set
-  pub bit-length : (m : ℕ) (on : Bool) → length (setMsrBit w v m on) ≡ length w
-  unfolding setMsrBit setMsrSlot
-  bit-length m on = test (isMsr m) (λ h. rw h (length-set w _ _)) (λ h. rw h)
+  -- ---- an MSR's switch set: one of the words of switches, or nothing
+  pub bit-cases : (P : List ℕ → Type 0) (m : ℕ) (on : Bool) → ((k x : ℕ) → 16 ≤ k → k < 272 → P (setField w v k x)) → P w → P (setMsrBit w v m on)
+  unfolding setMsrBit switchedField
+  bit-cases P m on f g = step (msrPlace m) refl
+    where
+      step : (p : Place) → msrPlace m ≡ p → P (setSwitch w v p on)
+      step (At place) e = let b = in-places m place e in f (16 + place / 64) _ (omega arith) (omega arith)
+      step None e = g
 
-  module _ (m : ℕ) (on : Bool) (h : So (isMsr m)) where
+  module _ (m : ℕ) (on : Bool) where
+    pub bit-length : length (setMsrBit w v m on) ≡ length w
+    bit-length = bit-cases (λ x. length x ≡ length w) m on (λ k x a b. field-length k x) refl
+
     pub bit-field : (i k : ℕ) → k < 16 → field (setMsrBit w v m on) i k ≡ field w i k
-    unfolding field setMsrBit setMsrSlot msrWord
-    bit-field i k l =
-        rw h
-        (getD-set-other w _ (i * 272 + k) _ 0
-        (λ e. let s = block-same i k v (16 + msrSlot m / 64) (omega arith) (omega (arith, slot-below m h)) (omega arith) in omega arith))
+    bit-field i k l = bit-cases (λ x. field x i k ≡ field w i k) m on (λ j x a b. field-set-other j x i k b (omega arith) (λ _ e. omega arith)) refl
 
     pub bit-block : (i : ℕ) → i ≢ v → take 272 (drop (i * 272) (setMsrBit w v m on)) ≡ take 272 (drop (i * 272) w)
-    unfolding setMsrBit setMsrSlot msrWord
-    bit-block i d = rw h (block-set w v i _ _ (omega arith) (omega (arith, slot-below m h)) d)
+    bit-block i d = bit-cases (λ x. take 272 (drop (i * 272) x) ≡ take 272 (drop (i * 272) w)) m on (λ k x a b. field-block k x i b d) refl
 
-    module _ (l : v * 272 + 272 ≤ length w) where
-      word-inside : msrWord v m < length w
-      unfolding msrWord
-      word-inside = omega (arith, slot-below m h)
+-- ---- the switch of a place set
+module _ (w : List ℕ) (v place : ℕ) (on : Bool) (h : place < 16384) (l : v * 272 + 272 ≤ length w) where
+  abbrev after : List ℕ
+  after = switchedField w v (16 + place / 64) (place % 64) on
 
-      pub bit-set : msrSlotOn (setMsrBit w v m on) v m ≡ on
-      unfolding msrSlotOn setMsrBit setMsrSlot
-      bit-set = rw (h, getD-set-same w (msrWord v m) _ 0 word-inside) (on-put _ (msrSlot m % 64) on)
+  place-set : switchOn after v place ≡ on
+  unfolding switchOn switchedField putBit64
+  place-set = rw (field-set w v (16 + place / 64) _ (omega arith), lt-ltb (place % 64) 64 (omega arith)) (on-put _ (place % 64) on)
 
-      -- the same word, so the same vCPU and another bit
-      bit-beside : (u k : ℕ) → So (isMsr k) → (v ≡ u → m ≡ k → ⊥) → msrWord u k ≡ msrWord v m → msrSlot k % 64 ≢ msrSlot m % 64
-      unfolding msrWord
-      bit-beside u k g d e f =
-          let s = block-same u (16 + msrSlot k / 64) v (16 + msrSlot m / 64) (omega (arith, slot-below k g)) (omega (arith, slot-below m h)) (omega arith) in
-          let slots : msrSlot m ≡ msrSlot k = omega arith in
-          d (sym (s .0)) (sym (at-slot m h) ∙ ap msrAt slots ∙ at-slot k g)
-
-      pub bit-other : (u k : ℕ) → So (isMsr k) → (v ≡ u → m ≡ k → ⊥) → msrSlotOn (setMsrBit w v m on) u k ≡ msrSlotOn w u k
-      unfolding msrSlotOn setMsrBit setMsrSlot
-      bit-other u k g d =
-          test (eqb (msrWord u k) (msrWord v m))
-          (λ t. let e = eqb-true (msrWord u k) (msrWord v m) t in
-          rw (h, e, getD-set-same w (msrWord v m) _ 0 word-inside) (on-put-other _ (msrSlot m % 64) (msrSlot k % 64) on (bit-beside u k g d e)))
-          (λ t. rw (h, getD-set-other w (msrWord v m) (msrWord u k) _ 0 (eqb-false (msrWord u k) (msrWord v m) t)))
+  place-other : (u q : ℕ) → q < 16384 → (v ≡ u → place ≡ q → ⊥) → switchOn after u q ≡ switchOn w u q
+  unfolding switchOn switchedField putBit64
+  place-other u q k d =
+      test (eqb u v && eqb (q / 64) (place / 64))
+      (λ t. let p = eqb-true u v (and-l (eqb u v) _ t) in
+      let r = eqb-true (q / 64) (place / 64) (and-r (eqb u v) _ t) in
+      rw (p, r, field-set w v (16 + place / 64) _ (omega arith), lt-ltb (place % 64) 64 (omega arith))
+      (on-put-other _ (place % 64) (q % 64) on (λ e. d (sym p) (omega arith))))
+      (λ t. ap (λ x. isOn x (q % 64))
+      (field-set-other w v (16 + place / 64) _ u (16 + q / 64) (omega arith) (omega arith)
+      (λ e f. clash (and-i (eqb u v) (eqb (q / 64) (place / 64)) (eq-eqb u v e) (eq-eqb (q / 64) (place / 64) (omega arith))) t)))
 
 -- ---- a switch set is an entry put or forgotten
-module _ (w : List ℕ) (n v m : ℕ) (l : n * 272 ≤ length w) (a : v < n) (h : So (isMsr m)) where
+module _ (w : List ℕ) (n v m place : ℕ) (l : n * 272 ≤ length w) (a : v < n) (h : msrPlace m ≡ At place) where
   abbrev this : Msr
   this = record { vcpu = v; msr = m }
 
+  is-msr : So (isMsr m)
+  unfolding isMsr
+  is-msr = rw h refl
+
   numbered-this : So (numbered this)
-  numbered-this = lt-ltb m (2 ^ 64) (slot-range m h (λ b e. omega arith) (λ b c e. omega arith))
+  numbered-this = lt-ltb m (2 ^ 64) (omega (arith, small m is-msr))
+
+  bit-set : (on : Bool) → msrBitOn (setMsrBit w v m on) v m ≡ on
+  unfolding msrBitOn setMsrBit
+  bit-set on = rw h (place-set w v place on (in-places m place h) (omega arith))
+
+  bit-other : (on : Bool) (u k : ℕ) → (v ≡ u → m ≡ k → ⊥) → msrBitOn (setMsrBit w v m on) u k ≡ msrBitOn w u k
+  unfolding msrBitOn setMsrBit
+  bit-other on u k d = rw h (step (msrPlace k) refl)
+    where
+      step : (p : Place) → msrPlace k ≡ p → readSwitch (switchedField w v (16 + place / 64) (place % 64) on) u p ≡ readSwitch w u p
+      step (At q) e =
+          place-other w v place on (in-places m place h) (omega arith) u q (in-places k q e) (λ f g. d f (sym (one m place h) ∙ ap msrAt g ∙ one k q e))
+      step None e = refl
 
   set-rising : (on : Bool) → So (rising msrKey 0 (setMsr this on (msrsOf w 0 n)))
   unfolding setMsr
-  set-rising true = rising-put msrKey 0 this (msrsOf w 0 n) zero-le (msrs-rising w n)
-  set-rising false = rising-forget msrKey 0 (msrKey this) (msrsOf w 0 n) (msrs-rising w n)
+  set-rising true = rw is-msr (rising-put msrKey 0 this (msrsOf w 0 n) zero-le (msrs-rising w n))
+  set-rising false = rw is-msr (rising-forget msrKey 0 (msrKey this) (msrsOf w 0 n) (msrs-rising w n))
 
   set-numbered : (on : Bool) → So (every numbered (setMsr this on (msrsOf w 0 n)))
   unfolding setMsr
-  set-numbered true = every-put msrKey numbered this (msrsOf w 0 n) numbered-this (msrs-numbered w n)
-  set-numbered false = every-forget msrKey numbered (msrKey this) (msrsOf w 0 n) (msrs-numbered w n)
+  set-numbered true = rw is-msr (every-put msrKey numbered this (msrsOf w 0 n) numbered-this (msrs-numbered w n))
+  set-numbered false = rw is-msr (every-forget msrKey numbered (msrKey this) (msrsOf w 0 n) (msrs-numbered w n))
 
   set-here : (on : Bool) → msrIn (setMsr this on (msrsOf w 0 n)) v m ≡ on
   unfolding setMsr
-  set-here true = msr-put this (msrsOf w 0 n)
-  set-here false = msr-forget v m (msrsOf w 0 n) (msrs-rising w n)
+  set-here true = rw is-msr (msr-put this (msrsOf w 0 n))
+  set-here false = rw is-msr (msr-forget v m (msrsOf w 0 n) (msrs-rising w n))
 
   set-other : (on : Bool) (u k : ℕ) → (v ≡ u → m ≡ k → ⊥) → msrIn (setMsr this on (msrsOf w 0 n)) u k ≡ msrIn (msrsOf w 0 n) u k
   unfolding setMsr
-  set-other true u k d = msr-put-other u k this (msrsOf w 0 n) d numbered-this (msrs-numbered w n)
-  set-other false u k d = msr-forget-other u k v m (msrsOf w 0 n) d (ltb-true m (2 ^ 64) numbered-this) (msrs-numbered w n)
+  set-other true u k d = rw is-msr (msr-put-other u k this (msrsOf w 0 n) d numbered-this (msrs-numbered w n))
+  set-other false u k d = rw is-msr (msr-forget-other u k v m (msrsOf w 0 n) d (ltb-true m (2 ^ 64) numbered-this) (msrs-numbered w n))
 
   set-looks : (on : Bool) (u k : ℕ) → msrIn (msrsOf (setMsrBit w v m on) 0 n) u k ≡ msrIn (setMsr this on (msrsOf w 0 n)) u k
   set-looks on u k =
@@ -280,32 +266,36 @@ module _ (w : List ℕ) (n v m : ℕ) (l : n * 272 ≤ length w) (a : v < n) (h 
       ∙ test (eqb v u && eqb m k)
       (λ t. let p = eqb-true v u (and-l (eqb v u) (eqb m k) t) in
       let q = eqb-true m k (and-r (eqb v u) (eqb m k) t) in
-      rw (← p, ← q, lt-ltb v n a, h, bit-set w v m on h (omega arith)) (sym (set-here on)))
+      rw (← p, ← q, lt-ltb v n a, bit-set on) (sym (set-here on)))
       (λ t. let d : v ≡ u → m ≡ k → ⊥ = λ p q. clash (and-i (eqb v u) (eqb m k) (eq-eqb v u p) (eq-eqb m k q)) t in
-      rw (set-other on u k d, msrs-look w n u k)
-      (test (ltb u n && isMsr k) (λ g. rw (bit-other w v m on h (omega arith) u k (and-r (ltb u n) (isMsr k) g) d)) (λ g. rw g)))
+      rw (set-other on u k d, msrs-look w n u k, bit-other on u k d))
 
-  pub set-msr : (on : Bool) → msrsOf (setMsrBit w v m on) 0 n ≡ setMsr (record { vcpu = v; msr = m }) on (msrsOf w 0 n)
-  set-msr on =
-      msr-ext _ _ (msrs-rising (setMsrBit w v m on) n) (msrs-numbered (setMsrBit w v m on) n) (set-rising on) (set-numbered on) (set-looks on)
+  set-placed : (on : Bool) → msrsOf (setMsrBit w v m on) 0 n ≡ setMsr this on (msrsOf w 0 n)
+  set-placed on = msr-ext _ _ (msrs-rising (setMsrBit w v m on) n) (msrs-numbered (setMsrBit w v m on) n) (set-rising on) (set-numbered on) (set-looks on)
+
+pub set-msr : (w : List ℕ) (n v m : ℕ) → n * 272 ≤ length w → v < n → (on : Bool)
+    → msrsOf (setMsrBit w v m on) 0 n ≡ setMsr (record { vcpu = v; msr = m }) on (msrsOf w 0 n)
+unfolding setMsrBit setMsr isMsr
+set-msr w n v m l a on = step (msrPlace m) refl
+  where
+    step : (p : Place) → msrPlace m ≡ p → msrsOf (setMsrBit w v m on) 0 n ≡ setMsr (record { vcpu = v; msr = m }) on (msrsOf w 0 n)
+    step (At place) e = set-placed w n v m place l a e on
+    step None e = rw e
 
 -- ---- words that say the same switches
-switches-same : (w x : List ℕ) (v slot n : ℕ) (rest : List Msr) → slot + n ≤ 16384
-    → ((s : ℕ) → s < 16384 → getD x (v * 272 + 16 + s / 64) 0 ≡ getD w (v * 272 + 16 + s / 64) 0) → switchesOn x v slot n rest ≡ switchesOn w v slot n rest
-unfolding switchesOn
-switches-same w x v slot zero rest h q = refl
-switches-same w x v slot (suc n) rest h q = rw (q slot (omega arith), switches-same w x v (suc slot) n rest (omega arith) q)
+switches-same : (w x : List ℕ) (v place n : ℕ) (rest : List Msr) → place + n ≤ 16384
+    → ((k : ℕ) → 16 ≤ k → k < 272 → field x v k ≡ field w v k) → switchesOn x v place n rest ≡ switchesOn w v place n rest
+unfolding switchesOn switchOn
+switches-same w x v place zero rest h q = refl
+switches-same w x v place (suc n) rest h q = rw (q (16 + place / 64) (omega arith) (omega arith), switches-same w x v (suc place) n rest (omega arith) q)
 
-pub msrs-same : (w x : List ℕ) (v n : ℕ) → ((i s : ℕ) → s < 16384 → getD x (i * 272 + 16 + s / 64) 0 ≡ getD w (i * 272 + 16 + s / 64) 0) → msrsOf x v n ≡ msrsOf w v n
+pub msrs-same : (w x : List ℕ) (v n : ℕ) → ((i k : ℕ) → 16 ≤ k → k < 272 → field x i k ≡ field w i k) → msrsOf x v n ≡ msrsOf w v n
 unfolding msrsOf
 msrs-same w x v zero q = refl
 msrs-same w x v (suc n) q = rw (msrs-same w x (suc v) n q) (switches-same w x v 0 16384 (msrsOf w (suc v) n) (omega arith) (q v))
 
 pub msrs-field : (w : List ℕ) (v k x n : ℕ) → k < 16 → msrsOf (setField w v k x) 0 n ≡ msrsOf w 0 n
-unfolding setField
-msrs-field w v k x n h =
-    msrs-same w (set w (v * 272 + k) x) 0 n
-    (λ i s l. getD-set-other w (v * 272 + k) (i * 272 + 16 + s / 64) x 0 (λ e. let p = block-same i (16 + s / 64) v k (omega arith) (omega arith) (omega arith) in omega arith))
+msrs-field w v k x n h = msrs-same w (setField w v k x) 0 n (λ i j a b. field-set-other w v k x i j (omega arith) b (λ _ e. omega arith))
 
 -- ---- words that are all 0
 zeros-at : (k i : ℕ) → getD {A = ℕ} (replicate k 0) i 0 ≡ 0
@@ -317,7 +307,12 @@ pub zeros-field : (k i j : ℕ) → field (replicate k 0) i j ≡ 0
 unfolding field
 zeros-field k i j = zeros-at k (i * 272 + j)
 
+zeros-off : (k v : ℕ) (p : Place) → readSwitch (replicate k 0) v p ≡ false
+unfolding switchOn
+zeros-off k v (At place) = rw (zeros-field k v (16 + place / 64)) (on-none (place % 64))
+zeros-off k v None = refl
+
 pub zeros-msrs : (k n : ℕ) → msrsOf (replicate k 0) 0 n ≡ []
-unfolding msrSlotOn msrIn
+unfolding msrBitOn msrIn
 zeros-msrs k n =
-    msr-ext _ [] (msrs-rising (replicate k 0) n) (msrs-numbered (replicate k 0) n) refl refl (λ v m. msrs-look (replicate k 0) n v m ∙ rw (zeros-at, on-none) (and-false (ltb v n && isMsr m)))
+    msr-ext _ [] (msrs-rising (replicate k 0) n) (msrs-numbered (replicate k 0) n) refl refl (λ v m. msrs-look (replicate k 0) n v m ∙ rw (zeros-off k v (msrPlace m)) (and-false (ltb v n)))

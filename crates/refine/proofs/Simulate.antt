@@ -113,7 +113,7 @@ module _ (st : State) (g : WordsGood st) (ok : So (inRange (st .session .setting
 
   meant-12 : P 12 → M (SetMsr (enables 12 d) (vcpuOf d) (registerOf d))
   unfolding namesVcpu
-  meant-12 p = msr-meant st g few guest d (vcpuOf d) (registerOf d) (enables 12 d) (inside 12 refl p) (not-false _ (sound-of s 12 d (p .valid) .msr))
+  meant-12 p = msr-meant st g few guest d (vcpuOf d) (registerOf d) (enables 12 d) (inside 12 refl p)
 
   meant-13 : P 13 → M (SetPages (viewOf d) (countOf d))
   meant-13 p =

@@ -9,7 +9,7 @@ use mathlib.Core.Bool.{Bool, true, false, cond, not, _&&_, So, false≢true}
 use mathlib.Core.Option.{Option, none, some}
 use lib.ListN.{length, take, drop, replicate, length-replicate}
 use lib.Dec.{ltb, leb, eqb}
-use borrow.Author.Tests.{eqb-true, not-false}
+use borrow.Author.Tests.{eqb-true}
 use Rattle.wire.specs.Header.{headerOf}
 use Rattle.wire.specs.declared.Header.{Header}
 use Rattle.wire.specs.declared.Header.the-variants.{Whole, Broken}
@@ -23,7 +23,7 @@ use Rattle.kvmi.specs.Answer.{handled}
 use Rattle.kvmi.specs.Limits.{pageLimit}
 use Rattle.kvmi.specs.Codes.{isError, OK, ENOMEM}
 use Rattle.kvmi.specs.Settings.{inRange}
-use Rattle.kvmi.specs.Tables.{Tables, resting, isMsr, emptyTables, withVcpus, withMsrs, withPages}
+use Rattle.kvmi.specs.Tables.{Tables, resting, emptyTables, withVcpus, withMsrs, withPages}
 use Rattle.kvmi.specs.Model.{Model, fresh, withTables, withAwaited}
 use Rattle.kvmi.specs.Message.{namesVcpu, vcpuOf, enables, registerOf, countOf, viewOf, entriesOf}
 use Rattle.kvmi.specs.Verdict.{changeOf, modeOf, verdict}
@@ -39,7 +39,7 @@ use Rattle.message.specs.Message.{factsIn, codeBy, answeringOf, judgedOf, heade
 use Rattle.entry.specs.Entry.{enterOf}
 use Rattle.session.specs.Meaning.{tablesOf, modelOf, WordsGood, WellFormed}
 use Rattle.refine.specs.Errors.{codeHeaded, codeOf, withPagesOf, ErrorSpares}
-use Rattle.laws.proofs.Verdicts.{pick, Passed, ending, verdict-cases, sound-of}
+use Rattle.laws.proofs.Verdicts.{pick, Passed, ending, verdict-cases}
 use Rattle.laws.proofs.Kept.{empty-valid}
 use Rattle.laws.proofs.Steps.{message-kept, ready-kept, enter-kept}
 use Rattle.refine.proofs.Msrs.{field-block, bit-block, zeros-msrs}
@@ -112,8 +112,7 @@ module _ (st : State) (guest d : List ℕ) (i : ℕ) (other : i ≢ vcpuOf d) wh
       (λ _. pick Apart (eqb id 10) _ _ (λ _. one-field EVENTS _ (omega arith))
       (λ _. pick Apart (eqb id 11) _ _ (λ _. one-field CRS _ (omega arith))
       (λ _. pick Apart (eqb id 12) _ _
-      (λ e. let q = rw (eqb-true id 12 e) at p in
-      bit-block (st .vcpus) (vcpuOf d) (registerOf d) (enables id d) (not-false _ (sound-of (st .session .settings) 12 d (q .valid) .msr)) i other)
+      (λ _. bit-block (st .vcpus) (vcpuOf d) (registerOf d) (enables id d) i other)
       (λ _. pick Apart (eqb id 13) _ _ (λ _. refl)
       (λ _. pick Apart (eqb id 14) _ _ (λ _. one-field SINGLESTEP _ (omega arith))
       (λ _. pick Apart (eqb id 15) _ _ (λ _. refl) (λ _. refl)))))))))

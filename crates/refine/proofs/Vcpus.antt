@@ -5,13 +5,13 @@ use Prim.Native.Nat.{ℕ, zero, suc, _+_, _*_, _≤_, _<_}
 use native.Mathlib.Nat.{add-suc, suc-add, add-zero, zero-add}
 use native.Mathlib.Omega.{arith}
 use mathlib.Core.List.{List, [], _∷_}
-use mathlib.Core.Bool.{Bool, true, false, not, So}
+use mathlib.Core.Bool.{Bool, true, false, not}
 use lib.ListN.{length, getD, set, replicate, length-set, length-replicate, getD-replicate}
 use lib.Seq.{getD-set-same, getD-set-other, ext-getD}
 use lib.Dec.{eqb}
 use borrow.Author.Tests.{eqb-true, eqb-false}
 use Rattle.kvmi.specs.Bits.{bit, isOn, putBit}
-use Rattle.kvmi.specs.Tables.{Vcpu, resting, isMsr, withReady, withSinglestep, withCrs, withEvents, withPauses}
+use Rattle.kvmi.specs.Tables.{Vcpu, resting, withReady, withSinglestep, withCrs, withEvents, withPauses}
 use Rattle.store.specs.Words.{SINGLESTEP, CRS, EVENTS, PAUSES, AWAITED, AWAITED-SEQ, field, setField, setMsrBit}
 use Rattle.store.specs.Meaning.{vcpuOfWords, vcpusOf}
 use Rattle.laws.proofs.Bool.{test}
@@ -116,9 +116,9 @@ pub vcpus-singlestep : (ready : ℕ) (w : List ℕ) (v : ℕ) (on : Bool) (n : �
 vcpus-singlestep ready w v on n l h = rw bit-on at (vcpus-step ready w v (bit on) n l h)
 
 -- ---- an MSR's switch set
-pub vcpus-msr : (ready : ℕ) (w : List ℕ) (v m : ℕ) (on : Bool) (n : ℕ) → So (isMsr m) → vcpusOf ready (setMsrBit w v m on) 0 n ≡ vcpusOf ready w 0 n
-vcpus-msr ready w v m on n h =
-    vcpus-same ready ready w (setMsrBit w v m on) n (λ i. fields-same ready ready w (setMsrBit w v m on) i refl (λ j l. bit-field w v m on h i j (omega arith)))
+pub vcpus-msr : (ready : ℕ) (w : List ℕ) (v m : ℕ) (on : Bool) (n : ℕ) → vcpusOf ready (setMsrBit w v m on) 0 n ≡ vcpusOf ready w 0 n
+vcpus-msr ready w v m on n =
+    vcpus-same ready ready w (setMsrBit w v m on) n (λ i. fields-same ready ready w (setMsrBit w v m on) i refl (λ j l. bit-field w v m on i j (omega arith)))
 
 -- ---- a ready bit set
 pub vcpus-ready : (ready : ℕ) (w : List ℕ) (v : ℕ) (on : Bool) (n : ℕ) → vcpusOf (putBit ready v on) w 0 n ≡ set (vcpusOf ready w 0 n) v (withReady (vcpuOfWords ready w v) on)

@@ -1,7 +1,7 @@
 -- A well-formed session's words: what they mean for any vCPU number, and what keeps them well formed. Assumes nothing.
 use mathlib.Core.Path.{_≡_, refl, sym, ap, _∙_}
 use mathlib.Core.Logic.{_≢_}
-use Prim.Native.Nat.{ℕ, zero, suc, _+_, _-_, _*_, _/_, _^_, _≤_, _<_}
+use Prim.Native.Nat.{ℕ, zero, suc, _+_, _-_, _*_, _/_, _%_, _^_, _≤_, _<_}
 use native.Mathlib.Omega.{arith}
 use mathlib.Core.List.{List, [], _∷_}
 use mathlib.Core.Bool.{Bool, true, false, cond, not, _&&_, So, and-false}
@@ -10,16 +10,19 @@ use lib.ListN.{length, getD, set, List·getD-eq-default}
 use lib.Seq.{getD-set-same, getD-set-other}
 use lib.Dec.{ltb, leb, eqb}
 use borrow.Author.Tests.{ltb-true, ltb-false, leb-true, eqb-true, eqb-false}
+use Rattle.msrs.specs.declared.Place.{Place}
+use Rattle.msrs.specs.declared.Place.the-variants.{At, None}
+use Rattle.msrs.specs.Place.{msrPlace, isMsr}
 use Rattle.kvmi.specs.declared.Settings.{Settings}
 use Rattle.kvmi.specs.declared.EventSwitch.{EventSwitch}
 use Rattle.kvmi.specs.declared.EventSwitch.the-variants.{Unoffered, NoEvent, OfVm, OfVcpu, OfCr, OfMsr}
 use Rattle.kvmi.specs.Bits.{isOn}
 use Rattle.kvmi.specs.Settings.{inRange}
-use Rattle.kvmi.specs.Tables.{Vcpu, resting, vcpuAt, isCr, crBit, isMsr, vmEventOn, eventOn, crOn, msrOn}
+use Rattle.kvmi.specs.Tables.{Vcpu, resting, vcpuAt, isCr, crBit, vmEventOn, eventOn, crOn, msrOn}
 use Rattle.kvmi.specs.Event.{eventRowOf, crNamed, msrNamed, asksFor, isAskedFor}
 use Rattle.kvmi.specs.Model.{Awaited, awaitedBy}
 use Rattle.kvmi.specs.Verdict.{awaitedEvent, awaitedSeq, factsOf}
-use Rattle.store.specs.Words.{field, setField, msrWord, msrSlot, msrSlotOn, msrBitOn, setMsrSlot, setMsrBit, SINGLESTEP, CRS, EVENTS, PAUSES, AWAITED, AWAITED-SEQ, vcpuWordCount}
+use Rattle.store.specs.Words.{field, setField, switchOn, readSwitch, msrBitOn, setMsrBit, SINGLESTEP, CRS, EVENTS, PAUSES, AWAITED, AWAITED-SEQ, vcpuWordCount}
 use Rattle.store.specs.Meaning.{vcpuOfWords, vcpusOf}
 use Rattle.page_words.specs.Meaning.{PagesGood}
 use Rattle.page_words.specs.PageWords.{pageWordCount}
@@ -31,7 +34,7 @@ use Rattle.session.specs.Meaning.{awaitedIn, awaitedOf, tablesOf, modelOf, Word
 use Rattle.laws.proofs.Bool.{and-l, and-r, test}
 use Rattle.laws.proofs.Bits.{on-none}
 use Rattle.laws.proofs.Same.{on-high}
-use Rattle.refine.proofs.Msrs.{field-set, field-set-other, field-length, bit-length, bit-field, slot-below, msrs-look}
+use Rattle.refine.proofs.Msrs.{field-set, field-set-other, field-length, bit-cases, bit-length, bit-field, bit-placed, msrs-look}
 use Rattle.refine.proofs.Vcpus.{vcpus-length, vcpus-at}
 use Rattle.refine.proofs.Awaited.{awaited-length, awaited-at, awaited-none, event-read, seq-read}
 
@@ -150,12 +153,17 @@ module _ (st : State) (g : WordsGood st) where
 
   -- MSR switches: those of a vCPU past the count are off
   pub msr-past : (v msr : ℕ) → n ≤ v → msrBitOn w v msr ≡ false
-  unfolding msrBitOn msrSlotOn msrWord
-  msr-past v msr h = rw (g .past (v * 272 + 16 + msrSlot msr / 64) (omega arith), on-none) (and-false (isMsr msr))
+  unfolding msrBitOn switchOn
+  msr-past v msr h = step (msrPlace msr)
+    where
+      step : (p : Place) → readSwitch w v p ≡ false
+      step (At place) = rw (field-past v (16 + place / 64) h) (on-none (place % 64))
+      step None = refl
 
   pub msr-means : (v msr : ℕ) → msrOn (tablesOf st) v msr ≡ msrBitOn w v msr
-  unfolding msrOn msrBitOn
-  msr-means v msr = msrs-look w n v msr ∙ test (ltb v n) (λ q. rw q) (λ q. rw q (sym (msr-past v msr (ltb-false v n q))))
+  unfolding msrOn
+  msr-means v msr =
+      rw (msrs-look w n v msr) (test (ltb v n) (λ q. rw q (bit-placed w v msr)) (λ q. rw (q, msr-past v msr (ltb-false v n q)) (and-false (isMsr msr))))
 
   -- an offered event is asked for where the model asks for it
   pub asked-means : (v event : ℕ) (own : List ℕ) → isAskedForOf (st .session .tool .events) w v event own ≡ isAskedFor (tablesOf st) v event own
@@ -214,13 +222,13 @@ module _ (st : State) (g : WordsGood st) where
             (λ e. rw (far i SINGLESTEP (omega arith) (λ p q. eqb-false i v e p)) (g .flag i))
 
     -- an MSR's switch
-    pub msr-kept : (m : ℕ) (on : Bool) → So (isMsr m) → WordsGood (withVcpuWords st (setMsrBit w v m on))
-    unfolding setMsrBit setMsrSlot msrWord
-    msr-kept m on h =
-        let same : (i j : ℕ) → j < 16 → field (setMsrBit w v m on) i j ≡ field w i j = λ i j b. bit-field w v m on h i j b in
+    pub msr-kept : (m : ℕ) (on : Bool) → WordsGood (withVcpuWords st (setMsrBit w v m on))
+    unfolding setField
+    msr-kept m on =
+        let same : (i j : ℕ) → j < 16 → field (setMsrBit w v m on) i j ≡ field w i j = λ i j b. bit-field w v m on i j b in
         vcpus-kept (setMsrBit w v m on) (bit-length w v m on ∙ g .vcpuWords) (λ i. rw (same i SINGLESTEP (omega arith)) (g .flag i))
         (λ i e. same i AWAITED-SEQ (omega arith) ∙ g .waits i (sym (same i AWAITED (omega arith)) ∙ e)) (λ i j b c. same i j c ∙ g .spare i j b c)
-        (rw h (past-set (v * 272 + 16 + msrSlot m / 64) _ (omega (arith, slot-below m h))))
+        (bit-cases w v (λ u. (j : ℕ) → n * 272 ≤ j → getD u j 0 ≡ 0) m on (λ k x a b. past-set (v * 272 + k) x (omega arith)) (g .past))
 
     -- the awaited event and its seq together
     pub awaited-kept : (event seq : ℕ) → (event ≡ 0 → seq ≡ 0) → WordsGood (withField (withField st v AWAITED event) v AWAITED-SEQ seq)

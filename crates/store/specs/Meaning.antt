@@ -1,25 +1,19 @@
 -- What the vCPU words mean: the model's lists.
-use Prim.Native.Nat.{ℕ, zero, suc, _+_, _-_, _*_, _/_, _%_}
+use Prim.Native.Nat.{ℕ, zero, suc}
 use mathlib.Core.List.{List, [], _∷_}
 use mathlib.Core.Bool.{cond, not}
-use lib.ListN.{getD}
-use lib.Dec.{ltb, eqb}
+use lib.Dec.{eqb}
+use Rattle.msrs.specs.Place.{msrAt}
 use Rattle.kvmi.specs.Bits.{isOn}
 use Rattle.kvmi.specs.Tables.{Vcpu, Msr}
-use Rattle.store.specs.Words.{field, SINGLESTEP, CRS, EVENTS, PAUSES}
+use Rattle.store.specs.Words.{field, switchOn, SINGLESTEP, CRS, EVENTS, PAUSES}
 
 -- ---- MSR switches
--- the MSR of a place
-unfoldable pub msrAt : ℕ → ℕ
-msrAt slot = cond (ltb slot 8192) slot (slot - 8192 + 0xC0000000)
-
 -- those that are on among n places of a vCPU, from one on, and then the rest
 unfoldable pub switchesOn : List ℕ → ℕ → ℕ → ℕ → List Msr → List Msr
-switchesOn w vcpu slot zero rest = rest
-switchesOn w vcpu slot (suc n) rest =
-    cond (isOn (getD w (vcpu * 272 + 16 + slot / 64) 0) (slot % 64))
-    (record { vcpu = vcpu; msr = msrAt slot } ∷ switchesOn w vcpu (suc slot) n rest)
-    (switchesOn w vcpu (suc slot) n rest)
+switchesOn w vcpu place zero rest = rest
+switchesOn w vcpu place (suc n) rest =
+    cond (switchOn w vcpu place) (record { vcpu = vcpu; msr = msrAt place } ∷ switchesOn w vcpu (suc place) n rest) (switchesOn w vcpu (suc place) n rest)
 
 -- those of n vCPUs, from one on
 unfoldable pub msrsOf : List ℕ → ℕ → ℕ → List Msr

@@ -2,11 +2,14 @@
 -- store there changes nothing.
 use Prim.Native.Nat.{ℕ, _+_, _*_, _/_, _%_, _^_}
 use mathlib.Core.List.{List}
-use mathlib.Core.Bool.{Bool, cond, _&&_}
+use mathlib.Core.Bool.{Bool, false, cond}
 use lib.ListN.{length, getD, set, replicate}
 use lib.Dec.{ltb}
+use Rattle.msrs.specs.declared.Place.{Place}
+use Rattle.msrs.specs.declared.Place.the-variants.{At, None}
+use Rattle.msrs.specs.Place.{msrPlace}
 use Rattle.kvmi.specs.Bits.{isOn, putBit}
-use Rattle.kvmi.specs.Tables.{crBit, isMsr}
+use Rattle.kvmi.specs.Tables.{crBit}
 use Rattle.store.specs.declared.words.Pending.{Pending}
 
 -- how many words a vCPU has
@@ -53,29 +56,6 @@ pending w vcpu = record { pauses = field w vcpu PAUSES; awaited = field w vcpu A
 unfoldable pub setField : List ℕ → ℕ → ℕ → ℕ → List ℕ
 setField w vcpu k x = set w (vcpu * blockWords + k) x
 
--- the place of an MSR's switch among the 16,384 of a vCPU: 0..0x1FFF first, then 0xC0000000..0xC0001FFF
-unfoldable pub msrSlot : ℕ → ℕ
-msrSlot msr = msr / 0xC0000000 * 8192 + msr % 8192
-
--- the place of the word with an MSR's switch
-unfoldable pub msrWord : ℕ → ℕ → ℕ
-msrWord vcpu msr = vcpu * blockWords + MSRS + msrSlot msr / 64
-
--- the bit in an MSR's place, and that bit as given
-unfoldable pub msrSlotOn : List ℕ → ℕ → ℕ → Bool
-msrSlotOn w vcpu msr = isOn (getD w (msrWord vcpu msr) 0) (msrSlot msr % 64)
-
-unfoldable pub setMsrSlot : List ℕ → ℕ → ℕ → Bool → List ℕ
-setMsrSlot w vcpu msr on = set w (msrWord vcpu msr) (putBit (getD w (msrWord vcpu msr) 0) (msrSlot msr % 64) on)
-
--- whether a vCPU's switch for an MSR is on; a number outside message 12's ranges has none
-unfoldable pub msrBitOn : List ℕ → ℕ → ℕ → Bool
-msrBitOn w vcpu msr = isMsr msr && msrSlotOn w vcpu msr
-
--- a vCPU's switch for an MSR as given, where there is one
-unfoldable pub setMsrBit : List ℕ → ℕ → ℕ → Bool → List ℕ
-setMsrBit w vcpu msr on = cond (isMsr msr) (setMsrSlot w vcpu msr on) w
-
 -- bit k of a 64-bit word as given; there is none past 63
 unfoldable pub putBit64 : ℕ → ℕ → Bool → ℕ
 putBit64 w k on = cond (ltb k 64) (putBit w k on) w
@@ -96,6 +76,27 @@ switchedCr w vcpu cr on = setField w vcpu CRS (putBit (field w vcpu CRS) (crBit 
 -- no reply awaited any more
 unfoldable pub endedWait : List ℕ → ℕ → List ℕ
 endedWait w vcpu = setField (setField w vcpu AWAITED 0) vcpu AWAITED-SEQ 0
+
+-- ---- MSR switches
+-- the switch of a place
+unfoldable pub switchOn : List ℕ → ℕ → ℕ → Bool
+switchOn w vcpu place = isOn (field w vcpu (MSRS + place / 64)) (place % 64)
+
+-- of a place, or of none: then it is off, and setting it changes nothing
+abbrev pub readSwitch : List ℕ → ℕ → Place → Bool
+readSwitch w vcpu (At place) = switchOn w vcpu place
+readSwitch w vcpu None = false
+
+abbrev pub setSwitch : List ℕ → ℕ → Place → Bool → List ℕ
+setSwitch w vcpu (At place) on = switchedField w vcpu (MSRS + place / 64) (place % 64) on
+setSwitch w vcpu None on = w
+
+-- a vCPU's switch for an MSR
+unfoldable pub msrBitOn : List ℕ → ℕ → ℕ → Bool
+msrBitOn w vcpu msr = readSwitch w vcpu (msrPlace msr)
+
+unfoldable pub setMsrBit : List ℕ → ℕ → ℕ → Bool → List ℕ
+setMsrBit w vcpu msr on = setSwitch w vcpu (msrPlace msr) on
 
 -- ---- all words 0
 unfoldable pub cleared : List ℕ → List ℕ

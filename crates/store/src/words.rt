@@ -1,10 +1,10 @@
 // The vCPU words: a block for each vCPU, plain fields first and then a bit for each MSR switch.
 use crate::bits::put_bit;
 use crate::bits::put_cr;
+use msrs::Place;
 ghost use mathlib.Core.Path.{_≡_};
 ghost use lib.ListN.{getD, set};
-ghost use Rattle.kvmi.specs.Tables.{isMsr};
-ghost use Rattle.store.specs.Words.{field, setField, pending, msrSlot, msrWord, msrSlotOn, setMsrSlot, msrBitOn, setMsrBit, queuedPause, switchedField, switchedCr, endedWait, cleared};
+ghost use Rattle.store.specs.Words.{field, setField, pending, msrBitOn, setMsrBit, queuedPause, switchedField, switchedCr, endedWait, cleared};
 
 // How many words a vCPU has.
 pub const BLOCK_WORDS: usize = 272;
@@ -92,62 +92,30 @@ pub fn write_field(words: &mut [u64], vcpu: u16, k: usize, x: u64)
     }
 }
 
-// The place of an MSR's switch among those of a vCPU.
-fn msr_slot(msr: u32) -> u32
-    ensures { λ r. ⌜ r ≡ msrSlot msr ⌝ }
-{
-    msr / 0xC0000000 * 8192 + msr % 8192
-}
-
-// The place of the word with an MSR's switch.
-fn msr_word(vcpu: u16, msr: u32) -> usize
-    ensures { λ r. ⌜ r ≡ msrWord vcpu msr ⌝ }
-{
-    let slot = msr_slot(msr);
-    (vcpu as usize) * BLOCK_WORDS + MSRS + (slot as usize) / 64
-}
-
-// Whether a number is an MSR that has a switch: one of message 12's ranges.
-pub fn is_msr(msr: u32) -> bool
-    ensures { λ r. ⌜ r ≡ isMsr msr ⌝ }
-{
-    (msr <= 0x1FFF) | (0xC0000000 <= msr) & (msr <= 0xC0001FFF)
-}
-
-// The bit in an MSR's place.
-fn slot_on(words: &[u64], vcpu: u16, msr: u32) -> bool
-    ensures { λ r. ⌜ r ≡ msrSlotOn (now (words .entry)) vcpu msr ⌝ }
-{
-    let w = word(words, msr_word(vcpu, msr));
-    kvmi::bits::is_on(w, msr_slot(msr) % 64)
-}
-
-// Whether a vCPU's switch for an MSR is on; what has none is off.
+// Whether a vCPU's switch for an MSR is on; one of no place is off.
 pub fn read_msr(words: &[u64], vcpu: u16, msr: u32) -> bool
     ensures { λ r. ⌜ r ≡ msrBitOn (now (words .entry)) vcpu msr ⌝ }
 {
-    if !is_msr(msr) {
-        return false;
+    match msrs::msr_place(msr) {
+        Place::At(place) => {
+            let k = MSRS + (place as usize) / 64;
+            kvmi::bits::is_on(read_field(words, vcpu, k), (place as u32) % 64)
+        }
+        Place::None => false,
     }
-    slot_on(words, vcpu, msr)
 }
 
-// A vCPU's switch for an MSR set; what has none stays as it is.
+// A vCPU's switch for an MSR set; one of no place stays as it is.
 pub fn write_msr(words: &mut [u64], vcpu: u16, msr: u32, on: bool)
     ensures { λ _. ⌜ now (words .exit) ≡ setMsrBit (now (words .entry)) vcpu msr on ⌝ }
 {
-    if is_msr(msr) {
-        set_slot(words, vcpu, msr, on);
+    match msrs::msr_place(msr) {
+        Place::At(place) => {
+            let k = MSRS + (place as usize) / 64;
+            switch_field(words, vcpu, k, (place as u32) % 64, on);
+        }
+        Place::None => {}
     }
-}
-
-// The bit in an MSR's place set.
-fn set_slot(words: &mut [u64], vcpu: u16, msr: u32, on: bool)
-    ensures { λ _. ⌜ now (words .exit) ≡ setMsrSlot (now (words .entry)) vcpu msr on ⌝ }
-{
-    let at = msr_word(vcpu, msr);
-    let w = put_bit(word(words, at), msr_slot(msr) % 64, on);
-    set_word(words, at, w);
 }
 
 // One pause more in a vCPU's queue.

@@ -88,7 +88,7 @@ pub fn control_msr(settings: Settings, facts: Facts, d: &[u8]) -> Verdict
     let enable = wire::byte(d, 8);
     let msr = wire::load32(d, 12);
     let malformed = tests::is_malformed(padding::of_register(d), settings.vcpus, vcpu, enable);
-    let c = Causes::new(malformed | !store::words::is_msr(msr), !facts.ready);
+    let c = Causes::new(malformed | !msrs::is_msr(msr), !facts.ready);
     c.decide(Change::SetMsr {
         vcpu,
         msr,

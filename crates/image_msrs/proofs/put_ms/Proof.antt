@@ -2,7 +2,7 @@
 use mathlib.Core.Path.{_∙_}
 use Rattle.kvmi.specs.Record.{MS}
 use Rattle.laws.proofs.Record.{length-write}
-use Rattle.image_msrs.specs.Switches.{msrOfPlace}
+use Rattle.image_msrs.specs.Switches.{msrOfSwitch}
 use Rattle.image_msrs.proofs.Stores.{part-written}
 use borrow.Author.Needs.{needs}
 use Rattle.image_msrs.proofs.put_ms.Statement.{statement}
@@ -10,6 +10,9 @@ use Rattle.image_msrs.proofs.put_ms.Tie as tie
 
 add-end : tie.Need-add-end
 add-end c = search needs
+
+cast-msr-at : tie.Need-cast-msr-at
+cast-msr-at c = search needs
 
 msr-at-requires : tie.Need-msr-at-requires
 msr-at-requires c κs = search needs
@@ -33,7 +36,7 @@ same-length : tie.Need-same-length
 same-length c = search needs
 
 returns : tie.Need-returns
-unfolding msrOfPlace
+unfolding msrOfSwitch
 returns c = part-written _ _ 8 _ _ (c .before .before .ms .ensures ∙ rw (c .before .before .before .before .msr-at .ensures)) (length-write MS _) (c .before .before .before .before .before .before .pre .0)
 
 pub put-ms-spec : {M : Type 1} → statement M
@@ -41,6 +44,7 @@ put-ms-spec =
     tie.close
     (tie.spec
     add-end
+    cast-msr-at
     msr-at-requires
     sub-ms
     part-ms-start
