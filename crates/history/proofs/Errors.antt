@@ -29,7 +29,7 @@ use Rattle.kvmi.specs.declared.Verdict.{Verdict}
 use Rattle.kvmi.specs.declared.Verdict.the-variants.{Closes, Fails, Does}
 use Rattle.kvmi.specs.Limits.{pageLimit, leastOut}
 use Rattle.kvmi.specs.Event.{eventRowOf}
-use Rattle.kvmi.specs.Codes.{isError, EPERM, ENOMEM, ENOSYS, OK}
+use Rattle.kvmi.specs.Codes.{isError, EPERM, EINVAL, ENOMEM, ENOSYS, OK}
 use Rattle.kvmi.specs.Settings.{allowsCommand, allowsEvent}
 use Rattle.kvmi.specs.Mode.{modeOfNumber}
 use Rattle.kvmi.specs.Message.{layoutOf, sizeFits, carriesData, vcpuOf, gpaOf, sizeOf, firstPadding, repliedEvent, entriesOf}
@@ -43,7 +43,8 @@ use Rattle.change.specs.Change.{change}
 use Rattle.message.specs.Message.{factsIn, codeBy, answeringOf, judgedOf, headedOf, messageOf}
 use Rattle.stream.specs.declared.Code.the-variants.{Written}
 use Rattle.stream.specs.Line.{errorOf}
-use Rattle.refine.specs.Errors.{codeHeaded, codeOf}
+use Rattle.refine.specs.Errors.{codeHeaded, codeOf, Spared, ErrorSpares}
+use Rattle.refine.proofs.Theorems.{error-spares}
 use Rattle.history.specs.Demand2.{WritesError}
 use Rattle.laws.proofs.Bool.{and-r}
 use Rattle.laws.proofs.Verdicts.{pick, Admitted, ending, verdict-cases}
@@ -196,3 +197,15 @@ code-written st msg out guest = by-refusal (isClosed st) (ltb (length out) least
     by-refusal true short h ne = absurd (ne refl)
     by-refusal false true h ne = absurd (ne refl)
     by-refusal false false h ne = by-header (h refl) (headerOf msg) ne
+
+-- -22, which is not -12, leaves everything as it was but for the next event's seq
+pub invalid-spares : (st : State) (msg out guest : List ℕ) → codeOf st msg out guest ≡ EINVAL → Spared st guest (messageOf st msg out guest)
+invalid-spares st msg out guest e = by (error-spares st msg out guest (rw e))
+  where
+    below : ℤ → ℕ
+    below (pos n) = 0
+    below (negsuc n) = n
+
+    by : ErrorSpares st msg guest (codeOf st msg out guest) (messageOf st msg out guest) → Spared st guest (messageOf st msg out guest)
+    by (inl w) = w
+    by (inr (_, twelve, _)) = let no = ap below (sym e ∙ twelve) in absurd (omega arith)

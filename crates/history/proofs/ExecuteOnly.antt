@@ -1,11 +1,10 @@
 -- Execute-only pages: what a session without them holds and refuses. Assumes nothing.
 use mathlib.Core.Path.{_≡_, refl, sym, ap, _∙_, subst}
-use mathlib.Core.Logic.{_≢_, _⊎_, inl, inr}
+use mathlib.Core.Logic.{_≢_}
 use Prim.Native.Nat.{ℕ, zero, suc, _+_, _*_, _≤_, _<_}
 use native.Mathlib.Omega.{arith}
 use mathlib.Core.List.{List, [], _∷_}
 use mathlib.Core.Bool.{Bool, true, false, cond, not, _&&_, _||_, So, and-true, and-false, or-true, true≢false}
-use lib.IntN.{ℤ, pos, negsuc}
 use lib.ListN.{length, getD, take, drop}
 use lib.Seq.{getD-take, getD-drop}
 use lib.Dec.{leb, ltb, eqb}
@@ -17,7 +16,7 @@ use Rattle.kvmi.specs.declared.Facts.{Facts}
 use Rattle.kvmi.specs.declared.Verdict.the-variants.{Fails}
 use Rattle.kvmi.specs.Bits.{every}
 use Rattle.kvmi.specs.Limits.{leastOut}
-use Rattle.kvmi.specs.Codes.{EINVAL, ENOMEM}
+use Rattle.kvmi.specs.Codes.{EINVAL}
 use Rattle.kvmi.specs.Settings.{allowsCommand, hasExecuteOnly}
 use Rattle.kvmi.specs.Tables.{Page, Tables, access, accessIn}
 use Rattle.kvmi.specs.Model.{Model}
@@ -29,16 +28,16 @@ use Rattle.kvmi.specs.Record.{PA, widths, paAccess, Rec, whole}
 use Rattle.kvmi.specs.Valid.{paGood}
 use Rattle.kvmi.specs.Call.{Call, message, after}
 use Rattle.session.specs.State.{State}
-use Rattle.message.specs.Message.{factsIn, messageOf}
+use Rattle.message.specs.Message.{factsIn}
 use Rattle.lookup.specs.Lookup.{lookAccess, lookPage, noPage}
-use Rattle.refine.specs.Errors.{codeOf, Spared, ErrorSpares}
-use Rattle.refine.proofs.Theorems.{error-spares}
+use Rattle.refine.specs.Errors.{codeOf, Spared}
 use Rattle.laws.proofs.Bool.{and-r, test, every-head, every-tail, every-imp, every-getD, clash}
 use Rattle.laws.proofs.Verdicts.{sound-of}
 use Rattle.history.specs.History.{stepOf, afterOf, BeganOn}
 use Rattle.history.specs.Demand1.{Open}
 use Rattle.history.specs.ExecuteOnly.{AsksFour, ExecuteOnly}
 use Rattle.history.proofs.Lists.{after-stands, began-stands, stands-valid}
+use Rattle.history.proofs.Errors.{invalid-spares}
 use Rattle.history.proofs.Lookups.{lookups}
 
 -- ---- what the flag decides
@@ -121,11 +120,6 @@ four-fails : (s : Settings) (f : Facts) (seq : ℕ) (d : List ℕ) → So (allow
 unfolding verdict commandVerdict layoutOf sizeFits
 four-fails s f seq d allowed long bad = rw (allowed, and-false (not (repliesOn (f .mode))), le-leb 8 (length d) long, bad)
 
--- -22 is not -12
-abbrev below : ℤ → ℕ
-below (pos n) = 0
-below (negsuc n) = n
-
 module _ (st : State) (off : hasExecuteOnly (st .session .settings) ≡ false) (msg out guest : List ℕ) (opened : Open st) (asks : AsksFour (st .session .settings) msg out) where
   code-is : codeOf st msg out guest ≡ EINVAL
   code-is =
@@ -133,13 +127,6 @@ module _ (st : State) (off : hasExecuteOnly (st .session .settings) ≡ false) (
       let (i, counted, four) = asks .entry in
       let fails = four-fails (st .session .settings) (factsIn st (length guest) (vcpuOf (drop 8 msg))) seq (drop 8 msg) (asks .allowed) (asks .long) (four-invalid (st .session .settings) (drop 8 msg) i off counted four) in
       rw (opened, le-ltb (length out) leastOut (asks .room), read, fails)
-
-  spares : Spared st guest (messageOf st msg out guest)
-  spares = by (error-spares st msg out guest (rw code-is))
-    where
-      by : ErrorSpares st msg guest (codeOf st msg out guest) (messageOf st msg out guest) → Spared st guest (messageOf st msg out guest)
-      by (inl w) = w
-      by (inr (_, twelve, _)) = let no = ap below (sym code-is ∙ twelve) in absurd (omega arith)
 
 four-spares : (s : Settings) (st : State) (m : Model) → BeganOn s st m → hasExecuteOnly s ≡ false → (cs : List Call) (msg out guest : List ℕ)
     → Open (afterOf st cs) → AsksFour s msg out
@@ -149,7 +136,8 @@ four-spares s st m began off cs msg out guest opened asks =
     let same = sym (after-stands s st m cs (began-stands s st m began) .settings) in
     let lacks = subst (λ (x : Settings). hasExecuteOnly x ≡ false) same off in
     let own = subst (λ (x : Settings). AsksFour x msg out) same asks in
-    (code-is (afterOf st cs) lacks msg out guest opened own, spares (afterOf st cs) lacks msg out guest opened own)
+    let code = code-is (afterOf st cs) lacks msg out guest opened own in
+    (code, invalid-spares (afterOf st cs) msg out guest code)
 
 pub execute-only : ExecuteOnly
 execute-only =

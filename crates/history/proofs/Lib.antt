@@ -14,6 +14,7 @@ pub mod Lookups
 pub mod Pauses
 pub mod Events
 pub mod ExecuteOnly
+pub mod Msrs
 pub mod Singly
 pub mod BatchAnswers
 pub mod BatchUnsteered

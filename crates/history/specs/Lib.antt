@@ -8,4 +8,5 @@ pub mod Carried
 pub mod Pauses
 pub mod Events
 pub mod ExecuteOnly
+pub mod Msrs
 pub mod Batches
