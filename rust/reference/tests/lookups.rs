@@ -23,7 +23,7 @@ fn what_stands() {
     ] {
         bench.ok(&message);
     }
-    let check = |session: &Session| {
+    let check_with = |session: &Session, msrs: &[u32]| {
         assert_eq!(*session.settings(), given);
         for vcpu in [0, 1, 2, 3, 15, 16, 0x1_0002, u32::MAX] {
             assert_eq!(session.is_ready(vcpu), vcpu < 3);
@@ -35,8 +35,8 @@ fn what_stands() {
             for cr in (0..9).chain([0x100, 0x103, u32::MAX]) {
                 assert_eq!(session.cr(vcpu, cr), vcpu == 2 && cr == 3);
             }
-            for msr in [0, 0x1FFE, 0x1FFF, 0x2000, 0x3FFF, 0xC000_0000, 0xC000_1FFF, 0xC000_2000, u32::MAX] {
-                assert_eq!(session.msr(vcpu, msr), vcpu == 2 && msr == 0x1FFF);
+            for msr in [0, 0x1FFE, 0x1FFF, 0x2000, 0x3FFF, 0xBFFF_FFFF, 0xC000_0000, 0xC000_1FFF, 0xC000_2000, u32::MAX] {
+                assert_eq!(session.msr(vcpu, msr), vcpu == 2 && msrs.contains(&msr));
             }
         }
         let last = (1 << 52) - 1;
@@ -54,9 +54,36 @@ fn what_stands() {
             assert_eq!(session.access(view, page), 7);
         }
     };
+    let check = |session: &Session| check_with(session, &[0x1FFF]);
     check(&bench.session);
     assert_eq!([0, 1, 2, 3].map(|vcpu| bench.session.pauses(vcpu)), [0, 0, 2, 0]);
     check(&Session::read_image(given.clone(), &bench.image()).unwrap());
+
+    // "MSR outside 0..0x1FFF and 0xC0000000..0xC0001FFF": the four ends have
+    // a switch each, the numbers beside them none. Each end has its turn to be
+    // the first on and the first off.
+    let mut copy = bench.clone();
+    copy.ok(&control_msr(2, 0x1FFF, 0));
+    check_with(&copy.session, &[]);
+    let mut ends = [0, 0x1FFF, 0xC000_0000, 0xC000_1FFF];
+    for _ in ends {
+        for (i, end) in ends.into_iter().enumerate() {
+            copy.ok(&control_msr(2, end, 1));
+            check_with(&copy.session, &ends[..=i]);
+        }
+        for beside in [0x2000, 0xBFFF_FFFF, 0xC000_2000, 0xFFFF_FFFF] {
+            for enable in [0, 1] {
+                assert_eq!(copy.error(&control_msr(2, beside, enable)), EINVAL);
+                check_with(&copy.session, &ends);
+            }
+        }
+        check_with(&Session::read_image(given.clone(), &copy.image()).unwrap(), &ends);
+        for (i, end) in ends.into_iter().enumerate() {
+            copy.ok(&control_msr(2, end, 0));
+            check_with(&copy.session, &ends[i + 1..]);
+        }
+        ends.rotate_left(1);
+    }
 
     assert_eq!(bench.enter(2, &[0; 536]).0, handled(552));
     assert_eq!([0, 1, 2, 3, 16, u32::MAX].map(|vcpu| bench.session.awaited(vcpu)), [None, None, Some(2), None, None, None]);
