@@ -202,7 +202,8 @@ lookupsSeen =
     ∷ true ∷ false ∷ true ∷ false ∷ true ∷ false ∷ false
     ∷ true ∷ false ∷ false ∷ true ∷ []
 
--- records of the MSRs at the ends of the ranges and beside them, the last ones of which no session has: what is read there, and what setting each leaves
+-- records of the MSRs at the ends of the ranges, and of those beside them and the last of all, which no session has: what is read there, and how many
+-- records setting each leaves
 abbrev pub edgeMsrs : List ℕ
 edgeMsrs = 0 ∷ 0x1FFF ∷ 0xC0000000 ∷ 0xC0001FFF ∷ 0x2000 ∷ 0xBFFFFFFF ∷ 0xC0002000 ∷ 0xFFFFFFFF ∷ []
 

@@ -167,11 +167,11 @@ abbrev pub ending : Tables → ℕ → List Rec → Loaded
 ending t off [] = loaded t
 ending t off (r ∷ rs) = badForm off
 
--- a record's whole form: its order, not before lo, and its own
+-- a record's whole form: its place in the order, not before lo, and its own
 abbrev pub fitsIn : (k : Kind) → ℕ → ℕ → Tables → Row (widths k) → Bool
 fitsIn k n lo t f = leb lo (orderOf k f) && isNext k n t f && formOf k n t f
 
--- the records behind VM in an image of n vCPUs: off bytes and the tables t come before them, lo is the least order that may follow.
+-- the records behind VM in an image of n vCPUs: off bytes and the tables t come before them, lo is the least place that may follow.
 -- "Form fails at the start of the first record that breaks a rule or is cut (the length, if EN is missing [..])."
 abbrev pub loadRest : Settings → ℕ → ℕ → ℕ → Tables → List Rec → Loaded
 loadRest s n off lo t [] = badForm off

@@ -99,11 +99,11 @@ pub data Rec : Type 0 where
   whole : (k : Kind) → Row (widths k) → Rec
   cut : List ℕ → Rec
 
--- where a record comes in an image: kind, then vCPU or view (a u16, below 2^16), then MSR or page (a u32 or a u64, below 2^64)
+-- the place of a record in the image's order: kind, then vCPU or view (a u16, below 2^16), then MSR or page (a u32 or a u64, below 2^64)
 abbrev pub orderAt : ℕ → ℕ → ℕ → ℕ
 orderAt kind major minor = kind * 2 ^ 80 + (major * 2 ^ 64 + minor)
 
--- a record's order
+-- a record's place
 abbrev pub orderOf : (k : Kind) → Row (widths k) → ℕ
 orderOf VM f = orderAt 0 0 0
 orderOf VC f = orderAt 1 (vcVcpu f) 0

@@ -103,7 +103,7 @@ entry-sets s t limit view e skips v n a h k =
     (λ _. by-place view (e .page) v n (accessIn (put pageKey p ps)) (accessIn ps) (e .access) (access-put p ps)
     (λ d. access-put-other v n p ps d (lt-ltb (e .page) (2 ^ 64) h) (paged-all s t a))))
 
--- message 12 sets that MSR's switch of that vCPU and no other; one of no place is no switch
+-- message 12 sets that MSR's switch of that vCPU and no other; an MSR of no place has none
 pub msr-sets : (s : Settings) (t : Tables) (m : Msr) (on : Bool) (v n : ℕ) → Valid s t
     → msrIn (setMsr m on (t .msrs)) v n ≡ cond (isMsr (m .msr) && (eqb (m .vcpu) v && eqb (m .msr) n)) on (msrIn (t .msrs) v n)
 unfolding setMsr

@@ -61,7 +61,7 @@ placed m place =
     cases (λ p. p ≡ At place → (m / 0xC0000000 < 2) × (m % 0xC0000000 < 8192) × (place ≡ 8192 * (m / 0xC0000000) + m % 0xC0000000)) m
     (λ a b e. (a, b, ap numberOf (sym e))) (λ _ e. absurd (none≢at e))
 
--- the place as it was reckoned when the two ranges were told apart by their numbers
+-- the place as it was reckoned before, by the remainder by 8,192
 pub place-was : (m place : ℕ) → msrPlace m ≡ At place → place ≡ m / 0xC0000000 * 8192 + m % 8192
 place-was m place e = let a = placed m place e in omega arith
 

@@ -5,7 +5,8 @@ use lib.Dec.{ltb}
 use Rattle.msrs.specs.declared.Place.{Place}
 use Rattle.msrs.specs.declared.Place.the-variants.{At, None}
 
--- the place of an MSR's switch among the 16,384 of a vCPU, or none: the two ranges are 8,192 MSRs each, from 0 and from 0xC0000000 on
+-- the place of an MSR's switch among the 16,384 of a vCPU, or none: the two ranges are 8,192 MSRs each, from 0 and from 0xC0000000 on. (A number of 32 bits
+-- is below twice 0xC0000000, so that the code need not ask.)
 unfoldable pub msrPlace : ℕ → Place
 msrPlace msr = cond (ltb (msr / 0xC0000000) 2 && ltb (msr % 0xC0000000) 8192) (At (8192 * (msr / 0xC0000000) + msr % 0xC0000000)) None
 

@@ -1,4 +1,4 @@
-// Which MSRs can be switched, and where each switch stands: the one crate that knows the two ranges.
+// Which MSRs can be switched, and where each switch stands: the one crate whose code knows the two ranges.
 ghost use mathlib.Core.Path.{_≡_};
 ghost use Rattle.msrs.specs.Place.{msrPlace, isMsr, msrAt};
 
@@ -16,7 +16,7 @@ pub enum Place {
     None,
 }
 
-// The place of an MSR's switch.
+// The place of an MSR's switch. A u32 is below twice SECOND, so that `range` is 0 or 1.
 pub fn msr_place(msr: u32) -> Place
     ensures { λ r. ⌜ r ≡ msrPlace msr ⌝ }
 {
