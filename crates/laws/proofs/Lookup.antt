@@ -1,17 +1,20 @@
 -- What is found in a table of pages or of MSR switches after an entry is put or forgotten. Assumes nothing.
 use mathlib.Core.Path.{_≡_, refl, sym, ap, ap₂, _∙_}
-use Prim.Native.Nat.{ℕ, suc, _+_, _*_, _^_, _<_}
+use Prim.Native.Nat.{ℕ, suc, _+_, _*_, _^_, _<_, zero-le}
 use native.Mathlib.Nat.{le-refl}
 use native.Mathlib.Omega.{arith}
 use mathlib.Core.List.{List, [], _∷_}
 use mathlib.Core.Bool.{Bool, true, false, cond, not, _&&_, _||_, So}
 use lib.Dec.{eqb, ltb}
-use borrow.Author.Tests.{eqb-true, eq-eqb, ltb-true}
+use borrow.Author.Tests.{eqb-true, eq-eqb, ltb-true, lt-ltb}
+use Rattle.msrs.specs.Place.{isMsr}
+use Rattle.msrs.proofs.Ranges.{small as msr-small}
 use Rattle.kvmi.specs.Bits.{every}
 use Rattle.kvmi.specs.Ascending.{rising, has, put, forget}
 use Rattle.kvmi.specs.Tables.{Msr, Page, msrKey, pageKey, msrIn, accessIn}
+use Rattle.kvmi.specs.Change.{setMsr}
 use Rattle.laws.proofs.Bool.{and-l, and-r, and-i, test, clash, every-head, every-tail}
-use Rattle.laws.proofs.Ascending.{Side, below, level, over, side, put-cases, forget-cases, has-cases, rising-low, rising-rest, rising-cons, forget-none}
+use Rattle.laws.proofs.Ascending.{Side, below, level, over, side, put-cases, forget-cases, has-cases, rising-low, rising-rest, rising-cons, forget-none, rising-put, rising-forget, every-put, every-forget}
 
 -- an entry's two numbers and its value; the value where there is no entry, and how it is told from the others
 pub record Fields (A B : Type 0) : Type 0 where
@@ -257,3 +260,40 @@ has-msr v n ms g s h = rw msr-look (has-look msrFields 0 v n ms g s (every-msr m
 pub msr-ext : (ms ns : List Msr) → So (rising msrKey 0 ms) → So (every numbered ms) → So (rising msrKey 0 ns) → So (every numbered ns)
     → ((v n : ℕ) → msrIn ms v n ≡ msrIn ns v n) → ms ≡ ns
 msr-ext ms ns g s h r q = look-ext msrFields 0 ms ns g s (every-msr ms) h r (every-msr ns) (λ v n. sym (msr-look _ _ _) ∙ q v n ∙ msr-look _ _ _)
+
+-- what is found at a place and nowhere else
+pub by-place : {B : Type 0} (u m v n : ℕ) (now was : ℕ → ℕ → B) (new : B) → now u m ≡ new → ((u ≡ v → m ≡ n → ⊥) → now v n ≡ was v n)
+    → now v n ≡ cond (eqb u v && eqb m n) new (was v n)
+by-place u m v n now was new here other =
+    test (eqb u v && eqb m n)
+    (λ q. rw (q, ← eqb-true u v (and-l (eqb u v) (eqb m n) q), ← eqb-true m n (and-r (eqb u v) (eqb m n) q)) here)
+    (λ q. rw q (other (λ i j. clash (and-i (eqb u v) (eqb m n) (eq-eqb u v i) (eq-eqb m n j)) q)))
+
+-- ---- an MSR's switch set
+module _ (m : Msr) (ms : List Msr) where
+  set-cases : (P : List Msr → Type 0) (on : Bool) → (So (isMsr (m .msr)) → P (cond on (put msrKey m ms) (forget msrKey (msrKey m) ms))) → (isMsr (m .msr) ≡ false → P ms)
+      → P (setMsr m on ms)
+  unfolding setMsr
+  set-cases P on f g = test (isMsr (m .msr)) (λ h. rw h (f h)) (λ h. rw h (g h))
+
+  pub set-rising : (on : Bool) → So (rising msrKey 0 ms) → So (rising msrKey 0 (setMsr m on ms))
+  set-rising true g = set-cases (λ l. So (rising msrKey 0 l)) true (λ _. rising-put msrKey 0 m ms zero-le g) (λ _. g)
+  set-rising false g = set-cases (λ l. So (rising msrKey 0 l)) false (λ _. rising-forget msrKey 0 (msrKey m) ms g) (λ _. g)
+
+  pub set-every : (f : Msr → Bool) (on : Bool) → (So (isMsr (m .msr)) → So (f m)) → So (every f ms) → So (every f (setMsr m on ms))
+  set-every f true q g = set-cases (λ l. So (every f l)) true (λ h. every-put msrKey f m ms (q h) g) (λ _. g)
+  set-every f false q g = set-cases (λ l. So (every f l)) false (λ _. every-forget msrKey f (msrKey m) ms g) (λ _. g)
+
+  pub set-looks : (on : Bool) → So (rising msrKey 0 ms) → So (every numbered ms) → (v n : ℕ)
+      → msrIn (setMsr m on ms) v n ≡ cond (isMsr (m .msr) && (eqb (m .vcpu) v && eqb (m .msr) n)) on (msrIn ms v n)
+  set-looks on up g v n =
+      set-cases (λ l. msrIn l v n ≡ cond (isMsr (m .msr) && (eqb (m .vcpu) v && eqb (m .msr) n)) on (msrIn ms v n)) on
+      (λ h. rw h (by-place (m .vcpu) (m .msr) v n (msrIn (cond on (put msrKey m ms) (forget msrKey (msrKey m) ms))) (msrIn ms) on (here on) (other on (omega (arith, msr-small (m .msr) h))))) (λ h. rw h)
+    where
+      here : (to : Bool) → msrIn (cond to (put msrKey m ms) (forget msrKey (msrKey m) ms)) (m .vcpu) (m .msr) ≡ to
+      here true = msr-put m ms
+      here false = msr-forget (m .vcpu) (m .msr) ms up
+
+      other : (to : Bool) → m .msr < 2 ^ 64 → (m .vcpu ≡ v → m .msr ≡ n → ⊥) → msrIn (cond to (put msrKey m ms) (forget msrKey (msrKey m) ms)) v n ≡ msrIn ms v n
+      other true h d = msr-put-other v n m ms d (lt-ltb (m .msr) (2 ^ 64) h) g
+      other false h d = msr-forget-other v n (m .vcpu) (m .msr) ms d h g

@@ -22,20 +22,21 @@ use Rattle.kvmi.specs.declared.Verdict.{Verdict}
 use Rattle.kvmi.specs.declared.Verdict.the-variants.{Closes, Fails, Does}
 use Rattle.kvmi.specs.Bits.{every, among, putBit, bitsHave}
 use Rattle.kvmi.specs.Settings.{inRange, allowsEvent, canSinglestep, uncatchable, heldByHost}
-use Rattle.kvmi.specs.Ascending.{rising, has, put, forget}
-use Rattle.kvmi.specs.Tables.{Vcpu, Msr, Page, Tables, msrKey, pageKey, resting, vcpuAt, setVcpu, withVmEvents, withMsrs, withPages, withReady, withPauses, withEvents, withCrs, withSinglestep}
+use Rattle.kvmi.specs.Ascending.{rising, has, put}
+use Rattle.kvmi.specs.Tables.{Vcpu, Msr, Page, Tables, pageKey, resting, vcpuAt, setVcpu, withVmEvents, withPages, withReady, withPauses, withEvents, withCrs, withSinglestep}
 use Rattle.kvmi.specs.Model.{Model, fresh, begun, onVcpu, awaitedBy, isSome}
 use Rattle.kvmi.specs.Message.{namesVcpu, vcpuOf, enables, eventOf, registerOf, countOf, countFits, viewOf, Entry, entryOf, entriesOf, isVmEvent, isVcpuEvent, takesEvent}
 use Rattle.kvmi.specs.declared.Facts.{Facts}
 use Rattle.kvmi.specs.Event.{offerFits, isAskedFor}
 use Rattle.kvmi.specs.Verdict.{factsOf, isAccess, takesAccess, isInvalid, isUnready, isDenied, isUnsupported, isBusy, changeOf, modeOf, verdict}
 use Rattle.kvmi.specs.Limits.{pageLimit}
-use Rattle.kvmi.specs.Change.{Run, pageOf, isSkipped, setPage, takeEntry, takeEntries, setMsr, Applied, apply}
+use Rattle.kvmi.specs.Change.{Run, pageOf, isSkipped, setPage, takeEntry, takeEntries, Applied, apply}
 use Rattle.kvmi.specs.Image.{vmForm, msForm, paForm, vmMay, mayEnable, paMay, image, Loaded, loaded, loadImage}
 use Rattle.kvmi.specs.Call.{Began, anew, fromImage, Call, message, ready, enter, writeImage, Step, answering, judged, headed, messageStep, readyStep, sending, pausing, dequeuing, entering, enterStep, awaitsAny, imageStep, step, move, after}
 use Rattle.laws.proofs.Bool.{and-l, and-r, and-i, or-l, or-r, either, test, clash, every-head, every-tail, every-and}
 use Rattle.laws.proofs.Bits.{bits-put}
 use Rattle.laws.proofs.Ascending.{rising-put, rising-forget, length-put, length-put-found, length-put-new, length-forget, every-put, every-forget}
+use Rattle.laws.proofs.Lookup.{set-rising, set-every}
 use Rattle.kvmi.specs.Valid.{Valid, vcGood, paGood}
 use Rattle.laws.proofs.Valid.{valid-events, valid-msrs, valid-pages}
 use Rattle.laws.proofs.Load.{load-valid}
@@ -134,14 +135,12 @@ module _ (s : Settings) (ok : So (inRange s)) (m : Model) (a : Valid s (m .table
       (and-i (eqb (length (m .tables .vcpus)) (s .vcpus)) _ (search (and-l, and-r)) (bits-put (allowsEvent s) 0 16 (m .tables .events) event on (search (and-l, and-r)) small (λ _. rw zero-add g)))
 
   msrs-fine : (msr : ℕ) (on : Bool) → So (isMsr msr) → vcpuOf d < s .vcpus → vcpuAt (m .tables) (vcpuOf d) .ready ≡ true → Fine (SetMsr on (vcpuOf d) msr)
-  unfolding apply setMsr msForm vmMay
+  unfolding apply msForm vmMay
   msrs-fine msr on h v r =
       let own : Msr = record { vcpu = vcpuOf d; msr = msr } in
       let count = eqb-true (length (m .tables .vcpus)) (s .vcpus) (let w = a .may in search (and-l, and-r)) in
       let form : So (msForm (m .tables .vcpus) own) = and-i _ _ (and-i _ _ (lt-ltb (vcpuOf d) (length (m .tables .vcpus)) (omega arith)) h) r in
-      rw h (pick (λ (ms : List Msr). Valid s (withMsrs (m .tables) ms)) on (put msrKey own (m .tables .msrs)) (forget msrKey (msrKey own) (m .tables .msrs))
-      (λ _. valid-msrs s (m .tables) a _ (every-put msrKey (msForm (m .tables .vcpus)) own (m .tables .msrs) form (a .mss)) (rising-put msrKey 0 own (m .tables .msrs) zero-le (a .msUp)))
-      (λ _. valid-msrs s (m .tables) a _ (every-forget msrKey (msForm (m .tables .vcpus)) (msrKey own) (m .tables .msrs) (a .mss)) (rising-forget msrKey 0 (msrKey own) (m .tables .msrs) (a .msUp))))
+      valid-msrs s (m .tables) a _ (set-every own (m .tables .msrs) (msForm (m .tables .vcpus)) on (λ _. form) (a .mss)) (set-rising own (m .tables .msrs) on (a .msUp))
 
   pages-fine : (view count : ℕ) → view < s .views → So (every (λ (e : Entry). takesAccess s (e .access)) (entriesOf count (drop 8 d))) → Fine (SetPages view count)
   unfolding apply

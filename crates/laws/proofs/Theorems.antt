@@ -3,26 +3,23 @@
 use mathlib.Core.Path.{_≡_, refl, sym, ap, _∙_}
 use mathlib.Core.Logic.{_↔_}
 use Prim.Native.Nat.{ℕ, _^_, _<_}
-use native.Mathlib.Omega.{arith}
 use mathlib.Core.List.{List}
 use mathlib.Core.Bool.{Bool, true, false, cond, not, _&&_, So}
 use lib.ListN.{length}
 use lib.Dec.{leb, eqb}
 use lib.Pow.{areBytes}
-use borrow.Author.Tests.{eqb-true, lt-ltb, eq-eqb}
+use borrow.Author.Tests.{eqb-true, lt-ltb}
 use Rattle.msrs.specs.Place.{isMsr}
-use Rattle.msrs.proofs.Ranges.{small}
 use Rattle.kvmi.specs.declared.Settings.{Settings}
 use Rattle.kvmi.specs.Settings.{inRange}
 use Rattle.kvmi.specs.Ascending.{put, forget}
-use Rattle.kvmi.specs.Tables.{Msr, Page, Tables, msrKey, pageKey, msrIn, accessIn, SameTables}
+use Rattle.kvmi.specs.Tables.{Msr, Page, Tables, pageKey, msrIn, accessIn, SameTables}
 use Rattle.kvmi.specs.Model.{Model}
 use Rattle.kvmi.specs.Message.{Entry}
 use Rattle.kvmi.specs.Change.{Run, pageOf, isSkipped, setPage, takeEntry, setMsr}
 use Rattle.kvmi.specs.Image.{image, loaded, loadImage}
 use Rattle.kvmi.specs.Call.{Began, anew, fromImage, Call, after}
-use Rattle.laws.proofs.Bool.{and-l, and-r, and-i, test, clash}
-use Rattle.laws.proofs.Lookup.{access-put, access-put-other, access-forget, access-forget-other, has-access, msr-put, msr-put-other, msr-forget, msr-forget-other}
+use Rattle.laws.proofs.Lookup.{access-put, access-put-other, access-forget, access-forget-other, has-access, by-place, set-looks}
 use Rattle.kvmi.specs.Valid.{Valid}
 use Rattle.laws.proofs.Load.{load-write, load-valid}
 use Rattle.laws.proofs.Write.{write-load, image-injective}
@@ -77,14 +74,6 @@ skipped-by-access s t limit view e a h =
     twice true = refl
     twice false = refl
 
--- what is found at a place and nowhere else
-by-place : {B : Type 0} (u m v n : ℕ) (now was : ℕ → ℕ → B) (new : B) → now u m ≡ new → ((u ≡ v → m ≡ n → ⊥) → now v n ≡ was v n)
-    → now v n ≡ cond (eqb u v && eqb m n) new (was v n)
-by-place u m v n now was new here other =
-    test (eqb u v && eqb m n)
-    (λ q. rw (q, ← eqb-true u v (and-l (eqb u v) (eqb m n) q), ← eqb-true m n (and-r (eqb u v) (eqb m n) q)) here)
-    (λ q. rw q (other (λ i j. clash (and-i (eqb u v) (eqb m n) (eq-eqb u v i) (eq-eqb m n j)) q)))
-
 -- an applied entry sets that page and no other
 pub entry-sets : (s : Settings) (t : Tables) (limit view : ℕ) (e : Entry) (skips : Bool) (v n : ℕ) → Valid s t → e .page < 2 ^ 64
     → isSkipped limit (pageOf view e) (t .pages) ≡ false
@@ -106,14 +95,4 @@ entry-sets s t limit view e skips v n a h k =
 -- message 12 sets that MSR's switch of that vCPU and no other; an MSR of no place has none
 pub msr-sets : (s : Settings) (t : Tables) (m : Msr) (on : Bool) (v n : ℕ) → Valid s t
     → msrIn (setMsr m on (t .msrs)) v n ≡ cond (isMsr (m .msr) && (eqb (m .vcpu) v && eqb (m .msr) n)) on (msrIn (t .msrs) v n)
-unfolding setMsr
-msr-sets s t m on v n a = test (isMsr (m .msr)) (λ h. let w = small (m .msr) h in rw h (sets on (omega arith))) (λ h. rw h)
-  where
-    sets : (to : Bool) → m .msr < 2 ^ 64
-        → msrIn (cond to (put msrKey m (t .msrs)) (forget msrKey (msrKey m) (t .msrs))) v n ≡ cond (eqb (m .vcpu) v && eqb (m .msr) n) to (msrIn (t .msrs) v n)
-    sets true h =
-        by-place (m .vcpu) (m .msr) v n (msrIn (put msrKey m (t .msrs))) (msrIn (t .msrs)) true (msr-put m (t .msrs))
-        (λ d. msr-put-other v n m (t .msrs) d (lt-ltb (m .msr) (2 ^ 64) h) (numbered-all s t a))
-    sets false h =
-        by-place (m .vcpu) (m .msr) v n (msrIn (forget msrKey (msrKey m) (t .msrs))) (msrIn (t .msrs)) false (msr-forget (m .vcpu) (m .msr) (t .msrs) (a .msUp))
-        (λ d. msr-forget-other v n (m .vcpu) (m .msr) (t .msrs) d h (numbered-all s t a))
+msr-sets s t m on v n a = set-looks m (t .msrs) on (a .msUp) (numbered-all s t a) v n

@@ -22,8 +22,8 @@ use Rattle.store.specs.Words.{field, setField, putBit64, switchedField, switchO
 use Rattle.store.specs.Meaning.{switchesOn, msrsOf}
 use Rattle.laws.proofs.Bool.{and-l, and-r, and-i, test, clash, same-test, every-cons, every-imp}
 use Rattle.laws.proofs.Bits.{on-none, on-put, on-put-other}
-use Rattle.laws.proofs.Ascending.{Side, below, level, over, side, rising-cons, rising-weak, rising-put, rising-forget, every-put, every-forget}
-use Rattle.laws.proofs.Lookup.{numbered, msr-put, msr-put-other, msr-forget, msr-forget-other, msr-ext}
+use Rattle.laws.proofs.Ascending.{Side, below, level, over, side, rising-cons, rising-weak}
+use Rattle.laws.proofs.Lookup.{numbered, by-place, set-rising, set-every, set-looks, msr-ext}
 
 -- ---- a list's first switch
 in-here : (v m : ℕ) (ms : List Msr) → msrIn (record { vcpu = v; msr = m } ∷ ms) v m ≡ true
@@ -216,71 +216,35 @@ module _ (w : List ℕ) (v place : ℕ) (on : Bool) (h : place < 16384) (l : v *
       (λ e f. clash (and-i (eqb u v) (eqb (q / 64) (place / 64)) (eq-eqb u v e) (eq-eqb (q / 64) (place / 64) (omega arith))) t)))
 
 -- ---- a switch set is an entry put or forgotten
-module _ (w : List ℕ) (n v m place : ℕ) (l : n * 272 ≤ length w) (a : v < n) (h : msrPlace m ≡ At place) where
-  abbrev this : Msr
-  this = record { vcpu = v; msr = m }
+bit-looks : (w : List ℕ) (v m : ℕ) (on : Bool) (u k : ℕ) → v * 272 + 272 ≤ length w
+    → msrBitOn (setMsrBit w v m on) u k ≡ cond (isMsr m && (eqb v u && eqb m k)) on (msrBitOn w u k)
+unfolding msrBitOn setMsrBit isMsr
+bit-looks w v m on u k l = step (msrPlace m) refl
+  where
+    other : (place : ℕ) → msrPlace m ≡ At place → (v ≡ u → m ≡ k → ⊥) → (p : Place) → msrPlace k ≡ p → readSwitch (setSwitch w v (At place) on) u p ≡ readSwitch w u p
+    other place h d (At q) e = place-other w v place on (in-places m place h) l u q (in-places k q e) (λ f g. d f (sym (one m place h) ∙ ap msrAt g ∙ one k q e))
+    other place h d None e = refl
 
-  is-msr : So (isMsr m)
-  unfolding isMsr
-  is-msr = rw h refl
-
-  numbered-this : So (numbered this)
-  numbered-this = lt-ltb m (2 ^ 64) (omega (arith, small m is-msr))
-
-  bit-set : (on : Bool) → msrBitOn (setMsrBit w v m on) v m ≡ on
-  unfolding msrBitOn setMsrBit
-  bit-set on = rw h (place-set w v place on (in-places m place h) (omega arith))
-
-  bit-other : (on : Bool) (u k : ℕ) → (v ≡ u → m ≡ k → ⊥) → msrBitOn (setMsrBit w v m on) u k ≡ msrBitOn w u k
-  unfolding msrBitOn setMsrBit
-  bit-other on u k d = rw h (step (msrPlace k) refl)
-    where
-      step : (p : Place) → msrPlace k ≡ p → readSwitch (switchedField w v (16 + place / 64) (place % 64) on) u p ≡ readSwitch w u p
-      step (At q) e =
-          place-other w v place on (in-places m place h) (omega arith) u q (in-places k q e) (λ f g. d f (sym (one m place h) ∙ ap msrAt g ∙ one k q e))
-      step None e = refl
-
-  set-rising : (on : Bool) → So (rising msrKey 0 (setMsr this on (msrsOf w 0 n)))
-  unfolding setMsr
-  set-rising true = rw is-msr (rising-put msrKey 0 this (msrsOf w 0 n) zero-le (msrs-rising w n))
-  set-rising false = rw is-msr (rising-forget msrKey 0 (msrKey this) (msrsOf w 0 n) (msrs-rising w n))
-
-  set-numbered : (on : Bool) → So (every numbered (setMsr this on (msrsOf w 0 n)))
-  unfolding setMsr
-  set-numbered true = rw is-msr (every-put msrKey numbered this (msrsOf w 0 n) numbered-this (msrs-numbered w n))
-  set-numbered false = rw is-msr (every-forget msrKey numbered (msrKey this) (msrsOf w 0 n) (msrs-numbered w n))
-
-  set-here : (on : Bool) → msrIn (setMsr this on (msrsOf w 0 n)) v m ≡ on
-  unfolding setMsr
-  set-here true = rw is-msr (msr-put this (msrsOf w 0 n))
-  set-here false = rw is-msr (msr-forget v m (msrsOf w 0 n) (msrs-rising w n))
-
-  set-other : (on : Bool) (u k : ℕ) → (v ≡ u → m ≡ k → ⊥) → msrIn (setMsr this on (msrsOf w 0 n)) u k ≡ msrIn (msrsOf w 0 n) u k
-  unfolding setMsr
-  set-other true u k d = rw is-msr (msr-put-other u k this (msrsOf w 0 n) d numbered-this (msrs-numbered w n))
-  set-other false u k d = rw is-msr (msr-forget-other u k v m (msrsOf w 0 n) d (ltb-true m (2 ^ 64) numbered-this) (msrs-numbered w n))
-
-  set-looks : (on : Bool) (u k : ℕ) → msrIn (msrsOf (setMsrBit w v m on) 0 n) u k ≡ msrIn (setMsr this on (msrsOf w 0 n)) u k
-  set-looks on u k =
-      msrs-look (setMsrBit w v m on) n u k
-      ∙ test (eqb v u && eqb m k)
-      (λ t. let p = eqb-true v u (and-l (eqb v u) (eqb m k) t) in
-      let q = eqb-true m k (and-r (eqb v u) (eqb m k) t) in
-      rw (← p, ← q, lt-ltb v n a, bit-set on) (sym (set-here on)))
-      (λ t. let d : v ≡ u → m ≡ k → ⊥ = λ p q. clash (and-i (eqb v u) (eqb m k) (eq-eqb v u p) (eq-eqb m k q)) t in
-      rw (set-other on u k d, msrs-look w n u k, bit-other on u k d))
-
-  set-placed : (on : Bool) → msrsOf (setMsrBit w v m on) 0 n ≡ setMsr this on (msrsOf w 0 n)
-  set-placed on = msr-ext _ _ (msrs-rising (setMsrBit w v m on) n) (msrs-numbered (setMsrBit w v m on) n) (set-rising on) (set-numbered on) (set-looks on)
+    step : (p : Place) → msrPlace m ≡ p → readSwitch (setSwitch w v p on) u (msrPlace k) ≡ cond (isAt p && (eqb v u && eqb m k)) on (readSwitch w u (msrPlace k))
+    step (At place) h =
+        by-place v m u k (λ x y. readSwitch (setSwitch w v (At place) on) x (msrPlace y)) (λ x y. readSwitch w x (msrPlace y)) on
+        (rw h (place-set w v place on (in-places m place h) l)) (λ d. other place h d (msrPlace k) refl)
+    step None h = refl
 
 pub set-msr : (w : List ℕ) (n v m : ℕ) → n * 272 ≤ length w → v < n → (on : Bool)
     → msrsOf (setMsrBit w v m on) 0 n ≡ setMsr (record { vcpu = v; msr = m }) on (msrsOf w 0 n)
-unfolding setMsrBit setMsr isMsr
-set-msr w n v m l a on = step (msrPlace m) refl
+set-msr w n v m l a on =
+    let this : Msr = record { vcpu = v; msr = m } in
+    let up = msrs-rising w n in
+    let g = msrs-numbered w n in
+    msr-ext _ _ (msrs-rising (setMsrBit w v m on) n) (msrs-numbered (setMsrBit w v m on) n) (set-rising this (msrsOf w 0 n) on up)
+    (set-every this (msrsOf w 0 n) numbered on (λ h. lt-ltb m (2 ^ 64) (omega (arith, small m h))) g)
+    (λ u k. msrs-look (setMsrBit w v m on) n u k ∙ rw (bit-looks w v m on u k (omega arith)) (inside u k) ∙ sym (set-looks this (msrsOf w 0 n) on up g u k))
   where
-    step : (p : Place) → msrPlace m ≡ p → msrsOf (setMsrBit w v m on) 0 n ≡ setMsr (record { vcpu = v; msr = m }) on (msrsOf w 0 n)
-    step (At place) e = set-placed w n v m place l a e on
-    step None e = rw e
+    inside : (u k : ℕ) → (ltb u n && cond (isMsr m && (eqb v u && eqb m k)) on (msrBitOn w u k)) ≡ cond (isMsr m && (eqb v u && eqb m k)) on (msrIn (msrsOf w 0 n) u k)
+    inside u k =
+        test (isMsr m && (eqb v u && eqb m k)) (λ t. rw (t, ← eqb-true v u (and-l (eqb v u) (eqb m k) (and-r (isMsr m) _ t)), lt-ltb v n a))
+        (λ t. rw (t, msrs-look w n u k))
 
 -- ---- words that say the same switches
 switches-same : (w x : List ℕ) (v place n : ℕ) (rest : List Msr) → place + n ≤ 16384
