@@ -12,6 +12,8 @@ ghost use mathlib.Core.List.{[]};
 ghost use Rattle.kvmi.specs.Answer.{paper};
 ghost use Rattle.kvmi.specs.Settings.{isSet};
 ghost use Rattle.session.specs.Calls.{told};
+ghost use Rattle.session.specs.State.{state};
+ghost use Rattle.message.specs.Moves.{messageMove, sessionAfter};
 ghost use Rattle.vcpu_list.specs.List.{one, oneReady, oneCr};
 ghost use Rattle.calls.specs.Given.{resultWords, given, freshGiven, readyGiven, messageGiven, enterGiven, sizeGiven, writeGiven, readGiven, oneGiven};
 
@@ -24,6 +26,13 @@ pub type ResultWords = [u64; RESULT_WORDS];
 pub struct Returned {
     pub code: u32,
     pub session: Session,
+}
+
+// What a message gives: the answer's number, what it moved of the session, and the moved number of the tool after it (message::Received's).
+pub struct Moved {
+    pub code: u32,
+    pub moved: u32,
+    pub value: u64,
 }
 
 // ---- an answer as numbers
@@ -126,7 +135,7 @@ pub fn ready(s: Session, vcpu: u32, result: &mut ResultWords) -> Returned
     finish(done, result)
 }
 
-// One message of the tool.
+// One message of the tool. `message::session_after` makes the session after it.
 pub fn message(
     s: Session,
     vcpus: &mut VcpuWords,
@@ -135,16 +144,25 @@ pub fn message(
     out: &mut [u8],
     guest: &mut [u8],
     result: &mut ResultWords,
-) -> Returned
-    ensures { λ r. ⌜ (r ≡ messageGiven s (now (vcpus .entry)) (now (pages .entry)) (now (msg .entry)) (now (out .entry)) (now (guest .entry)) .done)
+) -> Moved
+    ensures { λ r. ⌜ (r .code ≡ messageGiven s (now (vcpus .entry)) (now (pages .entry)) (now (msg .entry)) (now (out .entry)) (now (guest .entry)) .done .code)
+        × (sessionAfter s (r .moved) (r .value) ≡ messageGiven s (now (vcpus .entry)) (now (pages .entry)) (now (msg .entry)) (now (out .entry)) (now (guest .entry)) .done .session)
         × (now (vcpus .exit) ≡ messageGiven s (now (vcpus .entry)) (now (pages .entry)) (now (msg .entry)) (now (out .entry)) (now (guest .entry)) .vcpus)
         × (now (pages .exit) ≡ messageGiven s (now (vcpus .entry)) (now (pages .entry)) (now (msg .entry)) (now (out .entry)) (now (guest .entry)) .pages)
         × (now (out .exit) ≡ messageGiven s (now (vcpus .entry)) (now (pages .entry)) (now (msg .entry)) (now (out .entry)) (now (guest .entry)) .out)
         × (now (guest .exit) ≡ messageGiven s (now (vcpus .entry)) (now (pages .entry)) (now (msg .entry)) (now (out .entry)) (now (guest .entry)) .guest)
-        × (now (result .exit) ≡ messageGiven s (now (vcpus .entry)) (now (pages .entry)) (now (msg .entry)) (now (out .entry)) (now (guest .entry)) .result) ⌝ }
+        × (now (result .exit) ≡ messageGiven s (now (vcpus .entry)) (now (pages .entry)) (now (msg .entry)) (now (out .entry)) (now (guest .entry)) .result)
+        × (r .moved ≡ messageMove (state s (now (vcpus .entry)) (now (pages .entry))) (now (msg .entry)) (now (out .entry)) (now (guest .entry)) .moved)
+        × (r .value ≡ messageMove (state s (now (vcpus .entry)) (now (pages .entry))) (now (msg .entry)) (now (out .entry)) (now (guest .entry)) .value) ⌝ }
 {
-    let done = message::take(s, vcpus, pages, msg, out, guest);
-    finish(done, result)
+    let r = message::receive(s, vcpus, pages, msg, out, guest);
+    let answer = r.answer;
+    let code = put_result(result, answer);
+    Moved {
+        code,
+        moved: r.moved,
+        value: r.value,
+    }
 }
 
 // A vCPU enters the guest, with its register block and an event that it is offered.

@@ -1,8 +1,8 @@
 -- Laws of changes. Assumes nothing.
 use mathlib.Core.Path.{_≡_, refl}
 use mathlib.Core.List.{List}
-use mathlib.Core.Bool.{Bool, true, false, cond}
-use Prim.Native.Nat.{ℕ}
+use Prim.Native.Nat.{ℕ, _%_, _^_, _≤_}
+use native.Mathlib.Omega.{arith}
 use Rattle.kvmi.specs.declared.ReplyMode.{ReplyMode}
 use Rattle.kvmi.specs.declared.ReplyMode.the-variants.{On, Off, ErrorsOnly}
 use Rattle.kvmi.specs.declared.Change.{Change}
@@ -11,7 +11,7 @@ use Rattle.kvmi.specs.Mode.{modeOfNumber, numberOfMode}
 use Rattle.session.specs.declared.Session.{Session}
 use Rattle.session.specs.State.{State}
 use Rattle.change.specs.Change.{change}
-use Rattle.change.specs.Effect.{Enacted, PagesChanged, effect}
+use Rattle.change.specs.Effect.{Enacted, PagesChanged, movedBy, effect}
 
 -- a mode's number stands for it
 pub mode-number : (m : ReplyMode) → modeOfNumber (numberOfMode m) ≡ m
@@ -19,6 +19,12 @@ unfolding modeOfNumber
 mode-number On = refl
 mode-number Off = refl
 mode-number ErrorsOnly = refl
+
+-- and has 32 bits
+pub mode-fits : (m : ReplyMode) → numberOfMode m % 2 ^ 32 ≡ numberOfMode m
+mode-fits On = refl
+mode-fits Off = refl
+mode-fits ErrorsOnly = refl
 
 -- the change of a run of entries
 abbrev pub paged : Session → List ℕ → List ℕ → PagesChanged → Enacted
@@ -38,3 +44,17 @@ change-keeps st guest d (SetPages view count) = refl
 change-keeps st guest d (SetSinglestep on vcpu) = refl
 change-keeps st guest d (SetReplies now mode) = refl
 change-keeps st guest d (EndWait resumes vcpu action value) = refl
+
+-- ---- a change moves one of three numbers, or none
+pub moved-few : (c : Change) → movedBy c ≤ 3
+moved-few Nothing = omega arith
+moved-few (SetVmEvent on event) = omega arith
+moved-few (WritePhysical gpa) = omega arith
+moved-few (QueuePause wait vcpu) = omega arith
+moved-few (SetVcpuEvent on vcpu event) = omega arith
+moved-few (SetCr on vcpu cr) = omega arith
+moved-few (SetMsr on vcpu msr) = omega arith
+moved-few (SetPages view count) = omega arith
+moved-few (SetSinglestep on vcpu) = omega arith
+moved-few (SetReplies now mode) = omega arith
+moved-few (EndWait resumes vcpu action value) = omega arith

@@ -1,5 +1,6 @@
 // What a message that passes its tests changes, in the session's numbers and in the lent words and bytes.
 use kvmi::Change;
+use kvmi::ReplyKind;
 use kvmi::Signal;
 use session::Session;
 use session::Tool;
@@ -7,54 +8,68 @@ ghost use mathlib.Core.Path.{_≡_};
 ghost use lib.ListN.{drop};
 ghost use Rattle.wire.specs.Bytes.{store};
 ghost use Rattle.session.specs.State.{state};
-ghost use Rattle.kvmi.specs.Codes.{OK};
 ghost use Rattle.kvmi.specs.Change.{replySignal};
+ghost use Rattle.kvmi.specs.declared.ReplyKind.the-variants.{CodeOnly};
 ghost use Rattle.kvmi.specs.declared.Signal.the-variants.{Quiet};
 ghost use Rattle.change.specs.Effect.{enactedOf, effect, plainEffect, toolAfter, pagesEffect, pagesSet};
 
-// What a change gives: the numbers of the tool that a change can move, 0 or the error that it met, the number of the mode by which it is
-// answered, and what the host is to do.
+// Which number of the tool moves: its VM event switches, how many page words are in use, its reply mode. 0: none.
+const MOVED_EVENTS: u32 = 1;
+
+const MOVED_PAGES: u32 = 2;
+
+const MOVED_MODE: u32 = 3;
+
+// What a change gives: what kind of reply answers it, which number of the tool it moves and that number after it (0 for none), 0 or the error that it
+// met, the number of the mode by which it is answered, and what the host is to do.
 pub struct Effect {
-    pub events: u64,
-    pub pages: u64,
-    pub mode: u32,
+    pub kind: ReplyKind,
+    pub moved: u32,
+    pub value: u64,
     pub code: i32,
     pub by: u32,
     pub signal: Signal,
 }
 
-// No number of the tool moves; a code, and something for the host to do.
-pub fn still(tool: Tool, code: i32, signal: Signal) -> Effect
-    ensures { λ r. ⌜ r ≡ plainEffect tool code signal ⌝ }
+// What a tool owns after one of its numbers moved.
+pub fn tool_after(tool: Tool, moved: u32, value: u64) -> Tool
+    ensures { λ r. ⌜ r ≡ toolAfter tool moved value ⌝ }
+{
+    let mut t = tool;
+    if moved == MOVED_EVENTS {
+        t.events = value;
+        return t;
+    }
+    if moved == MOVED_PAGES {
+        t.pages = value;
+        return t;
+    }
+    if moved == MOVED_MODE {
+        t.mode = (value % 4294967296) as u32;
+        return t;
+    }
+    t
+}
+
+// No number of the tool moves. `mode` is the tool's.
+fn still(kind: ReplyKind, mode: u32, signal: Signal) -> Effect
+    ensures { λ r. ⌜ r ≡ plainEffect kind mode signal ⌝ }
 {
     Effect {
-        events: tool.events,
-        pages: tool.pages,
-        mode: tool.mode,
-        code,
-        by: tool.mode,
+        kind,
+        moved: 0,
+        value: 0,
+        code: 0,
+        by: mode,
         signal,
     }
 }
 
-// What a tool owns after an effect, with the next event's seq.
-pub fn tool_after(tool: Tool, e: Effect, seq: u32) -> Tool
-    ensures { λ r. ⌜ r ≡ toolAfter tool e seq ⌝ }
+// No number of the tool moves, a code answers, and nothing for the host to do.
+fn quiet(mode: u32) -> Effect
+    ensures { λ r. ⌜ r ≡ plainEffect CodeOnly mode Quiet ⌝ }
 {
-    Tool {
-        events: e.events,
-        pages: e.pages,
-        opened: tool.opened,
-        mode: e.mode,
-        seq,
-    }
-}
-
-// No number of the tool moves, no error, and nothing for the host to do.
-fn quiet(tool: Tool) -> Effect
-    ensures { λ r. ⌜ r ≡ plainEffect tool OK Quiet ⌝ }
-{
-    still(tool, 0, Signal::Quiet)
+    still(ReplyKind::CodeOnly, mode, Signal::Quiet)
 }
 
 // VM_WRITE_PHYSICAL: the bytes after the 16 that name the place, where all of them lie inside.
@@ -73,8 +88,9 @@ fn set_pages(tool: Tool, pages: &mut [u64], view: u16, count: u16, d: &[u8]) -> 
     let from = if 8 <= d.len() { 8 } else { d.len() };
     let used = tool.pages as usize;
     let taken = page_words::put_entries(pages, used, Session::PAGE_LIMIT, view, count, &d[from..]);
-    let mut e = quiet(tool);
-    e.pages = taken.count as u64;
+    let mut e = quiet(tool.mode);
+    e.moved = MOVED_PAGES;
+    e.value = taken.count as u64;
     if taken.skipped {
         e.code = -12;
         return e;
@@ -113,41 +129,43 @@ pub fn apply(
 {
     let tool = s.tool;
     match c {
-        Change::Nothing => quiet(tool),
+        Change::Nothing => still(ReplyKind::WithData, tool.mode, Signal::Quiet),
         Change::SetVmEvent { on, event } => {
-            let mut e = quiet(tool);
-            e.events = store::bits::put_bit(tool.events, event as u32, on);
+            let mut e = quiet(tool.mode);
+            e.moved = MOVED_EVENTS;
+            e.value = store::bits::put_bit(tool.events, event as u32, on);
             e
         }
         Change::WritePhysical { gpa } => {
             write_guest(guest, gpa, d);
-            quiet(tool)
+            quiet(tool.mode)
         }
         Change::QueuePause { wait, vcpu } => {
             store::words::queue_pause(vcpus, vcpu);
-            still(tool, 0, Signal::Kick { wait, vcpu })
+            still(ReplyKind::CodeOnly, tool.mode, Signal::Kick { wait, vcpu })
         }
         Change::SetVcpuEvent { on, vcpu, event } => {
             store::words::switch_field(vcpus, vcpu, store::words::EVENTS, event, on);
-            quiet(tool)
+            quiet(tool.mode)
         }
         Change::SetCr { on, vcpu, cr } => {
             store::words::switch_cr(vcpus, vcpu, cr, on);
-            quiet(tool)
+            quiet(tool.mode)
         }
         Change::SetMsr { on, vcpu, msr } => {
             store::words::write_msr(vcpus, vcpu, msr, on);
-            quiet(tool)
+            quiet(tool.mode)
         }
         Change::SetPages { view, count } => set_pages(tool, pages, view, count, d),
         Change::SetSinglestep { on, vcpu } => {
             store::words::write_field(vcpus, vcpu, store::words::SINGLESTEP, on as u64);
-            quiet(tool)
+            quiet(tool.mode)
         }
         Change::SetReplies { now, mode } => {
             let number = session::mode_number(mode);
-            let mut e = quiet(tool);
-            e.mode = number;
+            let mut e = quiet(tool.mode);
+            e.moved = MOVED_MODE;
+            e.value = number as u64;
             if now {
                 e.by = number;
                 return e;
@@ -161,7 +179,8 @@ pub fn apply(
             value,
         } => {
             store::words::end_wait(vcpus, vcpu);
-            still(tool, 0, reply_signal(resumes, vcpu, action, value))
+            let signal = reply_signal(resumes, vcpu, action, value);
+            still(ReplyKind::Silent, tool.mode, signal)
         }
     }
 }

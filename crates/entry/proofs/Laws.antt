@@ -13,7 +13,7 @@ use Rattle.kvmi.specs.Answer.{paper, handled}
 use Rattle.kvmi.specs.Model.{nextSeq}
 use Rattle.kvmi.specs.Reply.{messageBytes, eventBytes, pauseEvent}
 use Rattle.store.specs.Words.{field, setField, PAUSES, AWAITED}
-use Rattle.reply.specs.declared.Answered.{Answered}
+use Rattle.entry.specs.declared.HandedOut.{HandedOut}
 use Rattle.reply.specs.Written.{Written}
 use Rattle.reply.proofs.Lengths.{length-event}
 use Rattle.session.specs.declared.Session.{Session}
@@ -39,13 +39,10 @@ module _ (w after out wrote block : List ℕ) (vcpu seq next count : ℕ) where
       record {
         written =
             record {
-              written =
-                  record {
-                    count = n ∙ omega (arith, length-event seq vcpu event block own);
-                    there = o ∙ ap (store out 0) (low-event seq vcpu event block own);
-                  };
-              next = e;
+              count = n ∙ omega (arith, length-event seq vcpu event block own);
+              there = o ∙ ap (store out 0) (low-event seq vcpu event block own);
             };
+        next = e;
         words = a;
       }
 
@@ -54,20 +51,20 @@ module _ (w after out wrote block : List ℕ) (vcpu seq next count : ℕ) where
       → Went after out wrote (record { count = count; next = next }) (dequeuingOf w vcpu seq block)
   unfolding dequeuingOf pausingOf
   paused-as queued fewer q some o f a e =
-      rw (← q, le-leb 1 queued (omega (arith, some))) (record { written = record { written = o; next = e }; words = a ∙ ap (λ (l : List ℕ). awaitingWords l vcpu 2 seq) f })
+      rw (← q, le-leb 1 queued (omega (arith, some))) (record { written = o; next = e; words = a ∙ ap (λ (l : List ℕ). awaitingWords l vcpu 2 seq) f })
 
 pub nothing-queued : (w out block : List ℕ) (vcpu seq queued : ℕ) → queued ≡ field w vcpu PAUSES → queued ≡ 0
     → Went w out out (record { count = 0; next = seq }) (dequeuingOf w vcpu seq block)
 unfolding dequeuingOf
 nothing-queued w out block vcpu seq queued q none =
     rw (← q, lt-leb 1 queued (omega arith))
-    (record { written = record { written = record { count = refl; there = sym (store-none out 0) }; next = refl }; words = refl })
+    (record { written = record { count = refl; there = sym (store-none out 0) }; next = refl; words = refl })
 
 -- the call, when what goes out is written
-module _ (s t : Session) (a : Answer) (r : Answered) (w p after block own out wrote : List ℕ) (vcpu event awaited : ℕ) where
+module _ (s t : Session) (a : Answer) (r : HandedOut) (w p after block own out wrote : List ℕ) (vcpu event awaited : ℕ) where
   pub went-as : awaited ≡ field w vcpu AWAITED → awaited ≡ 0 → Went after out wrote r (sentOf (state s w p) vcpu block event own)
       → paper a ≡ handled (r .count) Quiet → t ≡ withTool s (withToolSeq (s .tool) (r .next))
       → told (record { answer = a; session = t }) after p wrote [] ≡ enteredOf (state s w p) vcpu block event own out
   unfolding enteredOf
   went-as q none h g e =
-      simp (← q, eq-eqb awaited 0 none, e, g, h .written .written .count, h .written .written .there, h .words, h .written .next)
+      simp (← q, eq-eqb awaited 0 none, e, g, h .written .count, h .written .there, h .words, h .next)

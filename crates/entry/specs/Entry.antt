@@ -15,8 +15,8 @@ use Rattle.kvmi.specs.Model.{nextSeq}
 use Rattle.kvmi.specs.Event.{eventRowOf, offerFits, crNamed, msrNamed}
 use Rattle.kvmi.specs.Reply.{eventBytes, pauseEvent}
 use Rattle.store.specs.Words.{field, setField, msrBitOn, CRS, EVENTS, PAUSES, AWAITED, AWAITED-SEQ}
-use Rattle.reply.specs.declared.Answered.{Answered}
-use Rattle.reply.specs.Written.{AnswerWritten}
+use Rattle.entry.specs.declared.HandedOut.{HandedOut}
+use Rattle.reply.specs.Written.{Written}
 use Rattle.session.specs.State.{State, withVcpuWords, withSeqOf, isClosed}
 use Rattle.session.specs.Calls.{Told, toldSame, toldWritten}
 
@@ -69,8 +69,9 @@ unfoldable pub dequeuingOf : List ℕ → ℕ → ℕ → List ℕ → Sent
 dequeuingOf w vcpu seq block = cond (leb 1 (field w vcpu PAUSES)) (pausingOf w vcpu seq block) (nothingSent w seq)
 
 -- what a function that writes it has done: the words after it, the output before and after, and what is returned
-pub record Went (vcpus before after : List ℕ) (r : Answered) (x : Sent) : Type 0 where
-  pub written : AnswerWritten before after r (x .bytes) (x .next)
+pub record Went (vcpus before after : List ℕ) (r : HandedOut) (x : Sent) : Type 0 where
+  pub written : Written before after (r .count) (x .bytes)
+  pub next : r .next ≡ x .next
   pub words : vcpus ≡ x .vcpus
 
 -- offered event, then pause

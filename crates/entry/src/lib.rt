@@ -1,7 +1,6 @@
 // The call by which a vCPU enters the guest: an event that it is offered goes out if the tool asked for it, or else a queued pause.
 use kvmi::Answer;
 use kvmi::EventSwitch;
-use reply::Answered;
 use session::Done;
 use session::Session;
 use store::words::VcpuWords;
@@ -13,6 +12,12 @@ ghost use Rattle.kvmi.specs.Event.{offerFits};
 ghost use Rattle.session.specs.State.{state};
 ghost use Rattle.session.specs.Calls.{told};
 ghost use Rattle.entry.specs.Entry.{isAskedForOf, crBitOn, awaitingWords, Went, sendingOf, dequeuingOf, sentOf, enteredOf, enterOf};
+
+// How many bytes go out of an entry, and the next event's seq after them.
+struct HandedOut {
+    count: usize,
+    next: u32,
+}
 
 // The least output that an entry is given: the bytes of a CR or an MSR event.
 pub const EVENT_OUT: usize = 576;
@@ -81,26 +86,26 @@ fn send(
     event: u32,
     own: &[u8],
     out: &mut [u8],
-) -> Answered
+) -> HandedOut
     requires { ⌜ length (now own) ≤ 65535 ⌝ }
     ensures { λ r. ⌜ Went (now (vcpus .exit)) (now (out .entry)) (now (out .exit)) r (sendingOf (now (vcpus .entry)) vcpu seq (now (block .entry)) event (now (own .entry))) ⌝ }
 {
     // numbers that are offered are below 15
     reply::event(out, seq, vcpu as u32, (event % 256) as u8, block, own);
     await_reply(vcpus, vcpu, event, seq);
-    Answered {
+    HandedOut {
         count: block.len() + own.len() + 16,
         next: reply::next_seq(seq),
     }
 }
 
 // A queued pause goes out, if there is one.
-fn dequeue(vcpus: &mut [u64], vcpu: u16, seq: u32, block: &[u8], out: &mut [u8]) -> Answered
+fn dequeue(vcpus: &mut [u64], vcpu: u16, seq: u32, block: &[u8], out: &mut [u8]) -> HandedOut
     ensures { λ r. ⌜ Went (now (vcpus .exit)) (now (out .entry)) (now (out .exit)) r (dequeuingOf (now (vcpus .entry)) vcpu seq (now (block .entry))) ⌝ }
 {
     let queued = store::words::read_field(vcpus, vcpu, store::words::PAUSES);
     if queued == 0 {
-        return Answered {
+        return HandedOut {
             count: 0,
             next: seq,
         };
@@ -108,7 +113,7 @@ fn dequeue(vcpus: &mut [u64], vcpu: u16, seq: u32, block: &[u8], out: &mut [u8])
     let count = reply::pause_event(out, seq, vcpu as u32, block);
     store::words::write_field(vcpus, vcpu, store::words::PAUSES, queued - 1);
     await_reply(vcpus, vcpu, 2, seq);
-    Answered {
+    HandedOut {
         count,
         next: reply::next_seq(seq),
     }
@@ -123,7 +128,7 @@ fn hand_out(
     event: u32,
     own: &[u8],
     out: &mut [u8],
-) -> Answered
+) -> HandedOut
     requires { ⌜ length (now own) ≤ 65535 ⌝ }
     ensures { λ r. ⌜ ((p : List ℕ) → Went (now (vcpus .exit)) (now (out .entry)) (now (out .exit)) r (sentOf (state s (now (vcpus .entry)) p) vcpu (now (block .entry)) event (now (own .entry)))) ⌝ }
 {

@@ -1,2 +1,4 @@
 pub mod LentPage
 pub mod Listed
+pub mod If
+pub mod AfterMessage

@@ -1,8 +1,8 @@
 // The filter as hosts in C and Rust call it (include/semblurick.h). The host owns a session, a small struct, and its two tables; each call is lent
 // them, moves them and gives the answer's number. What is done is a function of `calls` on the session by value; the exported function copies the
-// session out of the reference, calls that function, and stores back what the call can change, number by number: a message leaves the
-// settings, a ready mark all but what the tools share, and an entry all but the next event's seq. They are the raw calls: the header has calls
-// over a struct of session and tables beside them, by these.
+// session out of the reference, calls that function, and stores back what the call can change: a ready mark what the tools share; an entry the next
+// event's seq; a message the session that `message::session_after` makes, only where something moved; a beginning all of it. They are the raw calls:
+// the header has calls over a struct of session and tables beside them, by these.
 use calls::ResultWords;
 use lookup::PageNumbers;
 use page_words::PageWords;
@@ -66,12 +66,9 @@ pub extern "C" fn semblurick_raw_message(
         × (now (result .exit) ≡ messageGiven (now (s .entry)) (now (vcpus .entry)) (now (pages .entry)) (now (msg .entry)) (now (out .entry)) (now (guest .entry)) .result) ⌝ }
 {
     let d = calls::message(*s, vcpus, pages, msg, out, guest, result);
-    s.tool.events = d.session.tool.events;
-    s.tool.pages = d.session.tool.pages;
-    s.tool.opened = d.session.tool.opened;
-    s.tool.mode = d.session.tool.mode;
-    s.tool.seq = d.session.tool.seq;
-    s.shared = d.session.shared;
+    if d.moved != 0 {
+        *s = message::session_after(*s, d.moved, d.value);
+    }
     d.code
 }
 

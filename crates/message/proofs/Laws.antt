@@ -1,19 +1,14 @@
 -- A message by its verdict: closed, or answered by what was done. Assumes nothing.
-use mathlib.Core.Path.{_≡_, refl, sym, ap, _∙_}
-use mathlib.Core.List.{List}
-use mathlib.Core.Bool.{Bool, true, false, not, _&&_, _||_}
+use mathlib.Core.Path.{_≡_, sym, ap, _∙_}
+use mathlib.Core.List.{List, []}
+use mathlib.Core.Bool.{true, false≢true}
 use Prim.Native.Nat.{ℕ, _≤_}
 use native.Mathlib.Omega.{arith}
 use lib.IntN.{ℤ}
 use lib.ListN.{length}
 use Rattle.kvmi.specs.declared.Change.{Change}
-use Rattle.kvmi.specs.declared.Facts.{Facts}
-use Rattle.kvmi.specs.declared.ReplyKind.{ReplyKind}
-use Rattle.kvmi.specs.declared.ReplyKind.the-variants.{CodeOnly, WithData, Silent}
+use Rattle.kvmi.specs.declared.ReplyKind.the-variants.{Silent}
 use Rattle.kvmi.specs.declared.ReplyMode.{ReplyMode}
-use Rattle.kvmi.specs.declared.ReplyMode.the-variants.{On, Off, ErrorsOnly}
-use Rattle.kvmi.specs.declared.Settings.{Settings}
-use Rattle.kvmi.specs.declared.Signal.{Signal}
 use Rattle.kvmi.specs.declared.Signal.the-variants.{Quiet}
 use Rattle.kvmi.specs.declared.Verdict.{Verdict}
 use Rattle.kvmi.specs.declared.Verdict.the-variants.{Closes, Fails, Does}
@@ -22,41 +17,45 @@ use Rattle.kvmi.specs.Codes.{OK}
 use Rattle.kvmi.specs.Mode.{modeOfNumber}
 use Rattle.kvmi.specs.Message.{layoutOf}
 use Rattle.kvmi.specs.Verdict.{verdict}
-use Rattle.kvmi.specs.Reply.{answerOf, answerSeq, replyData}
+use Rattle.kvmi.specs.Reply.{answerBytes, replyData}
 use Rattle.verdict.specs.Handlers.{factsFor}
 use Rattle.reply.specs.declared.Answered.{Answered}
 use Rattle.reply.specs.Written.{AnswerWritten}
-use Rattle.reply.specs.Off.{kindSeq}
-use Rattle.session.specs.declared.Done.{Done}
+use Rattle.reply.specs.Off.{tells, kindTells, KindWritten}
+use Rattle.reply.proofs.Data.{code-only}
 use Rattle.session.specs.declared.Session.{Session}
 use Rattle.session.specs.State.{State, state, withTool}
 use Rattle.session.specs.Calls.{Told, told, toldClosing}
 use Rattle.change.specs.declared.Effect.{Effect}
-use Rattle.change.specs.Change.{change}
-use Rattle.change.specs.Effect.{Enacted, enactedOf, sessionAfter, toolAfter}
-use Rattle.message.specs.Message.{codeBy, askedOf, answeringOf, judgedOf, handledOf}
+use Rattle.change.specs.Effect.{Enacted, enactedOf, toolAfter}
+use Rattle.message.specs.Message.{codeBy, askedOf, answeringOf, judgedOf, failedOf, handledOf}
+use Rattle.message.specs.declared.Received.{Received}
+use Rattle.message.specs.Moves.{move, andSeq, judgedMove, handledMove, doneBy}
 use Rattle.message.proofs.Silent.{reply-code}
+use Rattle.message.proofs.Served.{serves, same-answer, error-answer, tells-seq, kind-seq, served, verdict-served}
+use Rattle.message.proofs.Moves.{moved-as, seq-stays}
 
--- ---- an answer written, and the seq after it
-kind-seq : (k : ReplyKind) (m : ReplyMode) (n : ℕ) (code : ℤ) → (k ≡ Silent → code ≡ OK) → kindSeq k m n code ≡ answerSeq m n code
-unfolding kindSeq answerSeq
-kind-seq CodeOnly m n code h = refl
-kind-seq WithData m n code h = refl
-kind-seq Silent On n code h = refl
-kind-seq Silent Off n code h = refl
-kind-seq Silent ErrorsOnly n code h = rw (h refl)
+-- ---- an answer written, and what it moved
+-- a command that fails: an event may take a seq
+module _ (s : Session) (a : Answered) (v p out written guest : List ℕ) (id seq : ℕ) (code : ℤ) (r : Received) where
+  pub failed-as : AnswerWritten out written a (answerBytes (modeOfNumber (s .tool .mode)) (s .tool .seq) id seq code []) (tells (modeOfNumber (s .tool .mode)) code)
+      → r .moved ≡ andSeq 0 (a .«took_seq») → paper (r .answer) ≡ handled (a .count) Quiet
+      → told (doneBy s r) v p written guest ≡ failedOf (state s v p) id seq code out guest
+  unfolding toolAfter
+  failed-as w m y = rw (m, moved-as s 0 (r .value) (a .«took_seq») (omega arith), y, w .took, tells-seq (modeOfNumber (s .tool .mode)) (s .tool .seq) code) (simp (w .written .count, w .written .there))
 
-module _ (s : Session) (e : Effect) (a : Answered) (v p d out written guest : List ℕ) (id seq : ℕ) (r : Done) where
-  pub answered-as : AnswerWritten out written a
-      (answerOf (layoutOf id .reply) (modeOfNumber (e .by)) (s .tool .seq) id seq (e .code) (replyData (s .settings) guest id d))
-      (kindSeq (layoutOf id .reply) (modeOfNumber (e .by)) (s .tool .seq) (e .code))
-      → (layoutOf id .reply ≡ Silent → e .code ≡ OK)
-      → r .session ≡ withTool s (toolAfter (s .tool) e (a .next)) → paper (r .answer) ≡ handled (a .count) (e .signal)
-      → told r v p written guest ≡ answeringOf (modeOfNumber (e .by)) id seq (e .code) d (e .signal) out guest (state (sessionAfter s e) v p)
+-- one that did its change
+module _ (s : Session) (e : Effect) (a : Answered) (v p d out written guest : List ℕ) (id seq : ℕ) (r : Received) where
+  pub answered-as : KindWritten (e .kind) (modeOfNumber (e .by)) (s .tool .seq) id seq (e .code) (replyData (s .settings) guest id d) out written a
+      → serves (layoutOf id .reply) (e .kind) ≡ true → (layoutOf id .reply ≡ Silent → e .code ≡ OK) → e .moved ≤ 3
+      → r .moved ≡ andSeq (e .moved) (a .«took_seq») → r .value ≡ e .value → paper (r .answer) ≡ handled (a .count) (e .signal)
+      → told (doneBy s r) v p written guest
+      ≡ answeringOf (modeOfNumber (e .by)) id seq (e .code) d (e .signal) out guest (state (withTool s (toolAfter (s .tool) (e .moved) (e .value))) v p)
   unfolding answeringOf
-  answered-as w k x y =
-      let n = w .next ∙ kind-seq (layoutOf id .reply) (modeOfNumber (e .by)) (s .tool .seq) (e .code) k in
-      rw (x, y, n) (simp (w .written .count, w .written .there))
+  answered-as w k ok few m x y =
+      let b = same-answer (modeOfNumber (e .by)) (s .tool .seq) id seq (e .code) (replyData (s .settings) guest id d) (layoutOf id .reply) (e .kind) k (code-only (s .settings) guest d id) in
+      let n = kind-seq (layoutOf id .reply) (e .kind) (modeOfNumber (e .by)) (s .tool .seq) (e .code) k ok in
+      rw (m, x, moved-as s (e .moved) (e .value) (a .«took_seq») few, y, w .took, seq-stays (s .tool) (e .moved) (e .value), n, ← b) (simp (w .written .count, w .written .there))
 
 -- ---- a message by its verdict
 
@@ -69,26 +68,63 @@ module _ (st : State) (id seq : ℕ) (d out guest : List ℕ) (m : ReplyMode) (v
         (λ (x : Verdict). judgedOf st id seq d out guest x)
         (h ∙ ap (λ (x : ReplyMode). verdict (st .session .settings) (factsFor (askedOf (st .session) x (length guest)) (st .vcpus) d) id seq d) j)
 
+    move-as : judgedMove st d guest v ≡ handledMove st id seq d guest
+    unfolding handledMove
+    move-as = ap
+        (λ (x : Verdict). judgedMove st d guest x)
+        (h ∙ ap (λ (x : ReplyMode). verdict (st .session .settings) (factsFor (askedOf (st .session) x (length guest)) (st .vcpus) d) id seq d) j)
+
+    pub closes-move : v ≡ Closes → move 8 0 ≡ handledMove st id seq d guest
+    unfolding judgedMove
+    closes-move i = ap (λ (x : Verdict). judgedMove st d guest x) (sym i) ∙ move-as
+
+    pub fails-move : (code : ℤ) → v ≡ Fails code → move (andSeq 0 (tells (modeOfNumber (st .session .tool .mode)) code)) 0 ≡ handledMove st id seq d guest
+    unfolding judgedMove
+    fails-move code i = ap (λ (x : Verdict). judgedMove st d guest x) (sym i) ∙ move-as
+
+    pub does-move : (c : Change) (x : Enacted) → v ≡ Does c → x ≡ enactedOf st guest d c
+        → move (andSeq (x .moved) (kindTells (x .kind) (x .mode) (x .changed .code))) (x .value) ≡ handledMove st id seq d guest
+    unfolding judgedMove
+    does-move c x i k =
+        ap (λ (y : Enacted). move (andSeq (y .moved) (kindTells (y .kind) (y .mode) (y .changed .code))) (y .value)) k
+        ∙ ap (λ (y : Verdict). judgedMove st d guest y) (sym i)
+        ∙ move-as
+
     pub closes-as : v ≡ Closes → toldClosing st out guest ≡ handledOf st id seq d out guest
     unfolding judgedOf
     closes-as i = ap (λ (x : Verdict). judgedOf st id seq d out guest x) (sym i) ∙ judged-as
+
+    served-as : served (layoutOf id .reply) v ≡ true
+    served-as = rw h (verdict-served _ _ id seq d)
+
+    -- a message that nothing answers does not fail
+    code-as : layoutOf id .reply ≡ Silent → codeBy st guest d v ≡ OK
+    code-as k = ap (λ (y : Verdict). codeBy st guest d y) h ∙ reply-code st guest _ _ id seq d k
+
+    pub fails-as : (code : ℤ) → v ≡ Fails code → failedOf st id seq code out guest ≡ handledOf st id seq d out guest
+    unfolding judgedOf answeringOf
+    fails-as code i =
+        let wrong = rw i at served-as in
+        let silent : layoutOf id .reply ≡ Silent → ⊥ = λ k. let ok = rw i at (code-as k) in false≢true (rw ok at wrong) in
+        let m = modeOfNumber (st .session .tool .mode) in
+        let b = error-answer m (st .session .tool .seq) id seq code (replyData (st .session .settings) guest id d) (layoutOf id .reply) wrong silent in
+        rw b (ap (λ (x : Verdict). judgedOf st id seq d out guest x) (sym i) ∙ judged-as)
 
     -- the answer to what was done
     abbrev pub answered-by : Enacted → Told
     answered-by x = answeringOf (x .mode) id seq (x .changed .code) d (x .signal) out (x .changed .guest) (x .changed .state)
 
-    -- what was done meets no error where nothing answers, and its answer is the message's
+    -- a change is answered by a kind that serves its message, meets no error where nothing answers, and its answer is the message's
     abbrev pub Follows : Enacted → Type 0
-    Follows x = (layoutOf id .reply ≡ Silent → x .changed .code ≡ OK) × (answered-by x ≡ handledOf st id seq d out guest)
-
-    follows : (x : Enacted) → x .changed .code ≡ codeBy st guest d v → answered-by x ≡ judgedOf st id seq d out guest v → Follows x
-    follows x e g = (λ k. e ∙ ap (λ (y : Verdict). codeBy st guest d y) h ∙ reply-code st guest _ _ id seq d k, g ∙ judged-as)
-
-    pub fails-as : (code : ℤ) (x : Enacted) → v ≡ Fails code
-        → x ≡ record { changed = record { state = st; guest = guest; code = code }; mode = modeOfNumber (st .session .tool .mode); signal = Quiet } → Follows x
-    unfolding judgedOf
-    fails-as code x i k = follows x (rw i (ap (λ (y : Enacted). y .changed .code) k)) (rw i (ap answered-by k))
+    Follows x =
+        (serves (layoutOf id .reply) (x .kind) ≡ true)
+        × (layoutOf id .reply ≡ Silent → x .changed .code ≡ OK)
+        × (answered-by x ≡ handledOf st id seq d out guest)
 
     pub does-as : (c : Change) (x : Enacted) → v ≡ Does c → x ≡ enactedOf st guest d c → Follows x
     unfolding judgedOf
-    does-as c x i k = follows x (rw i (ap (λ (y : Enacted). y .changed .code) k)) (rw i (ap answered-by k))
+    does-as c x i k = (
+      ap (λ (y : Enacted). serves (layoutOf id .reply) (y .kind)) k ∙ (rw i at served-as),
+      λ q. ap (λ (y : Enacted). y .changed .code) k ∙ (rw i at (code-as q)),
+      ap answered-by k ∙ (rw i at judged-as),
+    )

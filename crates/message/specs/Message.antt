@@ -1,10 +1,10 @@
 -- A message as code performs it: answer, session, and every lent word and byte after it, for any bits in the session.
 use Prim.Native.Nat.{ℕ}
-use mathlib.Core.List.{List}
-use mathlib.Core.Bool.{cond, not}
+use mathlib.Core.List.{List, []}
+use mathlib.Core.Bool.{cond}
 use lib.IntN.{ℤ}
 use lib.ListN.{length, drop}
-use lib.Dec.{ltb, eqb}
+use lib.Dec.{ltb}
 use Rattle.wire.specs.Header.{headerOf}
 use Rattle.wire.specs.declared.Header.{Header}
 use Rattle.wire.specs.declared.Header.the-variants.{Whole, Broken}
@@ -21,7 +21,7 @@ use Rattle.kvmi.specs.Mode.{modeOfNumber}
 use Rattle.kvmi.specs.Message.{layoutOf, vcpuOf}
 use Rattle.kvmi.specs.Verdict.{verdict}
 use Rattle.kvmi.specs.Change.{signalOf, modeFor}
-use Rattle.kvmi.specs.Reply.{replyData, answerOf, answerSeq}
+use Rattle.kvmi.specs.Reply.{replyData, answerBytes, answerOf, answerSeq}
 use Rattle.store.specs.Words.{field, PAUSES, AWAITED, AWAITED-SEQ}
 use Rattle.verdict.specs.declared.Asked.{Asked}
 use Rattle.session.specs.declared.Session.{Session}
@@ -77,6 +77,14 @@ messageOf st msg out guest =
 -- what the tests ask of a session
 abbrev pub askedOf : Session → ReplyMode → ℕ → Asked
 askedOf s mode guest = record { settings = s .settings; mode = mode; guest = guest; ready = s .shared .ready }
+
+-- a command that fails is answered by its code
+abbrev pub failedOf : State → ℕ → ℕ → ℤ → List ℕ → List ℕ → Told
+failedOf st id seq code out guest =
+    toldWritten (answerBytes (modeOfNumber (st .session .tool .mode)) (st .session .tool .seq) id seq code []) Quiet
+    (withSeqOf st (answerSeq (modeOfNumber (st .session .tool .mode)) (st .session .tool .seq) code))
+    out
+    guest
 
 unfoldable pub handledOf : State → ℕ → ℕ → List ℕ → List ℕ → List ℕ → Told
 handledOf st id seq d out guest = judgedOf st id seq d out guest (verdict (st .session .settings) (factsIn st (length guest) (vcpuOf d)) id seq d)

@@ -2,6 +2,7 @@
 use Prim.Native.Nat.{ℕ}
 use mathlib.Core.Path.{_≡_}
 use mathlib.Core.List.{List}
+use mathlib.Core.Bool.{Bool}
 use lib.ListN.{length}
 use Rattle.wire.specs.Bytes.{store}
 use Rattle.reply.specs.declared.Answered.{Answered}
@@ -11,7 +12,7 @@ pub record Written (before after : List ℕ) (r : ℕ) (bytes : List ℕ) : Type
   pub count : r ≡ length bytes
   pub there : after ≡ store before 0 bytes
 
--- what answers a message is written, and the next event's seq told
-pub record AnswerWritten (before after : List ℕ) (r : Answered) (bytes : List ℕ) (seq : ℕ) : Type 0 where
+-- what answers a message is written, and whether it is an event, which takes a seq
+pub record AnswerWritten (before after : List ℕ) (r : Answered) (bytes : List ℕ) (told : Bool) : Type 0 where
   pub written : Written before after (r .count) bytes
-  pub next : r .next ≡ seq
+  pub took : r .«took_seq» ≡ told

@@ -9,12 +9,11 @@ ghost use Prim.Native.Nat.{_+_, _≤_};
 ghost use lib.ListN.{length};
 ghost use Rattle.wire.specs.Bytes.{le, store};
 ghost use Rattle.kvmi.specs.Codes.{isError};
-ghost use Rattle.kvmi.specs.Message.{layoutOf};
 ghost use Rattle.kvmi.specs.Model.{nextSeq};
-ghost use Rattle.kvmi.specs.Reply.{replyBytes, replyData, eventBytes, pauseEvent, commandErrorEvent};
+ghost use Rattle.kvmi.specs.Reply.{replyBytes, replyData, answerBytes, eventBytes, pauseEvent, commandErrorEvent};
 ghost use Rattle.kvmi.specs.Mode.{modeOfNumber};
 ghost use Rattle.reply.specs.Written.{Written, AnswerWritten};
-ghost use Rattle.reply.specs.Off.{offBytes, offSeq, KindWritten};
+ghost use Rattle.reply.specs.Off.{isTold, offBytes, tells, KindWritten};
 ghost use Rattle.reply.specs.Contents.{contentsBytes, contentsCount, contentsEnd, Chosen, Picked};
 ghost use Rattle.reply.specs.Event.{eventFront};
 
@@ -31,10 +30,10 @@ enum Contents {
     Memory { from: usize, count: usize },
 }
 
-// How many bytes an answer has, and the next event's seq after it.
+// How many bytes an answer has, and whether it is a CMD_ERROR event, which takes a seq.
 pub struct Answered {
     pub count: usize,
-    pub next: u32,
+    pub took_seq: bool,
 }
 
 // The seq after a seq: it wraps to 0.
@@ -227,22 +226,38 @@ fn put_command_error(out: &mut [u8], next: u32, code: i32, seq: u32, id: u16) ->
     568
 }
 
-// The answer while replies are off: where errors are told and this is one, the event that tells it, which takes a seq.
+// The answer while replies are off: where errors are told and this is one, the event that tells it.
 fn answer_off(out: &mut [u8], mode: u32, next: u32, id: u16, seq: u32, code: i32) -> Answered
-    ensures { λ r. ⌜ AnswerWritten (now (out .entry)) (now (out .exit)) r (offBytes mode next id seq code) (offSeq mode next code) ⌝ }
+    ensures { λ r. ⌜ AnswerWritten (now (out .entry)) (now (out .exit)) r (offBytes mode next id seq code) (isTold mode code) ⌝ }
 {
     if (mode != 1) & is_error(code) {
         return Answered {
             count: put_command_error(out, next, code, seq, id),
-            next: next_seq(next),
+            took_seq: true,
         };
     }
-    Answered { count: 0, next }
+    Answered {
+        count: 0,
+        took_seq: false,
+    }
 }
 
-// What is written in answer to a message, by the number of the reply mode (0: on; 1: off; any other: off, and errors told); `next` is
-// the next event's seq.
-pub fn answer(
+// What is written in answer to a command, a code alone, by the number of the reply mode (0: on; 1: off; any other: off, and errors
+// told); `next` is the next event's seq.
+pub fn answer_code(out: &mut [u8], mode: u32, next: u32, id: u16, seq: u32, code: i32) -> Answered
+    ensures { λ r. ⌜ AnswerWritten (now (out .entry)) (now (out .exit)) r (answerBytes (modeOfNumber mode) next id seq code []) (tells (modeOfNumber mode) code) ⌝ }
+{
+    if mode != 0 {
+        return answer_off(out, mode, next, id, seq, code);
+    }
+    Answered {
+        count: put_code(out, id, seq, code),
+        took_seq: false,
+    }
+}
+
+// The same with the data of the command's reply.
+fn answer_data(
     out: &mut [u8],
     settings: Settings,
     guest: &[u8],
@@ -253,30 +268,40 @@ pub fn answer(
     code: i32,
     d: &[u8],
 ) -> Answered
-    ensures { λ r. ⌜ KindWritten (layoutOf id .reply) (modeOfNumber mode) next id seq code
+    ensures { λ r. ⌜ AnswerWritten (now (out .entry)) (now (out .exit)) r
+        (answerBytes (modeOfNumber mode) next id seq code (replyData settings (now (guest .entry)) id (now (d .entry)))) (tells (modeOfNumber mode) code) ⌝ }
+{
+    if mode != 0 {
+        return answer_off(out, mode, next, id, seq, code);
+    }
+    Answered {
+        count: put_reply(out, settings, guest, id, seq, code, d),
+        took_seq: false,
+    }
+}
+
+// What is written in answer to a message, by the kind of its reply.
+pub fn answer(
+    out: &mut [u8],
+    settings: Settings,
+    guest: &[u8],
+    kind: ReplyKind,
+    mode: u32,
+    next: u32,
+    id: u16,
+    seq: u32,
+    code: i32,
+    d: &[u8],
+) -> Answered
+    ensures { λ r. ⌜ KindWritten kind (modeOfNumber mode) next id seq code
         (replyData settings (now (guest .entry)) id (now (d .entry))) (now (out .entry)) (now (out .exit)) r ⌝ }
 {
-    let row = kvmi::table::layout(id);
-    let kind = row.reply;
     match kind {
-        ReplyKind::CodeOnly => {
-            if mode != 0 {
-                return answer_off(out, mode, next, id, seq, code);
-            }
-            Answered {
-                count: put_code(out, id, seq, code),
-                next,
-            }
-        }
-        ReplyKind::WithData => {
-            if mode != 0 {
-                return answer_off(out, mode, next, id, seq, code);
-            }
-            Answered {
-                count: put_reply(out, settings, guest, id, seq, code, d),
-                next,
-            }
-        }
-        ReplyKind::Silent => Answered { count: 0, next },
+        ReplyKind::CodeOnly => answer_code(out, mode, next, id, seq, code),
+        ReplyKind::WithData => { answer_data(out, settings, guest, mode, next, id, seq, code, d) }
+        ReplyKind::Silent => Answered {
+            count: 0,
+            took_seq: false,
+        },
     }
 }

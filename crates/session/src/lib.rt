@@ -1,5 +1,5 @@
 // A session: what the filter keeps of a guest. It is a small value that the host keeps; its tables are words that the host lends with each call.
-// Here it begins, closes and gets its ready marks; `message` and `entry` have the other calls that move it.
+// Here it begins and gets its ready marks; `message` and `entry` have the other calls that move it.
 use kvmi::Answer;
 use kvmi::ReplyMode;
 use kvmi::Settings;
@@ -12,7 +12,7 @@ ghost use lib.Dec.{leb, ltb};
 ghost use Rattle.kvmi.specs.Limits.{pageLimit, pauseLimit, leastOut};
 ghost use Rattle.kvmi.specs.Mode.{modeOfNumber, numberOfMode};
 ghost use Rattle.session.specs.State.{state, blankSession, closedSession, withTool, withToolSeq};
-ghost use Rattle.session.specs.Calls.{told, toldClosing, freshOf, readyOf, countsFit};
+ghost use Rattle.session.specs.Calls.{told, freshOf, readyOf, countsFit};
 
 // What one introspection tool owns: unsigned integers only, so that any bits are a value. A flag is set where it is not 0.
 #[repr(C)]
@@ -214,17 +214,4 @@ pub fn in_range(vcpus: u32, views: u32) -> bool
         return false;
     }
     views <= 8
-}
-
-// The session closes: everything fresh, no event awaited, and closed for good.
-pub fn close(s: Session, vcpus: &mut [u64], pages: &mut [u64]) -> Done
-    ensures { λ r. ⌜ ((out guest : List ℕ) → told r (now (vcpus .exit)) (now (pages .exit)) out guest ≡ toldClosing (state s (now (vcpus .entry)) (now (pages .entry))) out guest) ⌝ }
-{
-    store::words::clear(vcpus);
-    store::words::clear(pages);
-    let settings = s.settings;
-    Done {
-        answer: Answer::Closing,
-        session: Session::shut(settings),
-    }
 }

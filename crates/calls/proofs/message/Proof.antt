@@ -1,16 +1,17 @@
--- What the session tells of a message, as a host has it. Assumes nothing.
+-- What is said of a message, as a host has it. Assumes nothing.
 use mathlib.Core.Path.{_∙_, ap}
 use Rattle.session.specs.Calls.{Told}
+use Rattle.message.specs.Moves.{Move}
 use Rattle.calls.specs.Given.{given, messageGiven}
 use borrow.Author.Needs.{needs}
 use Rattle.calls.proofs.message.Statement.{statement}
 use Rattle.calls.proofs.message.Tie as tie
 
-take-requires : tie.Need-take-requires
-take-requires c κs = search needs
+receive-requires : tie.Need-receive-requires
+receive-requires c κs = search needs
 
-finish-requires : tie.Need-finish-requires
-finish-requires c κs = search needs
+put-result-requires : tie.Need-put-result-requires
+put-result-requires c κs = search needs
 
 same-length : tie.Need-same-length
 same-length c = search needs
@@ -20,8 +21,19 @@ same-length-2 c = search needs
 
 returns : tie.Need-returns
 unfolding messageGiven
-returns c = (c .finish .ensures .0 ∙ ap (λ (t : Told). given t .done) (c .before .before .before .before .before .before .take .ensures), ap (λ (t : Told). t .state .vcpus) (c .before .before .before .before .before .before .take .ensures), ap (λ (t : Told). t .state .pages) (c .before .before .before .before .before .before .take .ensures), ap (λ (t : Told). t .out) (c .before .before .before .before .before .before .take .ensures), ap (λ (t : Told). t .guest) (c .before .before .before .before .before .before .take .ensures), c .finish .ensures .1 ∙ ap (λ (t : Told). given t .result) (c .before .before .before .before .before .before .take .ensures))
+returns c =
+    let t = c .before .before .before .before .before .before .receive .ensures .1 in (
+      c .put-result .ensures .0 ∙ ap (λ (x : Told). given x .done .code) t,
+      ap (λ (x : Told). x .state .session) t,
+      ap (λ (x : Told). x .state .vcpus) t,
+      ap (λ (x : Told). x .state .pages) t,
+      ap (λ (x : Told). x .out) t,
+      ap (λ (x : Told). x .guest) t,
+      c .put-result .ensures .1 ∙ ap (λ (x : Told). given x .result) t,
+      ap (λ (m : Move). m .moved) (c .before .before .before .before .before .before .receive .ensures .0),
+      ap (λ (m : Move). m .value) (c .before .before .before .before .before .before .receive .ensures .0),
+    )
 
 pub message-spec : {M : Type 1} → statement M
 message-spec =
-    tie.close (tie.spec take-requires finish-requires same-length same-length-2 returns)
+    tie.close (tie.spec receive-requires put-result-requires same-length same-length-2 returns)

@@ -2,8 +2,8 @@
 use mathlib.Core.Path.{ap}
 use Rattle.store.specs.Words.{putBit64, queuedPause, switchedField, switchedCr, endedWait}
 use Rattle.change.specs.Change.{change}
-use Rattle.change.specs.Effect.{pagesSet, PagesChanged}
-use Rattle.change.proofs.Laws.{paged, mode-number}
+use Rattle.change.specs.Effect.{toolAfter, pagesSet, PagesChanged}
+use Rattle.change.proofs.Laws.{paged, mode-number, mode-fits}
 use borrow.Author.Needs.{needs}
 use Rattle.change.proofs.apply.Statement.{statement}
 use Rattle.change.proofs.apply.Tie as tie
@@ -11,14 +11,14 @@ use Rattle.change.proofs.apply.Tie as tie
 enum-told : tie.Need-enum-told
 enum-told c = search needs
 
-quiet-requires : tie.Need-quiet-requires
-quiet-requires c κs = search needs
+still-requires : tie.Need-still-requires
+still-requires c κs = search needs
 
 enum-known-c : tie.Need-enum-known-c
 enum-known-c c = search needs
 
-quiet-requires-2 : tie.Need-quiet-requires-2
-quiet-requires-2 c κs = search needs
+quiet-requires : tie.Need-quiet-requires
+quiet-requires c κs = search needs
 
 cast-put-bit : tie.Need-cast-put-bit
 cast-put-bit c = search needs
@@ -32,8 +32,8 @@ enum-known-c-2 c = search needs
 write-guest-requires : tie.Need-write-guest-requires
 write-guest-requires c κs = search needs
 
-quiet-requires-3 : tie.Need-quiet-requires-3
-quiet-requires-3 c κs = search needs
+quiet-requires-2 : tie.Need-quiet-requires-2
+quiet-requires-2 c κs = search needs
 
 enum-known-c-3 : tie.Need-enum-known-c-3
 enum-known-c-3 c = search needs
@@ -41,8 +41,8 @@ enum-known-c-3 c = search needs
 queue-pause-requires : tie.Need-queue-pause-requires
 queue-pause-requires c κs = search needs
 
-still-requires : tie.Need-still-requires
-still-requires c κs = search needs
+still-requires-2 : tie.Need-still-requires-2
+still-requires-2 c κs = search needs
 
 enum-known-c-4 : tie.Need-enum-known-c-4
 enum-known-c-4 c = search needs
@@ -50,8 +50,8 @@ enum-known-c-4 c = search needs
 switch-field-requires : tie.Need-switch-field-requires
 switch-field-requires c κs = search needs
 
-quiet-requires-4 : tie.Need-quiet-requires-4
-quiet-requires-4 c κs = search needs
+quiet-requires-3 : tie.Need-quiet-requires-3
+quiet-requires-3 c κs = search needs
 
 enum-known-c-5 : tie.Need-enum-known-c-5
 enum-known-c-5 c = search needs
@@ -59,8 +59,8 @@ enum-known-c-5 c = search needs
 switch-cr-requires : tie.Need-switch-cr-requires
 switch-cr-requires c κs = search needs
 
-quiet-requires-5 : tie.Need-quiet-requires-5
-quiet-requires-5 c κs = search needs
+quiet-requires-4 : tie.Need-quiet-requires-4
+quiet-requires-4 c κs = search needs
 
 enum-known-c-6 : tie.Need-enum-known-c-6
 enum-known-c-6 c = search needs
@@ -68,8 +68,8 @@ enum-known-c-6 c = search needs
 write-msr-requires : tie.Need-write-msr-requires
 write-msr-requires c κs = search needs
 
-quiet-requires-6 : tie.Need-quiet-requires-6
-quiet-requires-6 c κs = search needs
+quiet-requires-5 : tie.Need-quiet-requires-5
+quiet-requires-5 c κs = search needs
 
 enum-known-c-7 : tie.Need-enum-known-c-7
 enum-known-c-7 c = search needs
@@ -86,8 +86,8 @@ cast-write-field c = search needs
 write-field-requires : tie.Need-write-field-requires
 write-field-requires c κs = search needs
 
-quiet-requires-7 : tie.Need-quiet-requires-7
-quiet-requires-7 c κs = search needs
+quiet-requires-6 : tie.Need-quiet-requires-6
+quiet-requires-6 c κs = search needs
 
 enum-known-c-9 : tie.Need-enum-known-c-9
 enum-known-c-9 c = search needs
@@ -95,12 +95,15 @@ enum-known-c-9 c = search needs
 mode-number-requires : tie.Need-mode-number-requires
 mode-number-requires c κs = search needs
 
-quiet-requires-8 : tie.Need-quiet-requires-8
-quiet-requires-8 c κs = search needs
+quiet-requires-7 : tie.Need-quiet-requires-7
+quiet-requires-7 c κs = search needs
+
+cast-e : tie.Need-cast-e
+cast-e c = search needs
 
 returns : tie.Need-returns
-unfolding change
-returns c = simp (c .before .before .before .before .c9 .given .1, c .if1 .taken, c .before .quiet8 .ensures, c .before .before .mode-number .ensures, mode-number)
+unfolding change toolAfter
+returns c = simp (c .before .before .before .before .c9 .given .1, c .if1 .taken, c .before .quiet7 .ensures, c .before .before .mode-number .ensures, mode-number, mode-fits)
 
 enum-known-c-10 : tie.Need-enum-known-c-10
 enum-known-c-10 c = search needs
@@ -108,119 +111,120 @@ enum-known-c-10 c = search needs
 end-wait-requires : tie.Need-end-wait-requires
 end-wait-requires c κs = search needs
 
-still-requires-2 : tie.Need-still-requires-2
-still-requires-2 c κs = search needs
-
 reply-signal-requires : tie.Need-reply-signal-requires
 reply-signal-requires c κs = search needs
 
+still-requires-3 : tie.Need-still-requires-3
+still-requires-3 c κs = search needs
+
 returns-2 : tie.Need-returns-2
-unfolding change
-returns-2 c = simp (c .before .enum-told .given .1, c .quiet .ensures)
+unfolding change toolAfter
+returns-2 c = simp (c .before .enum-told .given .1, c .still .ensures)
 
 returns-3 : tie.Need-returns-3
-unfolding change putBit64
-returns-3 c = simp (c .before .before .before .c .given .1, c .before .quiet2 .ensures, c .put-bit .ensures)
+unfolding change toolAfter putBit64
+returns-3 c = simp (c .before .before .before .c .given .1, c .before .quiet .ensures, c .put-bit .ensures)
 
 same-length : tie.Need-same-length
 same-length c = search needs
 
 returns-4 : tie.Need-returns-4
-unfolding change
-returns-4 c = simp (c .before .before .before .before .before .before .c2 .given .1, c .quiet3 .ensures, c .before .before .before .write-guest .ensures)
+unfolding change toolAfter
+returns-4 c = simp (c .before .before .before .before .before .before .c2 .given .1, c .quiet2 .ensures, c .before .before .before .write-guest .ensures)
 
 same-length-2 : tie.Need-same-length-2
 same-length-2 c = search needs
 
 returns-5 : tie.Need-returns-5
-unfolding change queuedPause
-returns-5 c = simp (c .before .before .before .before .before .before .c3 .given .1, c .still .ensures, c .before .before .before .queue-pause .ensures)
+unfolding change toolAfter queuedPause
+returns-5 c = simp (c .before .before .before .before .before .before .c3 .given .1, c .still2 .ensures, c .before .before .before .queue-pause .ensures)
 
 same-length-3 : tie.Need-same-length-3
 same-length-3 c = search needs
 
 returns-6 : tie.Need-returns-6
-unfolding change switchedField
-returns-6 c = simp (c .before .before .before .before .before .before .c4 .given .1, c .quiet4 .ensures, c .before .before .before .switch-field .ensures)
+unfolding change toolAfter switchedField
+returns-6 c = simp (c .before .before .before .before .before .before .c4 .given .1, c .quiet3 .ensures, c .before .before .before .switch-field .ensures)
 
 same-length-4 : tie.Need-same-length-4
 same-length-4 c = search needs
 
 returns-7 : tie.Need-returns-7
-unfolding change switchedCr
-returns-7 c = simp (c .before .before .before .before .before .before .c5 .given .1, c .quiet5 .ensures, c .before .before .before .switch-cr .ensures)
+unfolding change toolAfter switchedCr
+returns-7 c = simp (c .before .before .before .before .before .before .c5 .given .1, c .quiet4 .ensures, c .before .before .before .switch-cr .ensures)
 
 same-length-5 : tie.Need-same-length-5
 same-length-5 c = search needs
 
 returns-8 : tie.Need-returns-8
-unfolding change
-returns-8 c = simp (c .before .before .before .before .before .before .c6 .given .1, c .quiet6 .ensures, c .before .before .before .write-msr .ensures)
+unfolding change toolAfter
+returns-8 c = simp (c .before .before .before .before .before .before .c6 .given .1, c .quiet5 .ensures, c .before .before .before .write-msr .ensures)
 
 same-length-6 : tie.Need-same-length-6
 same-length-6 c = search needs
 
 returns-9 : tie.Need-returns-9
-unfolding change pagesSet
+unfolding change toolAfter pagesSet
 returns-9 c = rw (c .before .before .before .before .before .c7 .given .1) (ap (λ (x : PagesChanged). paged (c .before .before .before .before .before .before .before .before .before .before .before .before .args .s) (c .before .before .before .before .before .before .before .before .before .before .before .before .args .vcpus .now) (c .before .before .before .before .before .before .before .before .before .before .before .before .args .guest .now) x) (c .before .before .set-pages .ensures))
 
 same-length-7 : tie.Need-same-length-7
 same-length-7 c = search needs
 
 returns-10 : tie.Need-returns-10
-unfolding change
-returns-10 c = simp (c .before .before .before .before .before .before .c8 .given .1, c .quiet7 .ensures, c .before .before .before .write-field .ensures)
+unfolding change toolAfter
+returns-10 c = simp (c .before .before .before .before .before .before .c8 .given .1, c .quiet6 .ensures, c .before .before .before .write-field .ensures)
 
 returns-11 : tie.Need-returns-11
-unfolding change
-returns-11 c = simp (c .before .before .before .before .c9 .given .1, c .if1 .left, c .before .quiet8 .ensures, c .before .before .mode-number .ensures)
+unfolding change toolAfter
+returns-11 c = simp (c .before .before .before .before .c9 .given .1, c .if1 .left, c .before .quiet7 .ensures, c .before .before .mode-number .ensures, mode-fits)
 
 same-length-8 : tie.Need-same-length-8
 same-length-8 c = search needs
 
 returns-12 : tie.Need-returns-12
-unfolding change endedWait
-returns-12 c = simp (c .before .before .before .before .before .before .before .c10 .given .1, c .still2 .ensures, c .before .reply-signal .ensures, c .before .before .before .before .end-wait .ensures)
+unfolding change toolAfter endedWait
+returns-12 c = simp (c .before .before .before .before .before .before .before .c10 .given .1, c .still3 .ensures, c .before .reply-signal .ensures, c .before .before .before .before .end-wait .ensures)
 
 pub apply-spec : {M : Type 1} → statement M
 apply-spec =
     tie.close
     (tie.spec
     enum-told
-    quiet-requires
+    still-requires
     enum-known-c
-    quiet-requires-2
+    quiet-requires
     cast-put-bit
     put-bit-requires
     enum-known-c-2
     write-guest-requires
-    quiet-requires-3
+    quiet-requires-2
     enum-known-c-3
     queue-pause-requires
-    still-requires
+    still-requires-2
     enum-known-c-4
     switch-field-requires
-    quiet-requires-4
+    quiet-requires-3
     enum-known-c-5
     switch-cr-requires
-    quiet-requires-5
+    quiet-requires-4
     enum-known-c-6
     write-msr-requires
-    quiet-requires-6
+    quiet-requires-5
     enum-known-c-7
     set-pages-requires
     enum-known-c-8
     cast-write-field
     write-field-requires
-    quiet-requires-7
+    quiet-requires-6
     enum-known-c-9
     mode-number-requires
-    quiet-requires-8
+    quiet-requires-7
+    cast-e
     returns
     enum-known-c-10
     end-wait-requires
     reply-signal-requires
-    still-requires-2
+    still-requires-3
     returns-2
     returns-3
     same-length

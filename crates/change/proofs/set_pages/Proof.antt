@@ -30,7 +30,7 @@ unfolding pagesSet
 returns c =
     let b = behind-8 (c .before .before .before .before .before .before .before .before .before .before .before .args .d .now) (c .before .before .before .before .before .before .before .before .if1 .from) (λ h. ⊎-elim (λ w. omega arith) (λ w. omega arith) (c .before .before .before .before .before .before .before .before .if1 .came)) (λ h. ⊎-elim (λ w. omega arith) (λ w. omega arith) (c .before .before .before .before .before .before .before .before .if1 .came)) in
     let r = rw b at (c .before .before .before .before .put-entries .ensures) in
-    simp (← r, c .if2 .taken, c .before .quiet .ensures)
+    rw (← r, c .if2 .taken, c .before .quiet .ensures)
 
 same-length-2 : tie.Need-same-length-2
 same-length-2 c = search needs
