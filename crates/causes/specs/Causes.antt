@@ -21,3 +21,7 @@ decided c change =
     (cond (c .busy) (Fails EBUSY)
     (cond (c .absent) (Fails ENOENT)
     (cond (c .closing) Closes (Does change)))))))
+
+-- of a command whose vCPU is not ready: EINVAL counts before EAGAIN
+abbrev pub refusedUnready : Bool → Verdict
+refusedUnready invalid = cond invalid (Fails EINVAL) (Fails EAGAIN)

@@ -2,7 +2,7 @@
 use kvmi::Change;
 use kvmi::Verdict;
 ghost use mathlib.Core.Path.{_≡_};
-ghost use Rattle.causes.specs.Causes.{firstCauses, decided};
+ghost use Rattle.causes.specs.Causes.{firstCauses, decided, refusedUnready};
 
 pub const EPERM: i32 = -1;
 
@@ -71,4 +71,14 @@ impl Causes {
         }
         Verdict::Does(change)
     }
+}
+
+// Of a command that names a vCPU which is not ready: what is invalid counts first.
+pub fn unready(invalid: bool) -> Verdict
+    ensures { λ r. ⌜ r ≡ refusedUnready invalid ⌝ }
+{
+    if invalid {
+        return Verdict::Fails(EINVAL);
+    }
+    Verdict::Fails(EAGAIN)
 }

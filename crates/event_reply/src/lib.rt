@@ -20,8 +20,13 @@ fn reply_fits(row: EventRow, d: &[u8]) -> bool
     ensures { λ r. ⌜ r ≡ replyFits row (now (d .entry)) ⌝ }
 {
     let action = wire::byte(d, 8);
-    let takes = (action == 0) | (action == 2) | (action == 1) & row.retry;
-    (d.len() == row.reply) & takes
+    if d.len() != row.reply {
+        return false;
+    }
+    if action == 1 {
+        return row.retry;
+    }
+    (action == 0) | (action == 2)
 }
 
 // The value of a reply that has one, or 0.
@@ -35,17 +40,20 @@ fn new_value(row: EventRow, d: &[u8]) -> u64
 pub fn judge_reply(facts: Facts, seq: u32, d: &[u8]) -> Verdict
     ensures { λ r. ⌜ r ≡ eventReplyVerdict facts seq (now (d .entry)) ⌝ }
 {
-    let action = wire::byte(d, 8);
-    let row = kvmi::events::row(facts.awaited);
-    let clean = padding::of_event_reply(d) == 0;
-    if clean & is_awaited(facts, seq, wire::byte(d, 9)) & reply_fits(row, d) {
-        let change = Change::EndWait {
-            vcpu: wire::load16(d, 0),
-            resumes: facts.awaited != 2,
-            action: action as u32,
-            value: new_value(row, d),
-        };
-        return Verdict::Does(change);
+    if padding::of_event_reply(d) != 0 {
+        return Verdict::Closes;
     }
-    Verdict::Closes
+    if !is_awaited(facts, seq, wire::byte(d, 9)) {
+        return Verdict::Closes;
+    }
+    let row = kvmi::events::row(facts.awaited);
+    if !reply_fits(row, d) {
+        return Verdict::Closes;
+    }
+    Verdict::Does(Change::EndWait {
+        vcpu: wire::load16(d, 0),
+        resumes: facts.awaited != 2,
+        action: wire::byte(d, 8) as u32,
+        value: new_value(row, d),
+    })
 }

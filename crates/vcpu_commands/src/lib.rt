@@ -1,4 +1,6 @@
 // Tests 5 and 6 for each command on a vCPU: its causes of error, and its change. Every function takes any data.
+// In messages 9 to 12 each cause is a test of its own, and the change is made behind the last: the compiler makes more of that than of a change that is
+// handed to `decide`. The ready mark is branched on first, and `causes::unready` keeps EINVAL before EAGAIN.
 use causes::Causes;
 use kvmi::Change;
 use kvmi::Facts;
@@ -26,9 +28,16 @@ fn pause_vcpu(settings: Settings, facts: Facts, d: &[u8]) -> Verdict
     let vcpu = wire::load16(d, 0);
     let wait = wire::byte(d, 8);
     let malformed = tests::is_malformed(padding::of_vcpu_switch(d), settings.vcpus, vcpu, wait);
-    let mut c = Causes::new(malformed, !facts.ready);
-    c.busy = Session::is_full(facts.pauses);
-    c.decide(Change::QueuePause {
+    if !facts.ready {
+        return causes::unready(malformed);
+    }
+    if malformed {
+        return Verdict::Fails(causes::EINVAL);
+    }
+    if Session::is_full(facts.pauses) {
+        return Verdict::Fails(causes::EBUSY);
+    }
+    Verdict::Does(Change::QueuePause {
         vcpu,
         wait: wait == 1,
     })
@@ -53,11 +62,23 @@ pub fn control_vcpu_events(settings: Settings, facts: Facts, d: &[u8]) -> Verdic
     let enable = wire::byte(d, 10);
     let on = enable == 1;
     let malformed = tests::is_malformed(padding::of_vcpu_event(d), settings.vcpus, vcpu, enable);
-    let mut c = Causes::new(malformed | !tests::is_vcpu_event(event), !facts.ready);
-    c.denied = !tests::allows_event(settings.events, event);
-    c.unsupported = on & ((event == 8) & !tests::is_set(settings.descriptors));
-    c.busy = on & ((event == 4) & tests::is_set(settings.breakpoints));
-    c.decide(Change::SetVcpuEvent {
+    let invalid = malformed | !tests::is_vcpu_event(event);
+    if !facts.ready {
+        return causes::unready(invalid);
+    }
+    if invalid {
+        return Verdict::Fails(causes::EINVAL);
+    }
+    if !tests::allows_event(settings.events, event) {
+        return Verdict::Fails(causes::EPERM);
+    }
+    if on & ((event == 8) & !tests::is_set(settings.descriptors)) {
+        return Verdict::Fails(causes::EOPNOTSUPP);
+    }
+    if on & ((event == 4) & tests::is_set(settings.breakpoints)) {
+        return Verdict::Fails(causes::EBUSY);
+    }
+    Verdict::Does(Change::SetVcpuEvent {
         vcpu,
         event: event as u32,
         on,
@@ -72,8 +93,14 @@ pub fn control_cr(settings: Settings, facts: Facts, d: &[u8]) -> Verdict
     let enable = wire::byte(d, 8);
     let cr = wire::load32(d, 12);
     let malformed = tests::is_malformed(padding::of_register(d), settings.vcpus, vcpu, enable);
-    let c = Causes::new(malformed | !tests::is_cr(cr), !facts.ready);
-    c.decide(Change::SetCr {
+    let invalid = malformed | !tests::is_cr(cr);
+    if !facts.ready {
+        return causes::unready(invalid);
+    }
+    if invalid {
+        return Verdict::Fails(causes::EINVAL);
+    }
+    Verdict::Does(Change::SetCr {
         vcpu,
         cr,
         on: enable == 1,
@@ -88,8 +115,14 @@ pub fn control_msr(settings: Settings, facts: Facts, d: &[u8]) -> Verdict
     let enable = wire::byte(d, 8);
     let msr = wire::load32(d, 12);
     let malformed = tests::is_malformed(padding::of_register(d), settings.vcpus, vcpu, enable);
-    let c = Causes::new(malformed | !msrs::is_msr(msr), !facts.ready);
-    c.decide(Change::SetMsr {
+    let invalid = malformed | !msrs::is_msr(msr);
+    if !facts.ready {
+        return causes::unready(invalid);
+    }
+    if invalid {
+        return Verdict::Fails(causes::EINVAL);
+    }
+    Verdict::Does(Change::SetMsr {
         vcpu,
         msr,
         on: enable == 1,

@@ -1,6 +1,6 @@
--- The tests are the definition's. Assumes nothing.
+-- Each test by itself. Assumes nothing.
 use mathlib.Core.Bool.{or-false}
-use lib.Dec.{eqb}
+use borrow.Author.Tests.{eq-eqb, ne-eqb}
 use Rattle.kvmi.specs.Verdict.{replyFits}
 use borrow.Author.Needs.{needs}
 use Rattle.event_reply.proofs.reply_fits.Statement.{statement}
@@ -11,7 +11,15 @@ byte-requires c κs = search needs
 
 returns : tie.Need-returns
 unfolding replyFits
-returns c = rw (← c .before .before .byte .ensures, or-false (eqb (c .before .before .byte .result) 2))
+returns c = rw (ne-eqb _ _ (c .if1 .taken))
+
+returns-2 : tie.Need-returns-2
+unfolding replyFits
+returns-2 c = rw (eq-eqb _ _ (c .before .if1 .left), ← c .before .before .before .byte .ensures, c .if2 .taken)
+
+returns-3 : tie.Need-returns-3
+unfolding replyFits
+returns-3 c = rw (eq-eqb _ _ (c .before .if1 .left), ← c .before .before .before .byte .ensures, ne-eqb _ _ (c .if2 .left)) (simp or-false)
 
 pub reply-fits-spec : {M : Type 1} → statement M
-reply-fits-spec = tie.close (tie.spec byte-requires returns)
+reply-fits-spec = tie.close (tie.spec byte-requires returns returns-2 returns-3)

@@ -1,11 +1,11 @@
--- At this message's number the definitions leave its own causes and change, on what the callees say. Assumes nothing.
+-- At this message's number the definitions leave its own causes and change, on what the callees say; each cause by itself. Assumes nothing.
 use mathlib.Core.Path.{_∙_}
 use mathlib.Core.Bool.{or-false, and-true}
-use borrow.Author.Needs.{needs}
+use borrow.Author.Tests.{not-true, not-false}
 use Rattle.kvmi.specs.Message.{namesVcpu, switchesAt, vcpuOf, eventOf, takesEvent, enables, enableAt}
 use Rattle.kvmi.specs.Settings.{allowsEvent, uncatchable, heldByHost}
 use Rattle.kvmi.specs.Verdict.{isInvalid, isUnready, isDenied, isUnsupported, isBusy, isAbsent, losesErrors, changeOf, commandVerdict}
-use Rattle.causes.specs.Causes.{decided}
+use borrow.Author.Needs.{needs}
 use Rattle.vcpu_commands.proofs.control_vcpu_events.Statement.{statement}
 use Rattle.vcpu_commands.proofs.control_vcpu_events.Tie as tie
 
@@ -27,28 +27,44 @@ is-malformed-requires c κs = search needs
 is-vcpu-event-requires : tie.Need-is-vcpu-event-requires
 is-vcpu-event-requires c κs = search needs
 
-new-requires : tie.Need-new-requires
-new-requires c κs = search needs
+unready-requires : tie.Need-unready-requires
+unready-requires c κs = search needs
+
+returns : tie.Need-returns
+unfolding commandVerdict isInvalid isUnready isDenied isUnsupported isBusy isAbsent losesErrors changeOf namesVcpu switchesAt vcpuOf enables enableAt eventOf takesEvent allowsEvent uncatchable heldByHost
+returns c = c .unready .ensures ∙ rw (← c .before .before .before .before .before .before .before .before .load16 .ensures, ← c .before .before .before .before .before .before .before .load162 .ensures, ← c .before .before .before .before .before .before .byte .ensures, ← c .before .before .before .before .before .of-vcpu-event .ensures, and-true, ← c .before .before .before .before .is-malformed .ensures, ← c .before .before .before .is-vcpu-event .ensures) (simp (or-false, not-true (c .before .before .before .before .before .before .before .before .before .before .args .facts .ready) (c .before .if1 .taken)))
+
+returns-2 : tie.Need-returns-2
+unfolding commandVerdict isInvalid isUnready isDenied isUnsupported isBusy isAbsent losesErrors changeOf namesVcpu switchesAt vcpuOf enables enableAt eventOf takesEvent allowsEvent uncatchable heldByHost
+returns-2 c = rw (← c .before .before .before .before .before .before .before .before .load16 .ensures, ← c .before .before .before .before .before .before .before .load162 .ensures, ← c .before .before .before .before .before .before .byte .ensures, ← c .before .before .before .before .before .of-vcpu-event .ensures, and-true, ← c .before .before .before .before .is-malformed .ensures, ← c .before .before .before .is-vcpu-event .ensures) (simp (or-false, c .if2 .taken))
 
 allows-event-requires : tie.Need-allows-event-requires
 allows-event-requires c κs = search needs
 
+returns-3 : tie.Need-returns-3
+unfolding commandVerdict isInvalid isUnready isDenied isUnsupported isBusy isAbsent losesErrors changeOf namesVcpu switchesAt vcpuOf enables enableAt eventOf takesEvent allowsEvent uncatchable heldByHost
+returns-3 c = rw (← c .before .before .before .before .before .before .before .before .before .before .load16 .ensures, ← c .before .before .before .before .before .before .before .before .before .load162 .ensures, ← c .before .before .before .before .before .before .before .before .byte .ensures, ← c .before .before .before .before .before .before .before .of-vcpu-event .ensures, and-true, ← c .before .before .before .before .before .before .is-malformed .ensures, ← c .before .before .before .before .before .is-vcpu-event .ensures, ← c .before .allows-event .ensures) (simp (or-false, c .before .before .if2 .left, not-false (c .before .before .before .before .before .before .before .before .before .before .before .before .args .facts .ready) (c .before .before .before .if1 .left), not-true (c .before .allows-event .result) (c .if3 .taken)))
+
 is-set-requires : tie.Need-is-set-requires
 is-set-requires c κs = search needs
+
+returns-4 : tie.Need-returns-4
+unfolding commandVerdict isInvalid isUnready isDenied isUnsupported isBusy isAbsent losesErrors changeOf namesVcpu switchesAt vcpuOf enables enableAt eventOf takesEvent allowsEvent uncatchable heldByHost
+returns-4 c = rw (← c .before .before .before .before .before .before .before .before .before .before .before .before .load16 .ensures, ← c .before .before .before .before .before .before .before .before .before .before .before .load162 .ensures, ← c .before .before .before .before .before .before .before .before .before .before .byte .ensures, ← c .before .before .before .before .before .before .before .before .before .of-vcpu-event .ensures, and-true, ← c .before .before .before .before .before .before .before .before .is-malformed .ensures, ← c .before .before .before .before .before .before .before .is-vcpu-event .ensures, ← c .before .before .before .allows-event .ensures, ← c .before .is-set .ensures) (simp (or-false, c .before .before .before .before .if2 .left, not-false (c .before .before .before .before .before .before .before .before .before .before .before .before .before .before .args .facts .ready) (c .before .before .before .before .before .if1 .left), not-false (c .before .before .before .allows-event .result) (c .before .before .if3 .left), c .if4 .taken))
 
 is-set-requires-2 : tie.Need-is-set-requires-2
 is-set-requires-2 c κs = search needs
 
-cast-t15 : tie.Need-cast-t15
-cast-t15 c = search needs
+returns-5 : tie.Need-returns-5
+unfolding commandVerdict isInvalid isUnready isDenied isUnsupported isBusy isAbsent losesErrors changeOf namesVcpu switchesAt vcpuOf enables enableAt eventOf takesEvent allowsEvent uncatchable heldByHost
+returns-5 c = rw (← c .before .before .before .before .before .before .before .before .before .before .before .before .before .before .load16 .ensures, ← c .before .before .before .before .before .before .before .before .before .before .before .before .before .load162 .ensures, ← c .before .before .before .before .before .before .before .before .before .before .before .before .byte .ensures, ← c .before .before .before .before .before .before .before .before .before .before .before .of-vcpu-event .ensures, and-true, ← c .before .before .before .before .before .before .before .before .before .before .is-malformed .ensures, ← c .before .before .before .before .before .before .before .before .before .is-vcpu-event .ensures, ← c .before .before .before .before .before .allows-event .ensures, ← c .before .before .before .is-set .ensures, ← c .before .is-set2 .ensures) (simp (c .before .before .before .before .before .before .if2 .left, not-false (c .before .before .before .before .before .before .before .before .before .before .before .before .before .before .before .before .args .facts .ready) (c .before .before .before .before .before .before .before .if1 .left), not-false (c .before .before .before .before .before .allows-event .result) (c .before .before .before .before .if3 .left), c .before .before .if4 .left, c .if5 .taken))
 
-decide-requires : tie.Need-decide-requires
-decide-requires c κs = search needs
+cast-t16 : tie.Need-cast-t16
+cast-t16 c = search needs
 
-returns : tie.Need-returns
-unfolding commandVerdict isInvalid isUnready isDenied isUnsupported isBusy isAbsent losesErrors changeOf decided namesVcpu switchesAt vcpuOf eventOf takesEvent enables enableAt allowsEvent uncatchable heldByHost
-returns c =
-    c .decide .ensures ∙ rw (c .before .before .before .before .new .ensures, ← c .before .before .before .before .before .before .before .before .before .before .before .load16 .ensures, ← c .before .before .before .before .before .before .before .before .before .before .load162 .ensures, ← c .before .before .before .before .before .before .before .before .before .byte .ensures, ← c .before .before .before .before .before .before .before .before .of-vcpu-event .ensures, and-true, ← c .before .before .before .before .before .before .before .is-malformed .ensures, ← c .before .before .before .before .before .before .is-vcpu-event .ensures, ← c .before .before .before .allows-event .ensures, ← c .before .before .is-set .ensures, ← c .before .is-set2 .ensures) (simp or-false)
+returns-6 : tie.Need-returns-6
+unfolding commandVerdict isInvalid isUnready isDenied isUnsupported isBusy isAbsent losesErrors changeOf namesVcpu switchesAt vcpuOf enables enableAt eventOf takesEvent allowsEvent uncatchable heldByHost
+returns-6 c = rw (← c .before .before .before .before .before .before .before .before .before .before .before .before .before .before .load16 .ensures, ← c .before .before .before .before .before .before .before .before .before .before .before .before .before .load162 .ensures, ← c .before .before .before .before .before .before .before .before .before .before .before .before .byte .ensures, ← c .before .before .before .before .before .before .before .before .before .before .before .of-vcpu-event .ensures, and-true, ← c .before .before .before .before .before .before .before .before .before .before .is-malformed .ensures, ← c .before .before .before .before .before .before .before .before .before .is-vcpu-event .ensures, ← c .before .before .before .before .before .allows-event .ensures, ← c .before .before .before .is-set .ensures, ← c .before .is-set2 .ensures) (simp (c .before .before .before .before .before .before .if2 .left, not-false (c .before .before .before .before .before .before .before .before .before .before .before .before .before .before .before .before .args .facts .ready) (c .before .before .before .before .before .before .before .if1 .left), not-false (c .before .before .before .before .before .allows-event .result) (c .before .before .before .before .if3 .left), c .before .before .if4 .left, c .if5 .left))
 
 pub control-vcpu-events-spec : {M : Type 1} → statement M
 control-vcpu-events-spec =
@@ -60,10 +76,14 @@ control-vcpu-events-spec =
     of-vcpu-event-requires
     is-malformed-requires
     is-vcpu-event-requires
-    new-requires
+    unready-requires
+    returns
+    returns-2
     allows-event-requires
+    returns-3
     is-set-requires
+    returns-4
     is-set-requires-2
-    cast-t15
-    decide-requires
-    returns)
+    returns-5
+    cast-t16
+    returns-6)
