@@ -1,8 +1,8 @@
 // The filter as hosts in C and Rust call it (include/semblurick.h). The host owns a session, a small struct, and its two tables; each call is lent
 // them, moves them and gives the answer's number. What is done is a function of `calls` on the session by value; the exported function copies the
 // session out of the reference, calls that function, and stores back what the call can change: a ready mark what the tools share; an entry the next
-// event's seq; a message the session that `message::session_after` makes, only where something moved; a beginning all of it. They are the raw calls:
-// the header has calls over a struct of session and tables beside them, by these.
+// event's seq; a message, only where something moved and number by number, all but the settings of the session that `message::session_after` makes; a
+// beginning all of it. They are the raw calls: the header has calls over a struct of session and tables beside them, by these.
 use calls::ResultWords;
 use lookup::PageNumbers;
 use page_words::PageWords;
@@ -67,7 +67,13 @@ pub extern "C" fn semblurick_raw_message(
 {
     let d = calls::message(*s, vcpus, pages, msg, out, guest, result);
     if d.moved != 0 {
-        *s = message::session_after(*s, d.moved, d.value);
+        let after = message::session_after(*s, d.moved, d.value);
+        s.tool.events = after.tool.events;
+        s.tool.pages = after.tool.pages;
+        s.tool.opened = after.tool.opened;
+        s.tool.mode = after.tool.mode;
+        s.tool.seq = after.tool.seq;
+        s.shared = after.shared;
     }
     d.code
 }

@@ -4,9 +4,10 @@ use mathlib.Core.Bool.{Bool, true, false, cond}
 use Prim.Native.Nat.{ℕ, zero, suc, _≤_}
 use native.Mathlib.Omega.{arith}
 use lib.Dec.{eqb}
+use Rattle.kvmi.specs.declared.Settings.{Settings}
 use Rattle.session.specs.declared.Session.{Session}
 use Rattle.session.specs.declared.Tool.{Tool}
-use Rattle.session.specs.State.{withTool}
+use Rattle.session.specs.State.{withSettings, withTool}
 use Rattle.change.specs.Effect.{toolAfter}
 use Rattle.message.specs.Moves.{andSeq, seqTaken, sessionAfter}
 
@@ -39,3 +40,12 @@ seq-of t x y z false false false e f g = refl
 pub seq-stays : (t : Tool) (moved value : ℕ) → toolAfter t moved value .seq ≡ t .seq
 unfolding toolAfter
 seq-stays t moved value = seq-of t _ _ _ (eqb moved 1) (eqb moved 2) (eqb moved 3) refl refl refl
+
+-- nor are the settings moved
+kept : (t : Settings) (b : Bool) (x y : Session) → x ≡ withSettings x t → y ≡ withSettings y t → cond b x y ≡ withSettings (cond b x y) t
+kept t true x y e f = e
+kept t false x y e f = f
+
+pub settings-stay : (s : Session) (moved value : ℕ) → sessionAfter s moved value ≡ withSettings (sessionAfter s moved value) (s .settings)
+unfolding sessionAfter
+settings-stay s moved value = kept (s .settings) (eqb moved 8) _ _ refl refl
