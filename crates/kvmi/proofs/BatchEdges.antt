@@ -14,6 +14,7 @@ use Rattle.kvmi.specs.Model.{Awaited, Model, fresh, closedModel, withMod
 use Rattle.kvmi.specs.Reply.{messageBytes}
 use Rattle.kvmi.specs.Image.{image}
 use Rattle.kvmi.specs.Call.{Call, message, ready}
+use Rattle.kvmi.specs.Feed.{unfed}
 use Rattle.kvmi.specs.Batch.{Batch, batchStep, usedOn}
 use Rattle.kvmi.specs.Case.{Start, anew, fromBytes, standing, End, unbegun, ended, endOf, two, page, vcpuHeader, physical, flagData, registerData, reply, c0, c22, vm, vc, en, freshImage, readyImage}
 use Rattle.kvmi.proofs.Edge.{Beside, besideOf, sized, lent, naming, eventData, modeData, answerData, to15, c11, c1000, vmOf, idle, joined, failBytes, beside, nobody, awaitsOf, quiet, shut, over}
@@ -304,7 +305,7 @@ abbrev pub sentBoth : List ℕ → Lends → Says → List ℕ → List (Option 
 sentBoth input l t signals awaited = from two (fromBytes both) (offer 0 cr3 (lent 576) ∷ offer 1 efer (lent 576) ∷ []) input l t [] signals both (beside On 2 awaited)
 
 abbrev pub resumesCr3 : Signal
-resumesCr3 = Resume 0 0 0x1122334455667788
+resumesCr3 = Resume 0 0 0x1122334455667788 unfed
 
 abbrev pub kickAndResume : BatchEdge
 kickAndResume =
@@ -320,11 +321,11 @@ resumeEdges =
     -- with no place left it is not taken
     ∷ sentEvent cr3 (pauses 0 1 ++ answers cr3 0) (lends 4200 1) (did 0 24 16 1) (reply 9 c0) (257 ∷ []) (asking cr3 1) (beside On 1 (waits 0 cr3))
     -- a retry; of the last vCPU
-    ∷ sentEvent breakpoint (answers breakpoint 1 ++ version) (lends 4112 1) (resumed 24 0 0 (Resume 0 1 0)) [] [] (asking breakpoint 0) (beside On 1 nobody)
-    ∷ from (sized 16 1) (fromBytes sixteen) (offer 15 hypercall (lent 576) ∷ []) (messageBytes 16 0 (replyTo hypercall 15 0) ++ version) (lends 4112 1) (resumed 24 0 0 (Resume 15 0 0)) [] [] sixteen (waitsNone 1)
+    ∷ sentEvent breakpoint (answers breakpoint 1 ++ version) (lends 4112 1) (resumed 24 0 0 (Resume 0 1 0 unfed)) [] [] (asking breakpoint 0) (beside On 1 nobody)
+    ∷ from (sized 16 1) (fromBytes sixteen) (offer 15 hypercall (lent 576) ∷ []) (messageBytes 16 0 (replyTo hypercall 15 0) ++ version) (lends 4112 1) (resumed 24 0 0 (Resume 15 0 0 unfed)) [] [] sixteen (waitsNone 1)
     -- of two the first; a crash before it, which goes on
     ∷ sentBoth (answers cr3 0 ++ messageBytes 16 1 (replyTo efer 1 0)) (lends 4112 1) (resumed 32 0 0 resumesCr3) [] (none ∷ awaitsOf 9 1 ∷ [])
-    ∷ sentBoth (answers cr3 2 ++ messageBytes 16 1 (replyTo efer 1 0)) (lends 4112 2) (resumed 64 0 1 (Resume 1 0 0x8807060504030201)) (512 ∷ []) nobody
+    ∷ sentBoth (answers cr3 2 ++ messageBytes 16 1 (replyTo efer 1 0)) (lends 4112 2) (resumed 64 0 1 (Resume 1 0 0x8807060504030201 unfed)) (512 ∷ []) nobody
     -- it is not handed back a second time
     ∷ from two (fromBytes (asking cr3 0)) (offer 0 cr3 (lent 576) ∷ message (answers cr3 0) (lent 4112) [] ∷ []) version (lends 4112 1) (did 0 8 32 0) versionBytes [] (asking cr3 0) (beside On 1 nobody)
     ∷ []

@@ -13,7 +13,8 @@ use Rattle.kvmi.specs.Tables.{isCr, crBit, vmEventOn, eventOn, crOn, msr
 use Rattle.kvmi.specs.Model.{nextSeq}
 use Rattle.kvmi.specs.Message.{layoutOf, sizeFits, namesVcpu, vcpuOf, enableAt, enables, switchesAt, eventOf, registerOf, gpaOf, sizeOf, countOf, countFits, viewOf, entryOf, entriesOf, entryPadding, padding, firstNonZero, firstOfRuns, firstPadding, isVmEvent, isVcpuEvent, takesEvent}
 use Rattle.kvmi.specs.Event.{eventRowOf, offerFits, asksFor, isAskedFor}
-use Rattle.kvmi.specs.Verdict.{isAccess, takesAccess, inOnePage, isInvalid, isUnready, isDenied, isUnsupported, isBusy, pageExists, isAbsent, changeOf, losesErrors, commandVerdict, isAwaited, replyFits, eventReplyVerdict, verdict}
+use Rattle.kvmi.specs.Feed.{keptOf, contextFits, wantsBytes, inContext, pageExists, pageFeed, chosenFeed, feedOf}
+use Rattle.kvmi.specs.Verdict.{isAccess, takesAccess, inOnePage, isInvalid, isUnready, isDenied, isUnsupported, isBusy, isAbsent, changeOf, losesErrors, commandVerdict, isAwaited, replyFits, eventReplyVerdict, verdict}
 use Rattle.kvmi.specs.Change.{isSkipped, setPage, takeEntry, takeEntries, setMsr, apply}
 use Rattle.kvmi.specs.Reply.{messageBytes, replyBytes, replyData, eventBytes, pauseEvent, commandErrorEvent, answerBytes, answerSeq, answerOf}
 use Rattle.kvmi.specs.Record.{kindAt}
@@ -25,6 +26,7 @@ use Rattle.kvmi.proofs.Edge.{Edge, outcome}
 use Rattle.kvmi.proofs.MessageEdges.{ofMessages, paddings, paddingsSeen}
 use Rattle.kvmi.proofs.SessionEdges.{ofSessions, lookups, lookupsSeen, edgeLooks, edgeLooksSeen, edgeSets, edgeSetsSeen, accesses, accessesSeen, skips, skipsSeen}
 use Rattle.kvmi.proofs.EventEdges.{ofEvents}
+use Rattle.kvmi.proofs.FaultEdges.{ofFaults, ofFaultBatches, faultCalls, faultCallsSeen}
 use Rattle.kvmi.proofs.ImageEdges.{ofImages, pageLimitLoads, pageLimitSeen}
 use Rattle.kvmi.proofs.ExecuteOnlyEdges.{ofExecuteOnly, limitsLoad, limitsSeen}
 use Rattle.kvmi.proofs.BatchEdges.{BatchEdge, batchOutcome, usedAt, ofBatches, batchCalls, batchCallsSeen}
@@ -38,9 +40,9 @@ As-expected es = map outcome es ≡ map (λ (e : Edge). e .expected) es
 abbrev In-one-write : List BatchEdge → Type 0
 In-one-write es = map batchOutcome es ≡ map (λ (e : BatchEdge). some (e .expected)) es
 
-computed : Right cases × As-expected ofMessages × As-expected ofSessions × As-expected ofEvents × As-expected ofImages × As-expected ofExecuteOnly × In-one-write ofBatches × (batchCalls ≡ batchCallsSeen)
-unfolding le num load store isWhole headerOf twos codeBytes bitOf isOn putBit bitsHave writeRow readRow inRange isSet allowsCommand allowsEvent canSinglestep uncatchable heldByHost hasExecuteOnly isCr crBit msrPlace isMsr nextSeq layoutOf sizeFits namesVcpu vcpuOf enableAt enables switchesAt eventOf registerOf gpaOf sizeOf countOf countFits viewOf entryOf entriesOf entryPadding padding firstNonZero firstOfRuns firstPadding isVmEvent isVcpuEvent takesEvent vmEventOn eventOn crOn msrIn msrOn eventRowOf offerFits asksFor isAskedFor isAccess takesAccess inOnePage isInvalid isUnready isDenied isUnsupported isBusy pageExists isAbsent changeOf losesErrors commandVerdict isAwaited replyFits eventReplyVerdict verdict isSkipped setPage takeEntry takeEntries setMsr apply messageBytes replyBytes replyData eventBytes pauseEvent commandErrorEvent answerBytes answerSeq answerOf kindAt image vmForm isIdle vcForm msForm paForm vmMay mayEnable vcMay paMay loadImage beginFresh beginFrom answering judged headed messageStep readyStep sending pausing dequeuing entering enterStep imageStep step nextLength refusalOf goesOn turnOf turnsOf batchBy usedIn usedBy batchStep usedOn seen outcome batchOutcome usedAt
-computed = (refl, refl, refl, refl, refl, refl, refl, refl)
+computed : Right cases × As-expected ofMessages × As-expected ofSessions × As-expected ofEvents × As-expected ofImages × As-expected ofExecuteOnly × In-one-write ofBatches × (batchCalls ≡ batchCallsSeen) × As-expected ofFaults × In-one-write ofFaultBatches × (faultCalls ≡ faultCallsSeen)
+unfolding le num load store isWhole headerOf twos codeBytes bitOf isOn putBit bitsHave writeRow readRow inRange isSet allowsCommand allowsEvent canSinglestep uncatchable heldByHost hasExecuteOnly isCr crBit msrPlace isMsr nextSeq layoutOf sizeFits namesVcpu vcpuOf enableAt enables switchesAt eventOf registerOf gpaOf sizeOf countOf countFits viewOf entryOf entriesOf entryPadding padding firstNonZero firstOfRuns firstPadding isVmEvent isVcpuEvent takesEvent vmEventOn eventOn crOn msrIn msrOn accessIn access eventRowOf offerFits asksFor isAskedFor isAccess takesAccess inOnePage isInvalid isUnready isDenied isUnsupported isBusy keptOf contextFits wantsBytes inContext pageExists pageFeed chosenFeed feedOf isAbsent changeOf losesErrors commandVerdict isAwaited replyFits eventReplyVerdict verdict isSkipped setPage takeEntry takeEntries setMsr apply messageBytes replyBytes replyData eventBytes pauseEvent commandErrorEvent answerBytes answerSeq answerOf kindAt image vmForm isIdle vcForm msForm paForm vmMay mayEnable vcMay paMay loadImage beginFresh beginFrom answering judged headed messageStep readyStep sending pausing dequeuing entering enterStep imageStep step nextLength refusalOf goesOn turnOf turnsOf batchBy usedIn usedBy batchStep usedOn seen outcome batchOutcome usedAt
+computed = (refl, refl, refl, refl, refl, refl, refl, refl, refl, refl, refl)
 
 pub cases-right : Right cases
 cases-right = computed .0
@@ -65,6 +67,15 @@ of-batches-right = computed .6
 
 pub batch-calls-right : batchCalls ≡ batchCallsSeen
 batch-calls-right = computed .7
+
+pub of-faults-right : As-expected ofFaults
+of-faults-right = computed .8
+
+pub of-fault-batches-right : In-one-write ofFaultBatches
+of-fault-batches-right = computed .9
+
+pub fault-calls-right : faultCalls ≡ faultCallsSeen
+fault-calls-right = computed .10
 
 -- the skip rule
 pub skips-right : skips ≡ skipsSeen

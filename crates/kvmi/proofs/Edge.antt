@@ -1,7 +1,7 @@
 -- Edges that a wrong reading would get wrong. An edge is a row as in `Case`, seen whole: its last call's answer, all of its output and guest memory,
 -- the image of the tables after it, and what stands beside them. Here are rows and what they are made of; the rows themselves are in
--- `MessageEdges`, `SessionEdges`, `EventEdges`, `ImageEdges` and `ExecuteOnlyEdges`; those of several messages in one write, which have a form of their
--- own, in `BatchEdges`.
+-- `MessageEdges`, `SessionEdges`, `EventEdges`, `ImageEdges`, `ExecuteOnlyEdges` and `FaultEdges`; those of several messages in one write,
+-- which have a form of their own, in `BatchEdges` and `FaultEdges`.
 use Prim.Native.Nat.{ℕ, _-_, _^_}
 use mathlib.Core.List.{List, [], _∷_, _++_}
 use mathlib.Core.Bool.{Bool, true, false}
@@ -13,6 +13,7 @@ use Rattle.kvmi.specs.declared.ReplyMode.{ReplyMode}
 use Rattle.kvmi.specs.declared.ReplyMode.the-variants.{On}
 use Rattle.kvmi.specs.declared.Signal.the-variants.{Quiet}
 use Rattle.kvmi.specs.Answer.{Paper, handled, plain}
+use Rattle.kvmi.specs.Feed.{noFault}
 use Rattle.kvmi.specs.Model.{Awaited, awaiting, Model}
 use Rattle.kvmi.specs.Reply.{messageBytes}
 use Rattle.kvmi.specs.Image.{image}
@@ -209,7 +210,7 @@ nobody = none ∷ none ∷ []
 
 -- an event's reply, by event and seq; a pause event's
 abbrev pub awaitsOf : ℕ → ℕ → Option Awaited
-awaitsOf event seq = some (awaiting event seq)
+awaitsOf event seq = some (awaiting event seq noFault)
 
 abbrev pub awaits : ℕ → Option Awaited
 awaits seq = awaitsOf 2 seq

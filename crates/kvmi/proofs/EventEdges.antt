@@ -8,6 +8,7 @@ use Rattle.wire.specs.Bytes.{le}
 use Rattle.kvmi.specs.declared.ReplyMode.{ReplyMode}
 use Rattle.kvmi.specs.declared.ReplyMode.the-variants.{On, Off, ErrorsOnly}
 use Rattle.kvmi.specs.declared.Signal.the-variants.{Quiet, Crash, Resume}
+use Rattle.kvmi.specs.Feed.{unfed}
 use Rattle.kvmi.specs.Answer.{handled, plain}
 use Rattle.kvmi.specs.Tables.{withReady, withEvents}
 use Rattle.kvmi.specs.Model.{Awaited, fresh, withSeq, onVcpu}
@@ -158,7 +159,7 @@ offerEdges =
     ++ joined (map (λ (e : Event). misfit e (e .own ++ (0 ∷ []))) events) ++ joined (map (λ (e : Event). misfit e (drop 1 (e .own))) (detailed ++ valued))
     -- other numbers, with every switch on, none cut to its low bytes; and 0 with bytes
     ++ map (λ number. unfit (all 3) number []) (1 ∷ 2 ∷ 6 ∷ 10 ∷ 13 ∷ 15 ∷ 16 ∷ 255 ∷ 0x103 ∷ 0x10003 ∷ [])
-    ++ map (λ number. unfit (all 3) number (crOwn 3)) (10 ∷ 0x10005 ∷ 0x100000005 ∷ [])
+    ++ map (λ number. unfit (all 3) number (crOwn 3)) (0x10005 ∷ 0x100000005 ∷ [])
     ++ map (λ own. unfit (all 3) 0 own) ((0 ∷ []) ∷ crOwn 3 ∷ [])
 
 -- ---- the register that an event names
@@ -248,7 +249,7 @@ closesBy d e = sent e (sendAs 0 16 (d e) ∷ []) closing
 -- one behind other calls is taken; the image and the reply mode after it
 abbrev pub resumesBehind : List Call → List ℕ → ReplyMode → ℕ → Event → Edge
 resumesBehind calls image mode action e =
-    sent e (calls ++ (sendAs 0 16 (replyTo e 0 action) ∷ [])) (told (handled 0 (Resume 0 action (e .value))) [] image (beside mode 1 nobody))
+    sent e (calls ++ (sendAs 0 16 (replyTo e 0 action) ∷ [])) (told (handled 0 (Resume 0 action (e .value) unfed)) [] image (beside mode 1 nobody))
 
 abbrev pub resumes : ℕ → Event → Edge
 resumes action e = resumesBehind [] (asking e 0) On action e
@@ -282,8 +283,8 @@ eventReplyEdges =
     ++ map (wrong 0) (take 23 (replyTo cr3 0 0) ∷ (replyTo cr3 0 0 ++ (0 ∷ [])) ∷ answerData 0 0 3 ∷ [])
     ++ (sent cr3 (sendAs 0 16 (replyTo cr3 0 0) ∷ sendAs 0 16 (replyTo cr3 0 0) ∷ []) closing
     -- any new value
-    ∷ sent cr3 (sendAs 0 16 (answerData 0 0 5 ++ replicate 8 0) ∷ []) (told (handled 0 (Resume 0 0 0)) [] (asking cr3 0) (beside On 1 nobody))
-    ∷ sent cr3 (sendAs 0 16 (answerData 0 0 5 ++ replicate 8 0xFF) ∷ []) (told (handled 0 (Resume 0 0 0xFFFFFFFFFFFFFFFF)) [] (asking cr3 0) (beside On 1 nobody))
+    ∷ sent cr3 (sendAs 0 16 (answerData 0 0 5 ++ replicate 8 0) ∷ []) (told (handled 0 (Resume 0 0 0 unfed)) [] (asking cr3 0) (beside On 1 nobody))
+    ∷ sent cr3 (sendAs 0 16 (answerData 0 0 5 ++ replicate 8 0xFF) ∷ []) (told (handled 0 (Resume 0 0 0xFFFFFFFFFFFFFFFF unfed)) [] (asking cr3 0) (beside On 1 nobody))
     -- a switch turned off since does not matter, nor does the reply mode
     ∷ resumesBehind (controlEvent 0 5 0 ∷ []) (vm ++ vc 0 1 2 0 0 ++ idle 1 ++ en 3) On 0 cr3
     ∷ resumesBehind (controlCr 0 3 0 ∷ []) (vm ++ vc 0 1 0 0x20 0 ++ idle 1 ++ en 3) On 0 cr3
@@ -328,9 +329,9 @@ sequenceEdges =
     born [] (gave (handled 552 Quiet) (offered 0 1 createVcpu) (lent 580) newborn (beside On 1 (none ∷ awaitsOf 12 0 ∷ [])))
     ∷ born (enters 1 ∷ []) (gave (plain 6) [] (lent 576) newborn (beside On 1 (none ∷ awaitsOf 12 0 ∷ [])))
     ∷ born (writeImage (lent 34) ∷ []) (gave (plain 10) [] (lent 34) newborn (beside On 1 (none ∷ awaitsOf 12 0 ∷ [])))
-    ∷ born (sendAs 0 16 (replyTo createVcpu 1 0) ∷ []) (told (handled 0 (Resume 1 0 0)) [] newborn (beside On 1 nobody))
+    ∷ born (sendAs 0 16 (replyTo createVcpu 1 0) ∷ []) (told (handled 0 (Resume 1 0 0 unfed)) [] newborn (beside On 1 nobody))
     ∷ born (sendAs 0 16 (replyTo createVcpu 1 2) ∷ []) (told (handled 0 (Crash 1)) [] newborn (beside On 1 nobody))
-    ∷ born (ready 1 ∷ sendAs 0 16 (replyTo createVcpu 1 0) ∷ []) (told (handled 0 (Resume 1 0 0)) [] (vmHas 0x1000 ++ idle 0 ++ vc 1 1 0 0 0 ++ en 3) (beside On 1 nobody))
+    ∷ born (ready 1 ∷ sendAs 0 16 (replyTo createVcpu 1 0) ∷ []) (told (handled 0 (Resume 1 0 0 unfed)) [] (vmHas 0x1000 ++ idle 0 ++ vc 1 1 0 0 0 ++ en 3) (beside On 1 nobody))
     ∷ born (message [] out page ∷ []) closing
     -- SINGLESTEP asks for no feature
     ∷ started (equipped 0 1 0) (fromBytes (asking stepped 0)) (offer 0 stepped (lent 576) ∷ []) (gave (handled 560 Quiet) (offered 0 0 stepped) (lent 576) (asking stepped 0) (beside On 1 (waits 0 stepped)))
@@ -345,17 +346,17 @@ sequenceEdges =
     ∷ sent cr3 (ready 1 ∷ pause 1 ∷ enters 1 ∷ []) (gave (handled 552 Quiet) (pauseBytes 1 1) (lent 576) (vm ++ vc 0 1 2 0x20 0 ++ vc 1 1 0 0 0 ++ en 3) (beside On 2 (awaitsOf 5 0 ∷ awaits 1 ∷ [])))
     -- of two that are awaited, the one that is meant
     ∷ bothSent [] (gave (handled 576 Quiet) (offered 1 1 efer) [] both (beside On 2 (awaitsOf 5 0 ∷ awaitsOf 9 1 ∷ [])))
-    ∷ bothSent (sendAs 1 16 (replyTo efer 1 0) ∷ []) (told (handled 0 (Resume 1 0 (efer .value))) [] both (beside On 2 (awaitsOf 5 0 ∷ none ∷ [])))
+    ∷ bothSent (sendAs 1 16 (replyTo efer 1 0) ∷ []) (told (handled 0 (Resume 1 0 (efer .value) unfed)) [] both (beside On 2 (awaitsOf 5 0 ∷ none ∷ [])))
     ∷ bothSent (sendAs 0 16 (replyTo cr3 0 2) ∷ []) (told (handled 0 (Crash 0)) [] both (beside On 2 (none ∷ awaitsOf 9 1 ∷ [])))
     ∷ bothSent (sendAs 0 16 (replyTo efer 1 0) ∷ []) closing
     ∷ bothSent (sendAs 1 16 (replyTo cr3 1 0) ∷ []) closing
     -- of the last vCPU
     ∷ started (sized 16 1) (fromBytes sixteen) (offer 15 hypercall (lent 576) ∷ []) (gave (handled 552 Quiet) (offered 0 15 hypercall) (lent 576) sixteen (beside On 1 (replicate 15 none ++ (awaitsOf 3 0 ∷ []))))
-    ∷ started (sized 16 1) (fromBytes sixteen) (offer 15 hypercall (lent 576) ∷ sendAs 0 16 (replyTo hypercall 15 0) ∷ []) (told (handled 0 (Resume 15 0 0)) [] sixteen (beside On 1 (replicate 16 none)))
+    ∷ started (sized 16 1) (fromBytes sixteen) (offer 15 hypercall (lent 576) ∷ sendAs 0 16 (replyTo hypercall 15 0) ∷ []) (told (handled 0 (Resume 15 0 0 unfed)) [] sixteen (beside On 1 (replicate 16 none)))
     -- the seq has four bytes, and goes from 4,294,967,295 to 0
     ∷ hypercallAt 0x04030201 [] (gave (handled 552 Quiet) (17 ∷ 0 ∷ 0x20 ∷ 2 ∷ 1 ∷ 2 ∷ 3 ∷ 4 ∷ 0x20 ∷ 2 ∷ 0 ∷ 0 ∷ 3 ∷ 0 ∷ 0 ∷ 0 ∷ registers) (lent 576) (asking hypercall 0) (beside On 0x04030202 (waits 0x04030201 hypercall)))
     ∷ hypercallAt 0xFFFFFFFF [] (gave (handled 552 Quiet) (offered 0xFFFFFFFF 0 hypercall) (lent 576) (asking hypercall 0) (beside On 0 (waits 0xFFFFFFFF hypercall)))
-    ∷ hypercallAt 0xFFFFFFFF (sendAs 0xFFFFFFFF 16 (replyTo hypercall 0 0) ∷ []) (told (handled 0 (Resume 0 0 0)) [] (asking hypercall 0) (beside On 0 nobody))
+    ∷ hypercallAt 0xFFFFFFFF (sendAs 0xFFFFFFFF 16 (replyTo hypercall 0 0) ∷ []) (told (handled 0 (Resume 0 0 0 unfed)) [] (asking hypercall 0) (beside On 0 nobody))
     ∷ []
 
 abbrev pub ofEvents : List Edge

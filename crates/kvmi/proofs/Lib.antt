@@ -8,3 +8,4 @@ mod EventEdges
 mod ImageEdges
 mod ExecuteOnlyEdges
 mod BatchEdges
+mod FaultEdges

@@ -1,20 +1,29 @@
--- "Host answers": document 01's number and values of each case of an answer.
+-- "Host answers": document 01's number and values of each case of an answer, and W5's 12, which is a message's that was taken.
 use Prim.Native.Nat.{ℕ}
+use mathlib.Core.Bool.{Bool, false, cond}
+use lib.Dec.{eqb}
 use Rattle.kvmi.specs.declared.Answer.{Answer}
 use Rattle.kvmi.specs.declared.Answer.the-variants.{Handled, Closing, Closed, ShortOut, BadVcpu, BadState, Waiting, BadSettings, BadForm, Forbidden, Busy, NotApplicable}
 use Rattle.kvmi.specs.declared.Signal.{Signal}
-use Rattle.kvmi.specs.declared.Signal.the-variants.{Quiet}
+use Rattle.kvmi.specs.declared.Signal.the-variants.{Quiet, Kick, Crash, Resume}
 
--- number, count of bytes written, signal (none, kick(vCPU, wait), crash(vCPU), and W1's resume(vCPU, action, value)), offset; what an answer has none of is 0 or none
+-- number, count of bytes written, signal (none, kick(vCPU, wait), crash(vCPU), and W1's resume(vCPU, action, value), with W5's bytes), offset; what an answer has none of is 0 or none
 pub record Paper : Type 0 where
   pub number : ℕ
   pub count : ℕ
   pub signal : Signal
   pub offset : ℕ
 
--- answer 0
+-- W5: "a continue that needs the guest page where none exists"
+abbrev pub lacksPage : Signal → Bool
+lacksPage Quiet = false
+lacksPage (Kick wait vcpu) = false
+lacksPage (Crash vcpu) = false
+lacksPage (Resume vcpu action value feed) = eqb (feed .source) 3
+
+-- answer 0; W5: such a continue "is answer 12 and hands back no bytes, all else as under answer 0"
 abbrev pub handled : ℕ → Signal → Paper
-handled n g = record { number = 0; count = n; signal = g; offset = 0 }
+handled n g = record { number = cond (lacksPage g) 12 0; count = n; signal = g; offset = 0 }
 
 -- the answers with no values
 abbrev pub plain : ℕ → Paper

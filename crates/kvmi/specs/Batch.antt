@@ -7,6 +7,7 @@ use lib.ListN.{length, take, drop}
 use lib.Dec.{leb, ltb, eqb}
 use Rattle.wire.specs.Bytes.{load, store}
 use Rattle.kvmi.specs.declared.Settings.{Settings}
+use Rattle.kvmi.specs.declared.Feed.{Feed}
 use Rattle.kvmi.specs.declared.Signal.{Signal}
 use Rattle.kvmi.specs.declared.Signal.the-variants.{Quiet, Kick, Crash, Resume}
 use Rattle.kvmi.specs.Bits.{bit}
@@ -39,20 +40,24 @@ abbrev pub listedAs : Signal → List ℕ
 listedAs Quiet = []
 listedAs (Kick wait vcpu) = (256 + 2 * vcpu + bit wait) ∷ []
 listedAs (Crash vcpu) = (512 + vcpu) ∷ []
-listedAs (Resume vcpu action value) = []
+listedAs (Resume vcpu action value feed) = []
+
+-- the bytes that feed a vCPU, of a message that begins at a byte of the input: W5's "part of one of the two buffers" is then one of the input
+abbrev pub feedIn : ℕ → Feed → Feed
+feedIn start f = record { source = f .source; at = cond (eqb (f .source) 1) (start + f .at) (f .at); length = f .length }
 
 -- "A resume is handed back beside the list": of any other signal nothing is
-abbrev pub resumeOf : Signal → Signal
-resumeOf Quiet = Quiet
-resumeOf (Kick wait vcpu) = Quiet
-resumeOf (Crash vcpu) = Quiet
-resumeOf (Resume vcpu action value) = Resume vcpu action value
+abbrev pub resumeOf : ℕ → Signal → Signal
+resumeOf start Quiet = Quiet
+resumeOf start (Kick wait vcpu) = Quiet
+resumeOf start (Crash vcpu) = Quiet
+resumeOf start (Resume vcpu action value feed) = Resume vcpu action value (feedIn start feed)
 
 abbrev pub isResume : Signal → Bool
 isResume Quiet = false
 isResume (Kick wait vcpu) = false
 isResume (Crash vcpu) = false
-isResume (Resume vcpu action value) = true
+isResume (Resume vcpu action value feed) = true
 
 -- ---- how far a batch is, or where it ended
 pub record Batch (A : Type 0) : Type 0 where
@@ -80,7 +85,7 @@ unfoldable pub refusalOf : Bool → ℕ → ℕ → ℕ
 refusalOf closed out signals = cond closed 2 (cond (ltb out leastOut) 3 (cond (eqb signals 0) 11 0))
 
 -- "A resume is handed back beside the list and ends the batch. Else it goes on unless a message closes or, before one, under 4,112 output bytes or no
--- list place remain". A refusal and a closing message have a number that is not 0.
+-- list place remain". A refusal and a closing message have a number that is not 0, and so has W5's 12, which "ends a batch with that answer".
 unfoldable pub goesOn : {A : Type 0} → List ℕ → Batch A → Bool
 goesOn input b =
     eqb (b .number) 0 && not (isResume (b .resume)) && ltb (b .used) (length input) && leb leastOut (length (b .out) - b .count)
@@ -103,7 +108,7 @@ counted b n r =
       used = b .used + n;
       count = b .count + r .answer .count;
       listed = b .listed + length (listedAs (r .answer .signal));
-      resume = resumeOf (r .answer .signal);
+      resume = resumeOf (b .used) (r .answer .signal);
       state = r .state;
       out = take (b .count) (b .out) ++ r .out;
       signals = store (b .signals) (b .listed) (listedAs (r .answer .signal));

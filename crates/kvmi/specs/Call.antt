@@ -24,6 +24,7 @@ use Rattle.kvmi.specs.Tables.{Tables, vcpuAt, withReady, withPauses}
 use Rattle.kvmi.specs.Model.{Awaited, awaiting, Model, begun, fresh, closedModel, withSeq, setAwaited, awaitedBy, onVcpu, nextSeq, isSome}
 use Rattle.kvmi.specs.Message.{layoutOf, vcpuOf}
 use Rattle.kvmi.specs.Event.{offerFits, isAskedFor}
+use Rattle.kvmi.specs.Feed.{Fault, noFault, keptOf}
 use Rattle.kvmi.specs.Verdict.{verdict, factsOf}
 use Rattle.kvmi.specs.Change.{apply, signalOf, modeFor}
 use Rattle.kvmi.specs.Reply.{replyData, eventBytes, pauseEvent, answerOf, answerSeq}
@@ -44,7 +45,7 @@ unchanged k m out guest = record { answer = plain k; out = out; guest = guest; m
 abbrev pub closing : Settings → List ℕ → List ℕ → Step
 closing s out guest = record { answer = plain 1; out = out; guest = guest; model = closedModel s }
 
--- answer 0 with bytes written; "output past the count is untouched"
+-- answer 0 (or 12, which is as 0) with bytes written; "output past the count is untouched"
 abbrev pub writing : List ℕ → Signal → List ℕ → List ℕ → Model → Step
 writing bytes g out guest m = record { answer = handled (length bytes) g; out = bytes ++ drop (length bytes) out; guest = guest; model = m }
 
@@ -115,19 +116,19 @@ readyStep s m vcpu =
     (writing [] Quiet [] [] (onVcpu m vcpu (λ v. withReady v true))))
 
 -- ---- "Entry of a vCPU into the guest": "2, 4, 5, 3, 6"
--- an event that was sent with the next seq. W1: "The awaited record now holds which event it is"
-abbrev pub awaitingReply : Model → ℕ → ℕ → Model
-awaitingReply m vcpu event = withSeq (setAwaited m vcpu (some (awaiting event (m .seq)))) (nextSeq (m .seq))
+-- an event that was sent with the next seq. W1: "The awaited record now holds which event it is"; of W5's page fault what its reply asks for
+abbrev pub awaitingReply : Model → ℕ → ℕ → Fault → Model
+awaitingReply m vcpu event fault = withSeq (setAwaited m vcpu (some (awaiting event (m .seq) fault))) (nextSeq (m .seq))
 
 -- the offered event goes out
 unfoldable pub sending : Model → ℕ → List ℕ → ℕ → List ℕ → List ℕ → Step
-sending m vcpu state event own out = writing (eventBytes (m .seq) vcpu event state own) Quiet out [] (awaitingReply m vcpu event)
+sending m vcpu state event own out = writing (eventBytes (m .seq) vcpu event state own) Quiet out [] (awaitingReply m vcpu event (keptOf event own))
 
 -- "with a pause queued, writes the pause event (552 bytes), one pause less, reply awaited"
 unfoldable pub pausing : Model → ℕ → List ℕ → List ℕ → Step
 pausing m vcpu state out =
     writing (pauseEvent (m .seq) vcpu state) Quiet out []
-    (awaitingReply (onVcpu m vcpu (λ v. withPauses v (v .pauses - 1))) vcpu 2)
+    (awaitingReply (onVcpu m vcpu (λ v. withPauses v (v .pauses - 1))) vcpu 2 noFault)
 
 -- "else 0 bytes"
 unfoldable pub dequeuing : Model → ℕ → List ℕ → List ℕ → Step

@@ -10,6 +10,7 @@ use lib.Dec.{leb, eqb}
 use Rattle.wire.specs.Bytes.{store}
 use Rattle.msrs.specs.Place.{isMsr}
 use Rattle.kvmi.specs.declared.ReplyMode.{ReplyMode}
+use Rattle.kvmi.specs.declared.Feed.{Feed}
 use Rattle.kvmi.specs.declared.Signal.{Signal}
 use Rattle.kvmi.specs.declared.Signal.the-variants.{Quiet, Kick, Crash, Resume}
 use Rattle.kvmi.specs.declared.Change.{Change}
@@ -87,13 +88,13 @@ apply m guest d (SetPages view count) =
     appliedRun m guest (takeEntries pageLimit view (entriesOf count (drop 8 d)) (record { pages = m .tables .pages; skipped = false }))
 apply m guest d (SetSinglestep on vcpu) = applied (onVcpu m vcpu (λ v. withSinglestep v on)) guest
 apply m guest d (SetReplies now mode) = applied (withMode m mode) guest
-apply m guest d (EndWait resumes vcpu action value) = applied (setAwaited m vcpu none) guest
+apply m guest d (EndWait resumes vcpu action value feed) = applied (setAwaited m vcpu none) guest
 
 -- ---- what else a change decides
 -- of an event's reply: "A crash is signalled; the session stays open."; W1: "Such a continue or retry, unlike a pause's, is signalled as
--- resume(vCPU, action, new value or 0)."
-abbrev pub replySignal : Bool → ℕ → ℕ → ℕ → Signal
-replySignal resumes vcpu action value = cond (eqb action 2) (Crash vcpu) (cond resumes (Resume vcpu action value) Quiet)
+-- resume(vCPU, action, new value or 0)."; W5's bytes go with it
+abbrev pub replySignal : Bool → ℕ → ℕ → ℕ → Feed → Signal
+replySignal resumes vcpu action value feed = cond (eqb action 2) (Crash vcpu) (cond resumes (Resume vcpu action value feed) Quiet)
 
 -- "signal: none, kick(vCPU, wait), crash(vCPU)", and resume: a kick for message 9
 abbrev pub signalOf : Change → Signal
@@ -107,7 +108,7 @@ signalOf (SetMsr on vcpu msr) = Quiet
 signalOf (SetPages view count) = Quiet
 signalOf (SetSinglestep on vcpu) = Quiet
 signalOf (SetReplies now mode) = Quiet
-signalOf (EndWait resumes vcpu action value) = replySignal resumes vcpu action value
+signalOf (EndWait resumes vcpu action value feed) = replySignal resumes vcpu action value feed
 
 -- the mode by which a message is answered: "message 15 with now 1 applies to its own reply, with now 0 from the next message"
 abbrev pub modeFor : ReplyMode → Change → ReplyMode
@@ -121,4 +122,4 @@ modeFor old (SetMsr on vcpu msr) = old
 modeFor old (SetPages view count) = old
 modeFor old (SetSinglestep on vcpu) = old
 modeFor old (SetReplies now mode) = cond now mode old
-modeFor old (EndWait resumes vcpu action value) = old
+modeFor old (EndWait resumes vcpu action value feed) = old

@@ -7,8 +7,9 @@ pub mod Codes
 pub mod Mode
 pub mod Answer
 pub mod Tables
-pub mod Model
 pub mod Message
+pub mod Feed
+pub mod Model
 pub mod Event
 pub mod Verdict
 pub mod Change

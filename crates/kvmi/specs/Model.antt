@@ -9,15 +9,18 @@ use Rattle.kvmi.specs.declared.Settings.{Settings}
 use Rattle.kvmi.specs.declared.ReplyMode.{ReplyMode}
 use Rattle.kvmi.specs.declared.ReplyMode.the-variants.{On}
 use Rattle.kvmi.specs.Tables.{Vcpu, Tables, emptyTables, vcpuAt, setVcpu}
+use Rattle.kvmi.specs.Feed.{Fault}
 
 -- an event that was sent and whose reply has not come
 pub record Awaited : Type 0 where
   pub event : ℕ
   pub seq : ℕ
+  -- what is kept of a page fault
+  pub fault : Fault
 
 -- one with its seq
-abbrev pub awaiting : ℕ → ℕ → Awaited
-awaiting event seq = record { event = event; seq = seq }
+abbrev pub awaiting : ℕ → ℕ → Fault → Awaited
+awaiting event seq fault = record { event = event; seq = seq; fault = fault }
 
 -- "Beside the standing: the reply mode, the next event seq, each vCPU's awaited event, and whether closed."
 pub record Model : Type 0 where

@@ -1,5 +1,5 @@
 -- "What is tested first": tests 2 to 6 of a message with a whole header, in their order, and the rule of EVENT_REPLY.
-use Prim.Native.Nat.{ℕ, _+_, _*_, _/_, _%_}
+use Prim.Native.Nat.{ℕ, _+_, _%_}
 use mathlib.Core.List.{List, [], _∷_}
 use mathlib.Core.Bool.{Bool, true, false, cond, not, _&&_, _||_}
 use mathlib.Core.Option.{Option, none, some}
@@ -22,7 +22,11 @@ use Rattle.kvmi.specs.Settings.{allowsCommand, allowsEvent, canSingleste
 use Rattle.kvmi.specs.Tables.{isCr, vcpuAt}
 use Rattle.kvmi.specs.Model.{Awaited, Model, awaitedBy}
 use Rattle.kvmi.specs.declared.EventRow.{EventRow}
-use Rattle.kvmi.specs.Event.{eventRowOf, takesAction, newValue}
+use Rattle.kvmi.specs.declared.Feed.{Feed}
+use Rattle.kvmi.specs.declared.ReplyForm.{ReplyForm}
+use Rattle.kvmi.specs.declared.ReplyForm.the-variants.{Plain, NewValue, Context}
+use Rattle.kvmi.specs.Event.{eventRowOf, takesAction, formFits, valueOf}
+use Rattle.kvmi.specs.Feed.{Fault, noFault, unfed, pageExists, feedOf}
 use Rattle.kvmi.specs.Message.{layoutOf, sizeFits, carriesData, namesVcpu, vcpuOf, commandOf, enables, isNow, hasFlag, actionOf, repliedEvent, switchesAt, eventOf, registerOf, gpaOf, sizeOf, countOf, countFits, viewOf, Entry, entriesOf, firstPadding, takesEvent}
 
 -- the event that a vCPU awaits a reply to, 0 for none, and its seq
@@ -34,6 +38,11 @@ abbrev pub awaitedSeq : Option Awaited → ℕ
 awaitedSeq none = 0
 awaitedSeq (some a) = a .seq
 
+-- and what is kept of a page fault
+abbrev pub awaitedFault : Option Awaited → Fault
+awaitedFault none = noFault
+awaitedFault (some a) = a .fault
+
 -- what the tests ask of the model, for the vCPU that the message names
 abbrev pub factsOf : Model → ℕ → ℕ → Facts
 factsOf m guest vcpu =
@@ -44,6 +53,9 @@ factsOf m guest vcpu =
       pauses = vcpuAt (m .tables) vcpu .pauses;
       awaited = awaitedEvent (awaitedBy m vcpu);
       seq = awaitedSeq (awaitedBy m vcpu);
+      gva = awaitedFault (awaitedBy m vcpu) .gva;
+      gpa = awaitedFault (awaitedBy m vcpu) .gpa;
+      access = awaitedFault (awaitedBy m vcpu) .access;
     }
 
 -- "replies on"
@@ -97,10 +109,6 @@ isUnsupported s id d = eqb id 14 && not (canSinglestep s) || eqb id 10 && enable
 unfoldable pub isBusy : Settings → Facts → ℕ → List ℕ → Bool
 isBusy s f id d = eqb id 10 && enables id d && heldByHost s (eventOf id d) || eqb id 9 && leb pauseLimit (f .pauses)
 
--- "a page (4,096 bytes) exists if it lies wholly inside"
-unfoldable pub pageExists : ℕ → ℕ → Bool
-pageExists guest gpa = leb ((gpa / 4096 + 1) * 4096) guest
-
 -- -2 ENOENT
 unfoldable pub isAbsent : Facts → ℕ → List ℕ → Bool
 isAbsent f id d = among id (6 ∷ 7 ∷ []) && not (pageExists (f .guest) (gpaOf d))
@@ -143,20 +151,28 @@ commandVerdict s f id d =
     (cond (losesErrors s id d) Closes (Does (changeOf id d))))))))
 
 -- ---- "An EVENT_REPLY closes unless padding is zero, the vCPU awaits one, seq and event match, and the action is 0 continue or 2 crash";
--- W1: "Replies carry 24 data bytes for CR and MSR [..], and 16 otherwise", "Retry is taken for BREAKPOINT and DESCRIPTOR only", "a wrong reply closes"
+-- W1: "Replies carry 24 data bytes for CR and MSR [..], and 16 otherwise", "Retry is taken for BREAKPOINT and DESCRIPTOR only", "a wrong reply closes"; W5: "288
+-- data bytes", "context size above 256 or rep flag above 1 closes"
 unfoldable pub isAwaited : Facts → ℕ → ℕ → Bool
 isAwaited f seq event = not (eqb (f .awaited) 0) && eqb (f .seq) seq && eqb (f .awaited) event
 
--- its size and its action are those of the awaited event's row
+-- its size, its action and what it has behind its first 16 bytes are as the awaited event's row says
 unfoldable pub replyFits : EventRow → List ℕ → Bool
-replyFits r d = eqb (length d) (r .reply) && takesAction r (actionOf d)
+replyFits r d = eqb (length d) (r .reply) && takesAction r (actionOf d) && formFits (r .form) d
+
+-- W5: "the host wants the bytes to feed the instruction"
+abbrev pub feedBy : ReplyForm → Facts → List ℕ → Feed
+feedBy Plain f d = unfed
+feedBy NewValue f d = unfed
+feedBy Context f d = feedOf f d
 
 -- "Once taken, it is awaited no more. A crash is signalled"; W1: "Such a continue or retry, unlike a
 -- pause's, is signalled": a pause is event 2
 unfoldable pub eventReplyVerdict : Facts → ℕ → List ℕ → Verdict
 eventReplyVerdict f seq d =
     cond (eqb (firstPadding 16 d) 0 && isAwaited f seq (repliedEvent d) && replyFits (eventRowOf (f .awaited)) d)
-    (Does (EndWait (not (eqb (f .awaited) 2)) (vcpuOf d) (actionOf d) (newValue (eventRowOf (f .awaited)) d)))
+    (Does
+    (EndWait (not (eqb (f .awaited) 2)) (vcpuOf d) (actionOf d) (valueOf (eventRowOf (f .awaited) .form) d) (feedBy (eventRowOf (f .awaited) .form) f d)))
     Closes
 
 -- ---- tests 2 to 6

@@ -1,10 +1,12 @@
-// The makers of answer 0, and the values of any answer. No other place writes them out.
+// The makers of answer 0 (12, where a resume lacks its page), and the values of any answer. No other place writes them out.
 use crate::Answer;
+use crate::Feed;
 use crate::Signal;
 use crate::Values;
 ghost use mathlib.Core.Path.{_≡_};
 ghost use Rattle.kvmi.specs.declared.Signal.the-variants.{Quiet};
-ghost use Rattle.kvmi.specs.Answer.{paper, handled};
+ghost use Rattle.kvmi.specs.Answer.{paper, handled, lacksPage};
+ghost use Rattle.kvmi.specs.Feed.{unfed};
 
 // Bytes written, and something for the host to do.
 pub fn signalled(count: usize, signal: Signal) -> Answer
@@ -54,5 +56,40 @@ pub fn values(a: Answer) -> Values
         Answer::Forbidden { offset: _ } => quiet(),
         Answer::Busy => quiet(),
         Answer::NotApplicable => quiet(),
+    }
+}
+
+// The sources of the bytes that feed a resumed vCPU: its message, guest memory; and that there is no such guest page.
+pub const MESSAGE: u32 = 1;
+
+pub const GUEST: u32 = 2;
+
+pub const MISSING: u32 = 3;
+
+// No bytes are wanted.
+pub fn unfed() -> Feed
+    ensures { λ r. ⌜ r ≡ unfed ⌝ }
+{
+    Feed {
+        source: 0,
+        at: 0,
+        length: 0,
+    }
+}
+
+// Whether a resume lacks the guest page that was to feed it: answer 12.
+pub fn lacks_page(signal: Signal) -> bool
+    ensures { λ r. ⌜ r ≡ lacksPage signal ⌝ }
+{
+    match signal {
+        Signal::Quiet => false,
+        Signal::Kick { wait: _, vcpu: _ } => false,
+        Signal::Crash { vcpu: _ } => false,
+        Signal::Resume {
+            vcpu: _,
+            action: _,
+            value: _,
+            feed,
+        } => feed.source == MISSING,
     }
 }

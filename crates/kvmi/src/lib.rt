@@ -40,13 +40,33 @@ pub enum ReplyMode {
 // 16, 32 and 64 bits. So a place in memory has one width whatever the variant, and the compiler keeps all of it in registers.
 pub enum Signal {
     Quiet,
-    Kick { wait: bool, vcpu: u16 },
-    Crash { vcpu: u16 },
-    // A vCPU goes on from an event that it was offered: 0 continue or 1 retry, and the register's new value or 0.
-    Resume { vcpu: u16, action: u32, value: u64 },
+    Kick {
+        wait: bool,
+        vcpu: u16,
+    },
+    Crash {
+        vcpu: u16,
+    },
+    // A vCPU goes on from an event that it was offered: 0 continue or 1 retry, the register's new value, a page fault's rep flag or 0, and the bytes that
+    // feed the instruction.
+    Resume {
+        vcpu: u16,
+        action: u32,
+        value: u64,
+        feed: Feed,
+    },
 }
 
-// The values of answer 0: what the host is to do, and how many bytes were written. The count stands last: a store of its own width ends
+// The bytes that feed an instruction whose read a page fault stopped, on a continue: those that the tool supplied, a part of its message, or the guest
+// page's, a part of guest memory; where in it they begin, and how many they are.
+pub struct Feed {
+    pub at: u64,
+    pub length: u32,
+    // 0 none are wanted, 1 the message, 2 guest memory, 3 they are the guest page's, and the guest has no such page.
+    pub source: u32,
+}
+
+// The values of answers 0 and 12: what the host is to do, and how many bytes were written. The count stands last: a store of its own width ends
 // each answer with values, so that the compiler keeps answers in registers.
 pub struct Values {
     pub signal: Signal,
@@ -117,7 +137,8 @@ pub struct Layout {
     pub handler: Handler,
 }
 
-// The switch that an event asks for before it is sent: the VM's, the vCPU's, or the vCPU's and that of the register that its bytes name.
+// The switch that an event asks for before it is sent: the VM's, the vCPU's, or the vCPU's and that of the register, or a guard on the page, that its
+// bytes name.
 pub enum EventSwitch {
     // An entry is not offered it.
     Unoffered,
@@ -127,20 +148,29 @@ pub enum EventSwitch {
     OfVcpu,
     OfCr,
     OfMsr,
+    OfPage,
 }
 
-// A row of the table of events: the switch that it asks for, whether its reply may be a retry and has a value, how many bytes it has of its own
+// What the reply to an event has behind its first 16 data bytes: nothing, the new value of a register, or the context of a page fault.
+pub enum ReplyForm {
+    Plain,
+    NewValue,
+    Context,
+}
+
+// A row of the table of events: the switch that it asks for, whether its reply may be a retry and what form it has, how many bytes it has of its own
 // behind the state block, and how many data bytes its reply has.
 pub struct EventRow {
     pub switch: EventSwitch,
+    pub form: ReplyForm,
     pub retry: bool,
-    pub valued: bool,
     pub own: usize,
     pub reply: usize,
 }
 
 // What the tests of a message ask of the session: the reply mode, how many bytes of guest memory are lent, and what stands
-// for the vCPU that the message names: its ready mark, queued pauses, the event whose reply it awaits (0: none) and that event's seq.
+// for the vCPU that the message names: its ready mark, queued pauses, the event whose reply it awaits (0: none), that event's seq, and of a page fault
+// its addresses and access.
 pub struct Facts {
     pub mode: ReplyMode,
     pub guest: usize,
@@ -148,6 +178,9 @@ pub struct Facts {
     pub pauses: u64,
     pub awaited: u64,
     pub seq: u64,
+    pub gva: u64,
+    pub gpa: u64,
+    pub access: u64,
 }
 
 // What a message that passes all tests changes. The fields are in the order that stands at `Signal`.
@@ -191,12 +224,13 @@ pub enum Change {
         now: bool,
         mode: ReplyMode,
     },
-    // An event's reply is taken: whether its continue or retry is signalled, and what it says.
+    // An event's reply is taken: whether its continue or retry is signalled, what it says, and the bytes that it feeds.
     EndWait {
         resumes: bool,
         vcpu: u16,
         action: u32,
         value: u64,
+        feed: Feed,
     },
 }
 

@@ -12,7 +12,8 @@ ghost use Rattle.kvmi.specs.Bits.{isOn, among};
 ghost use Rattle.kvmi.specs.Settings.{isSet, hasExecuteOnly};
 ghost use Rattle.kvmi.specs.Tables.{isCr};
 ghost use Rattle.kvmi.specs.Message.{sizeFits, carriesData, isVmEvent, isVcpuEvent};
-ghost use Rattle.kvmi.specs.Verdict.{repliesOn, takesAccess, inOnePage, pageExists, modeOf};
+ghost use Rattle.kvmi.specs.Verdict.{repliesOn, takesAccess, inOnePage, modeOf};
+ghost use Rattle.kvmi.specs.Feed.{pageExists};
 ghost use Rattle.tests.specs.Known.{isKnown};
 
 // ---- numbers

@@ -1,7 +1,8 @@
 -- What stands against reading or writing guest memory.
 use Prim.Native.Nat.{ℕ}
 use mathlib.Core.Bool.{false, not}
-use Rattle.kvmi.specs.Verdict.{inOnePage, pageExists}
+use Rattle.kvmi.specs.Verdict.{inOnePage}
+use Rattle.kvmi.specs.Feed.{pageExists}
 use Rattle.causes.specs.declared.Causes.{Causes}
 
 -- of messages 6 and 7: the page, and whether it is lent

@@ -1,7 +1,7 @@
 -- The end of a page is inside exactly where its number is below that of whole pages. Assumes nothing.
 use Prim.Native.Nat.{suc, _+_, _*_, _/_}
 use native.Mathlib.Omega.{arith}
-use Rattle.kvmi.specs.Verdict.{pageExists}
+use Rattle.kvmi.specs.Feed.{pageExists}
 use Rattle.tests.proofs.Alike.{leb-alike}
 use Rattle.tests.proofs.page_exists.Statement.{statement}
 use Rattle.tests.proofs.page_exists.Tie as tie

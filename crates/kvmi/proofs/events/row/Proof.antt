@@ -8,21 +8,21 @@ use Rattle.kvmi.proofs.events.row.Tie as tie
 
 -- a number that has no row of its own
 abbrev Unlisted : ℕ → Type 0
-Unlisted e = ((((((((((Unit {0} × (e ≡ 0 → ⊥)) × (e ≡ 2 → ⊥)) × (e ≡ 3 → ⊥)) × (e ≡ 4 → ⊥)) × (e ≡ 5 → ⊥)) × (e ≡ 7 → ⊥)) × (e ≡ 8 → ⊥)) × (e ≡ 9 → ⊥)) × (e ≡ 11 → ⊥)) × (e ≡ 12 → ⊥)) × (e ≡ 14 → ⊥)
+Unlisted e = (((((((((((Unit {0} × (e ≡ 0 → ⊥)) × (e ≡ 2 → ⊥)) × (e ≡ 3 → ⊥)) × (e ≡ 4 → ⊥)) × (e ≡ 5 → ⊥)) × (e ≡ 7 → ⊥)) × (e ≡ 8 → ⊥)) × (e ≡ 9 → ⊥)) × (e ≡ 10 → ⊥)) × (e ≡ 11 → ⊥)) × (e ≡ 12 → ⊥)) × (e ≡ 14 → ⊥)
 
 unlisted : (e : ℕ) → Unlisted e → eventRowOf e ≡ unoffered
 unfolding eventRowOf
-unlisted zero h = absurd (h .0 .0 .0 .0 .0 .0 .0 .0 .0 .0 .1 refl)
+unlisted zero h = absurd (h .0 .0 .0 .0 .0 .0 .0 .0 .0 .0 .0 .1 refl)
 unlisted (suc (zero)) h = refl
-unlisted (suc (suc (zero))) h = absurd (h .0 .0 .0 .0 .0 .0 .0 .0 .0 .1 refl)
-unlisted (suc (suc (suc (zero)))) h = absurd (h .0 .0 .0 .0 .0 .0 .0 .0 .1 refl)
-unlisted (suc (suc (suc (suc (zero))))) h = absurd (h .0 .0 .0 .0 .0 .0 .0 .1 refl)
-unlisted (suc (suc (suc (suc (suc (zero)))))) h = absurd (h .0 .0 .0 .0 .0 .0 .1 refl)
+unlisted (suc (suc (zero))) h = absurd (h .0 .0 .0 .0 .0 .0 .0 .0 .0 .0 .1 refl)
+unlisted (suc (suc (suc (zero)))) h = absurd (h .0 .0 .0 .0 .0 .0 .0 .0 .0 .1 refl)
+unlisted (suc (suc (suc (suc (zero))))) h = absurd (h .0 .0 .0 .0 .0 .0 .0 .0 .1 refl)
+unlisted (suc (suc (suc (suc (suc (zero)))))) h = absurd (h .0 .0 .0 .0 .0 .0 .0 .1 refl)
 unlisted (suc (suc (suc (suc (suc (suc (zero))))))) h = refl
-unlisted (suc (suc (suc (suc (suc (suc (suc (zero)))))))) h = absurd (h .0 .0 .0 .0 .0 .1 refl)
-unlisted (suc (suc (suc (suc (suc (suc (suc (suc (zero))))))))) h = absurd (h .0 .0 .0 .0 .1 refl)
-unlisted (suc (suc (suc (suc (suc (suc (suc (suc (suc (zero)))))))))) h = absurd (h .0 .0 .0 .1 refl)
-unlisted (suc (suc (suc (suc (suc (suc (suc (suc (suc (suc (zero))))))))))) h = refl
+unlisted (suc (suc (suc (suc (suc (suc (suc (zero)))))))) h = absurd (h .0 .0 .0 .0 .0 .0 .1 refl)
+unlisted (suc (suc (suc (suc (suc (suc (suc (suc (zero))))))))) h = absurd (h .0 .0 .0 .0 .0 .1 refl)
+unlisted (suc (suc (suc (suc (suc (suc (suc (suc (suc (zero)))))))))) h = absurd (h .0 .0 .0 .0 .1 refl)
+unlisted (suc (suc (suc (suc (suc (suc (suc (suc (suc (suc (zero))))))))))) h = absurd (h .0 .0 .0 .1 refl)
 unlisted (suc (suc (suc (suc (suc (suc (suc (suc (suc (suc (suc (zero)))))))))))) h = absurd (h .0 .0 .1 refl)
 unlisted (suc (suc (suc (suc (suc (suc (suc (suc (suc (suc (suc (suc (zero))))))))))))) h = absurd (h .0 .1 refl)
 unlisted (suc (suc (suc (suc (suc (suc (suc (suc (suc (suc (suc (suc (suc (zero)))))))))))))) h = refl
@@ -65,6 +65,9 @@ plain-requires-6 c κs = search needs
 row-of-requires-6 : tie.Need-row-of-requires-6
 row-of-requires-6 c κs = search needs
 
+row-of-requires-7 : tie.Need-row-of-requires-7
+row-of-requires-7 c κs = search needs
+
 returns : tie.Need-returns
 unfolding eventRowOf
 returns c = rw (c .before .match .keys1) (c .row-of .ensures)
@@ -99,18 +102,22 @@ returns-8 c = rw (c .before .match .keys8) (c .row-of5 .ensures)
 
 returns-9 : tie.Need-returns-9
 unfolding eventRowOf
-returns-9 c = rw (c .before .match .keys9) (c .plain4 .ensures)
+returns-9 c = rw (c .before .match .keys9) (c .row-of6 .ensures)
 
 returns-10 : tie.Need-returns-10
 unfolding eventRowOf
-returns-10 c = rw (c .before .match .keys10) (c .plain5 .ensures)
+returns-10 c = rw (c .before .match .keys10) (c .plain4 .ensures)
 
 returns-11 : tie.Need-returns-11
 unfolding eventRowOf
-returns-11 c = rw (c .before .match .keys11) (c .plain6 .ensures)
+returns-11 c = rw (c .before .match .keys11) (c .plain5 .ensures)
 
 returns-12 : tie.Need-returns-12
-returns-12 c = c .row-of6 .ensures ∙ sym (unlisted _ (c .before .match .rest))
+unfolding eventRowOf
+returns-12 c = rw (c .before .match .keys12) (c .plain6 .ensures)
+
+returns-13 : tie.Need-returns-13
+returns-13 c = c .row-of7 .ensures ∙ sym (unlisted _ (c .before .match .rest))
 
 pub row-spec : {M : Type 1} → statement M
 row-spec =
@@ -124,10 +131,11 @@ row-spec =
     plain-requires-3
     row-of-requires-4
     row-of-requires-5
+    row-of-requires-6
     plain-requires-4
     plain-requires-5
     plain-requires-6
-    row-of-requires-6
+    row-of-requires-7
     returns
     returns-2
     returns-3
@@ -139,4 +147,5 @@ row-spec =
     returns-9
     returns-10
     returns-11
-    returns-12)
+    returns-12
+    returns-13)
