@@ -8,7 +8,7 @@ use Rattle.kvmi.specs.Bits.{bit, isOn}
 use Rattle.kvmi.specs.Settings.{isSet}
 use Rattle.kvmi.specs.Tables.{Page, isCr, crBit}
 use Rattle.store.specs.Words.{field, msrBitOn, SINGLESTEP, CRS, EVENTS, PAUSES, AWAITED}
-use Rattle.page_words.specs.PageWords.{pageWordCount, keyOf, placeOf, standsAt}
+use Rattle.page_words.specs.PageWords.{pageWordCount, keyOf, wordAccess}
 use Rattle.page_words.specs.Meaning.{pageOfWord}
 use Rattle.session.specs.declared.Session.{Session}
 
@@ -52,13 +52,6 @@ lookAwaited s w vcpu = lookField s w vcpu AWAITED
 -- how many stand below rwx: no more than there are words for
 unfoldable pub lookCount : Session → ℕ
 lookCount s = min (s .tool .pages) pageWordCount
-
--- the access of the page with a key among the first `count` words, by bisection; one that has no word stands at rwx
-unfoldable pub wordAccessIn : List ℕ → ℕ → ℕ → ℕ
-wordAccessIn ws count key = cond (standsAt ws count key (placeOf ws count key)) (getD ws (placeOf ws count key) 0 % 8) 7
-
-unfoldable pub wordAccess : List ℕ → ℕ → ℕ → ℕ
-wordAccess ws count key = wordAccessIn ws (min count (length ws)) key
 
 -- no view from 8 on, and no page from 2^52 on, has a word
 unfoldable pub lookAccess : Session → List ℕ → ℕ → ℕ → ℕ

@@ -6,7 +6,7 @@ use page_words::PageWords;
 use session::Session;
 use store::words::VcpuWords;
 ghost use mathlib.Core.Path.{_≡_};
-ghost use Rattle.lookup.specs.Lookup.{lookOpen, lookReady, lookVmEvent, lookField, lookCount, wordAccess, lookAccess, numbersOf, lookPage, lookEvent, lookCr, lookMsr, lookSinglestep, lookPauses, lookAwaited};
+ghost use Rattle.lookup.specs.Lookup.{lookOpen, lookReady, lookVmEvent, lookField, lookCount, lookAccess, numbersOf, lookPage, lookEvent, lookCr, lookMsr, lookSinglestep, lookPauses, lookAwaited};
 
 // How many views a session can have.
 const VIEWS: u32 = 8;
@@ -117,20 +117,6 @@ pub fn page_count(s: Session) -> usize
     wire::smaller(s.tool.pages as usize, page_words::PAGE_WORDS)
 }
 
-// The access of the page with a key among the first `count` words, found by bisection.
-fn word_access(words: &[u64], count: usize, key: u64) -> u32
-    ensures { λ r. ⌜ r ≡ wordAccess (now (words .entry)) count key ⌝ }
-{
-    let at = page_words::place(words, count, key);
-    let word = store::words::word(words, at);
-    if at < wire::smaller(count, words.len()) {
-        if word / 8 == key {
-            return (word % 8) as u32;
-        }
-    }
-    RWX
-}
-
 // The access of a page in a view; one without a record stands at rwx.
 pub fn access(s: Session, pages: &PageWords, view: u32, page: u64) -> u32
     ensures { λ r. ⌜ r ≡ lookAccess s (now (pages .entry)) view page ⌝ }
@@ -141,7 +127,7 @@ pub fn access(s: Session, pages: &PageWords, view: u32, page: u64) -> u32
     if PAGES <= page {
         return RWX;
     }
-    word_access(pages, s.tool.pages as usize, (view as u64) * PAGES + page)
+    page_words::word_access(pages, s.tool.pages as usize, (view as u64) * PAGES + page)
 }
 
 // Page i of those that stand below rwx, in the image's order: its numbers, and its access once more as the result. From their count on, page 0

@@ -34,6 +34,13 @@ placeOf ws count key = bisect count ws key 0 count
 unfoldable pub standsAt : List ℕ → ℕ → ℕ → ℕ → Bool
 standsAt ws count key at = ltb at count && eqb (wordKey (getD ws at 0)) key
 
+-- the access of the page with a key among the first `count` words, by bisection; one that has no word stands at rwx
+unfoldable pub wordAccessIn : List ℕ → ℕ → ℕ → ℕ
+wordAccessIn ws count key = cond (standsAt ws count key (placeOf ws count key)) (getD ws (placeOf ws count key) 0 % 8) 7
+
+unfoldable pub wordAccess : List ℕ → ℕ → ℕ → ℕ
+wordAccess ws count key = wordAccessIn ws (min count (length ws)) key
+
 -- ---- a word more, or less, at a place; what follows it moves by one
 unfoldable pub insertWord : List ℕ → ℕ → ℕ → ℕ → List ℕ
 insertWord ws count at x = take at ws ++ (x ∷ take (count - at) (drop at ws)) ++ drop (count + 1) ws

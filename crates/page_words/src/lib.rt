@@ -6,7 +6,7 @@ ghost use lib.Dec.{ltb};
 ghost use lib.ListN.{length};
 ghost use Rattle.kvmi.specs.Bits.{bit};
 ghost use Rattle.kvmi.specs.Message.{entryOf, entriesOf};
-ghost use Rattle.page_words.specs.PageWords.{wordKey, placeOf, insertWord, removeWord, standsAt, pageTable, changeWord, addWord, nearPlace, nextHint, putEntry, runEntries};
+ghost use Rattle.page_words.specs.PageWords.{wordKey, placeOf, wordAccess, insertWord, removeWord, standsAt, pageTable, changeWord, addWord, nearPlace, nextHint, putEntry, runEntries};
 
 // How many words are lent for the pages.
 pub const PAGE_WORDS: usize = 1024;
@@ -59,6 +59,18 @@ pub fn place(words: &[u64], count: usize, key: u64) -> usize
         len = half - below * (1 - len % 2);
     }
     base
+}
+
+// The access of the page with a key among the first `count` words, found by bisection; one without a word stands at rwx.
+pub fn word_access(words: &[u64], count: usize, key: u64) -> u32
+    ensures { λ r. ⌜ r ≡ wordAccess (now (words .entry)) count key ⌝ }
+{
+    let used = wire::smaller(count, words.len());
+    let at = place(words, count, key);
+    if stands_at(words, used, key, at) {
+        return (words[at] % 8) as u32;
+    }
+    RWX as u32
 }
 
 // A word more at a place: those behind it move up, the last one first.

@@ -9,17 +9,22 @@ use lib.Dec.{eqb}
 use Rattle.kvmi.specs.Settings.{inRange}
 use Rattle.kvmi.specs.Mode.{modeOfNumber}
 use Rattle.kvmi.specs.Tables.{Tables}
+use Rattle.kvmi.specs.Feed.{Fault}
 use Rattle.kvmi.specs.Model.{Awaited, awaiting, Model}
 use Rattle.kvmi.specs.Valid.{Valid}
-use Rattle.store.specs.Words.{field, SINGLESTEP, AWAITED, AWAITED-SEQ, vcpuWordCount}
+use Rattle.store.specs.Words.{field, SINGLESTEP, AWAITED, AWAITED-SEQ, FAULT-GVA, FAULT-GPA, FAULT-ACCESS, vcpuWordCount}
 use Rattle.store.specs.Meaning.{msrsOf, vcpusOf}
 use Rattle.page_words.specs.Meaning.{pagesOf, PagesGood}
 use Rattle.page_words.specs.PageWords.{pageWordCount}
 use Rattle.session.specs.State.{State, isClosed}
 
+-- what is kept of a page fault
+abbrev pub faultIn : List ℕ → ℕ → Fault
+faultIn w i = record { gva = field w i FAULT-GVA; gpa = field w i FAULT-GPA; access = field w i FAULT-ACCESS }
+
 -- the event that a vCPU awaits a reply to; 0 stands for none
 unfoldable pub awaitedIn : List ℕ → ℕ → Option Awaited
-awaitedIn w i = cond (eqb (field w i AWAITED) 0) none (some (awaiting (field w i AWAITED) (field w i AWAITED-SEQ)))
+awaitedIn w i = cond (eqb (field w i AWAITED) 0) none (some (awaiting (field w i AWAITED) (field w i AWAITED-SEQ) (faultIn w i)))
 
 -- those of n vCPUs, from one on
 unfoldable pub awaitedOf : List ℕ → ℕ → ℕ → List (Option Awaited)
@@ -53,10 +58,10 @@ pub record WordsGood (st : State) : Type 0 where
   pub mode : st .session .tool .mode ≤ 2
   pub ready : st .session .shared .ready < 2 ^ st .session .settings .vcpus
   pub pages : PagesGood (st .pages) (st .session .tool .pages)
-  -- singlestep is 0 or 1, no seq stands without an event, and spare fields and the blocks of vCPUs that there are none of are 0
+  -- singlestep is 0 or 1, no seq and nothing of a page fault stands without an event, and spare fields and the blocks of vCPUs that there are none of are 0
   pub flag : (i : ℕ) → field (st .vcpus) i SINGLESTEP ≤ 1
-  pub waits : (i : ℕ) → field (st .vcpus) i AWAITED ≡ 0 → field (st .vcpus) i AWAITED-SEQ ≡ 0
-  pub spare : (i k : ℕ) → 6 ≤ k → k < 16 → field (st .vcpus) i k ≡ 0
+  pub waits : (i k : ℕ) → 4 ≤ k → k < 9 → field (st .vcpus) i AWAITED ≡ 0 → field (st .vcpus) i k ≡ 0
+  pub spare : (i k : ℕ) → 9 ≤ k → k < 16 → field (st .vcpus) i k ≡ 0
   pub past : (j : ℕ) → st .session .settings .vcpus * 272 ≤ j → getD (st .vcpus) j 0 ≡ 0
 
 -- a session that stands for a model with valid tables

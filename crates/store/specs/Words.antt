@@ -10,6 +10,7 @@ use Rattle.msrs.specs.declared.Place.the-variants.{At, None}
 use Rattle.msrs.specs.Place.{msrPlace}
 use Rattle.kvmi.specs.Bits.{isOn, putBit}
 use Rattle.kvmi.specs.Tables.{crBit}
+use Rattle.kvmi.specs.Feed.{Fault, noFault}
 use Rattle.store.specs.declared.words.Pending.{Pending}
 
 -- how many words a vCPU has
@@ -40,6 +41,16 @@ AWAITED = 4
 abbrev pub AWAITED-SEQ : ℕ
 AWAITED-SEQ = 5
 
+-- of a page fault: its addresses and access
+abbrev pub FAULT-GVA : ℕ
+FAULT-GVA = 6
+
+abbrev pub FAULT-GPA : ℕ
+FAULT-GPA = 7
+
+abbrev pub FAULT-ACCESS : ℕ
+FAULT-ACCESS = 8
+
 -- the first word of MSR switches
 abbrev pub MSRS : ℕ
 MSRS = 16
@@ -50,7 +61,15 @@ field w vcpu k = getD w (vcpu * blockWords + k) 0
 
 -- the fields that the tests of a message ask
 abbrev pub pending : List ℕ → ℕ → Pending
-pending w vcpu = record { pauses = field w vcpu PAUSES; awaited = field w vcpu AWAITED; seq = field w vcpu AWAITED-SEQ }
+pending w vcpu =
+    record {
+      pauses = field w vcpu PAUSES;
+      awaited = field w vcpu AWAITED;
+      seq = field w vcpu AWAITED-SEQ;
+      gva = field w vcpu FAULT-GVA;
+      gpa = field w vcpu FAULT-GPA;
+      access = field w vcpu FAULT-ACCESS;
+    }
 
 -- field k of a vCPU set
 unfoldable pub setField : List ℕ → ℕ → ℕ → ℕ → List ℕ
@@ -73,9 +92,13 @@ switchedField w vcpu k bit on = setField w vcpu k (putBit64 (field w vcpu k) bit
 unfoldable pub switchedCr : List ℕ → ℕ → ℕ → Bool → List ℕ
 switchedCr w vcpu cr on = setField w vcpu CRS (putBit (field w vcpu CRS) (crBit cr) on)
 
+-- what is kept of a page fault
+unfoldable pub setFault : List ℕ → ℕ → Fault → List ℕ
+setFault w vcpu f = setField (setField (setField w vcpu FAULT-GVA (f .gva)) vcpu FAULT-GPA (f .gpa)) vcpu FAULT-ACCESS (f .access)
+
 -- no reply awaited any more
 unfoldable pub endedWait : List ℕ → ℕ → List ℕ
-endedWait w vcpu = setField (setField w vcpu AWAITED 0) vcpu AWAITED-SEQ 0
+endedWait w vcpu = setFault (setField (setField w vcpu AWAITED 0) vcpu AWAITED-SEQ 0) vcpu noFault
 
 -- ---- MSR switches
 -- the switch of a place

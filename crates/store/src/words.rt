@@ -4,7 +4,7 @@ use crate::bits::put_cr;
 use msrs::Place;
 ghost use mathlib.Core.Path.{_≡_};
 ghost use lib.ListN.{getD, set};
-ghost use Rattle.store.specs.Words.{field, setField, pending, msrBitOn, setMsrBit, queuedPause, switchedField, switchedCr, endedWait, cleared};
+ghost use Rattle.store.specs.Words.{field, setField, pending, msrBitOn, setMsrBit, queuedPause, switchedField, switchedCr, setFault, endedWait, cleared};
 
 // How many words a vCPU has.
 pub const BLOCK_WORDS: usize = 272;
@@ -14,7 +14,7 @@ pub const VCPU_WORDS: usize = 4352;
 
 pub type VcpuWords = [u64; VCPU_WORDS];
 
-// The plain fields: the switches and queues of a vCPU, and the event whose reply is awaited with its seq.
+// The plain fields: the switches and queues of a vCPU, and the event whose reply is awaited with its seq and, of a page fault, its addresses and access.
 pub const SINGLESTEP: usize = 0;
 
 pub const CRS: usize = 1;
@@ -27,14 +27,24 @@ pub const AWAITED: usize = 4;
 
 pub const AWAITED_SEQ: usize = 5;
 
+pub const FAULT_GVA: usize = 6;
+
+pub const FAULT_GPA: usize = 7;
+
+pub const FAULT_ACCESS: usize = 8;
+
 // The first word of MSR switches.
 pub const MSRS: usize = 16;
 
-// What is pending of a vCPU: how many pauses are queued, and the event whose reply is awaited (0 for none) with its seq.
+// What is pending of a vCPU: how many pauses are queued, and the event whose reply is awaited (0 for none) with its seq and, of a page fault, its
+// addresses and access.
 pub struct Pending {
     pub pauses: u64,
     pub awaited: u64,
     pub seq: u64,
+    pub gva: u64,
+    pub gpa: u64,
+    pub access: u64,
 }
 
 // The word at a place, or 0 past the end.
@@ -69,17 +79,23 @@ pub fn read_pending(words: &[u64], vcpu: u16) -> Pending
     ensures { λ r. ⌜ r ≡ pending (now (words .entry)) vcpu ⌝ }
 {
     let at = (vcpu as usize) * BLOCK_WORDS;
-    if at + AWAITED_SEQ < words.len() {
+    if at + FAULT_ACCESS < words.len() {
         return Pending {
             pauses: words[at + PAUSES],
             awaited: words[at + AWAITED],
             seq: words[at + AWAITED_SEQ],
+            gva: words[at + FAULT_GVA],
+            gpa: words[at + FAULT_GPA],
+            access: words[at + FAULT_ACCESS],
         };
     }
     Pending {
         pauses: read_field(words, vcpu, PAUSES),
         awaited: read_field(words, vcpu, AWAITED),
         seq: read_field(words, vcpu, AWAITED_SEQ),
+        gva: read_field(words, vcpu, FAULT_GVA),
+        gpa: read_field(words, vcpu, FAULT_GPA),
+        access: read_field(words, vcpu, FAULT_ACCESS),
     }
 }
 
@@ -145,12 +161,22 @@ pub fn switch_cr(words: &mut [u64], vcpu: u16, cr: u32, on: bool)
     write_field(words, vcpu, CRS, is);
 }
 
+// What is kept of a page fault.
+pub fn write_fault(words: &mut [u64], vcpu: u16, gva: u64, gpa: u64, access: u64)
+    ensures { λ _. ⌜ now (words .exit) ≡ setFault (now (words .entry)) vcpu (record { gva = gva; gpa = gpa; access = access }) ⌝ }
+{
+    write_field(words, vcpu, FAULT_GVA, gva);
+    write_field(words, vcpu, FAULT_GPA, gpa);
+    write_field(words, vcpu, FAULT_ACCESS, access);
+}
+
 // No reply awaited any more.
 pub fn end_wait(words: &mut [u64], vcpu: u16)
     ensures { λ _. ⌜ now (words .exit) ≡ endedWait (now (words .entry)) vcpu ⌝ }
 {
     write_field(words, vcpu, AWAITED, 0);
     write_field(words, vcpu, AWAITED_SEQ, 0);
+    write_fault(words, vcpu, 0, 0, 0);
 }
 
 // Every word set to 0.
