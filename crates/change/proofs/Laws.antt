@@ -43,7 +43,7 @@ change-keeps st guest d (SetMsr on vcpu msr) = refl
 change-keeps st guest d (SetPages view count) = refl
 change-keeps st guest d (SetSinglestep on vcpu) = refl
 change-keeps st guest d (SetReplies now mode) = refl
-change-keeps st guest d (EndWait resumes vcpu action value) = refl
+change-keeps st guest d (EndWait resumes vcpu action value feed) = refl
 
 -- ---- a change moves one of three numbers, or none
 pub moved-few : (c : Change) → movedBy c ≤ 3
@@ -57,4 +57,4 @@ moved-few (SetMsr on vcpu msr) = omega arith
 moved-few (SetPages view count) = omega arith
 moved-few (SetSinglestep on vcpu) = omega arith
 moved-few (SetReplies now mode) = omega arith
-moved-few (EndWait resumes vcpu action value) = omega arith
+moved-few (EndWait resumes vcpu action value feed) = omega arith

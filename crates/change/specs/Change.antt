@@ -13,7 +13,7 @@ use Rattle.kvmi.specs.Mode.{numberOfMode}
 use Rattle.kvmi.specs.Tables.{crBit}
 use Rattle.kvmi.specs.Message.{entriesOf}
 use Rattle.kvmi.specs.Limits.{pageLimit}
-use Rattle.store.specs.Words.{field, setMsrBit, putBit64, SINGLESTEP, CRS, EVENTS, PAUSES, AWAITED, AWAITED-SEQ}
+use Rattle.store.specs.Words.{field, setMsrBit, putBit64, SINGLESTEP, CRS, EVENTS, PAUSES, endedWait}
 use Rattle.page_words.specs.PageWords.{PageTable, runEntries}
 use Rattle.session.specs.State.{State, state, withTool, withToolEvents, withToolMode, withToolPages, withVcpuWords, withField}
 
@@ -47,4 +47,4 @@ change st guest d (SetPages view count) =
 change st guest d (SetSinglestep on vcpu) = changed (withField st vcpu SINGLESTEP (bit on)) guest
 change st guest d (SetReplies now mode) =
     changed (state (withTool (st .session) (withToolMode (st .session .tool) (numberOfMode mode))) (st .vcpus) (st .pages)) guest
-change st guest d (EndWait resumes vcpu action value) = changed (withField (withField st vcpu AWAITED 0) vcpu AWAITED-SEQ 0) guest
+change st guest d (EndWait resumes vcpu action value feed) = changed (withVcpuWords st (endedWait (st .vcpus) vcpu)) guest

@@ -35,7 +35,7 @@ kindOf (SetMsr on vcpu msr) = CodeOnly
 kindOf (SetPages view count) = CodeOnly
 kindOf (SetSinglestep on vcpu) = CodeOnly
 kindOf (SetReplies now mode) = CodeOnly
-kindOf (EndWait resumes vcpu action value) = Silent
+kindOf (EndWait resumes vcpu action value feed) = Silent
 
 -- which number of the tool a change moves: 1, its VM event switches; 2, how many page words are in use; 3, its reply mode; 0, none
 abbrev pub movedBy : Change → ℕ
@@ -49,7 +49,7 @@ movedBy (SetMsr on vcpu msr) = 0
 movedBy (SetPages view count) = 2
 movedBy (SetSinglestep on vcpu) = 0
 movedBy (SetReplies now mode) = 3
-movedBy (EndWait resumes vcpu action value) = 0
+movedBy (EndWait resumes vcpu action value feed) = 0
 
 -- that number of a tool
 abbrev pub numberOf : Tool → ℕ → ℕ

@@ -1,5 +1,6 @@
 // What a message that passes its tests changes, in the session's numbers and in the lent words and bytes.
 use kvmi::Change;
+use kvmi::Feed;
 use kvmi::ReplyKind;
 use kvmi::Signal;
 use session::Session;
@@ -99,8 +100,8 @@ fn set_pages(tool: Tool, pages: &mut [u64], view: u16, count: u16, d: &[u8]) -> 
 }
 
 // What an event's reply has the host do.
-fn reply_signal(resumes: bool, vcpu: u16, action: u32, value: u64) -> Signal
-    ensures { λ r. ⌜ r ≡ replySignal resumes vcpu action value ⌝ }
+fn reply_signal(resumes: bool, vcpu: u16, action: u32, value: u64, feed: Feed) -> Signal
+    ensures { λ r. ⌜ r ≡ replySignal resumes vcpu action value feed ⌝ }
 {
     if action == 2 {
         return Signal::Crash { vcpu };
@@ -110,6 +111,7 @@ fn reply_signal(resumes: bool, vcpu: u16, action: u32, value: u64) -> Signal
             vcpu,
             action,
             value,
+            feed,
         };
     }
     Signal::Quiet
@@ -177,9 +179,10 @@ pub fn apply(
             vcpu,
             action,
             value,
+            feed,
         } => {
             store::words::end_wait(vcpus, vcpu);
-            let signal = reply_signal(resumes, vcpu, action, value);
+            let signal = reply_signal(resumes, vcpu, action, value, feed);
             still(ReplyKind::Silent, tool.mode, signal)
         }
     }

@@ -9,6 +9,7 @@ pub mod Load
 pub mod Write
 pub mod Verdicts
 pub mod Events
+pub mod Feeds
 pub mod Kept
 pub mod Same
 pub mod Steps

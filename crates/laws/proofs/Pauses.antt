@@ -15,6 +15,7 @@ use Rattle.wire.specs.Header.{headerOf}
 use Rattle.wire.specs.declared.Header.{Header}
 use Rattle.wire.specs.declared.Header.the-variants.{Whole, Broken}
 use Rattle.kvmi.specs.declared.Settings.{Settings}
+use Rattle.kvmi.specs.declared.Feed.{Feed}
 use Rattle.kvmi.specs.declared.Signal.{Signal}
 use Rattle.kvmi.specs.declared.Signal.the-variants.{Quiet, Crash, Resume}
 use Rattle.kvmi.specs.declared.Change.{Change}
@@ -100,14 +101,14 @@ module _ (s : Settings) (vcpu : ℕ) where
       (λ _. pick (Even m guest d) (eqb id 15) _ _ (λ _. add-zero _) (λ _. add-zero _)))))))))
 
   -- the reply to an event kicks no vCPU
-  no-kick : (resumes : Bool) (v action value : ℕ) → kicks vcpu (replySignal resumes v action value) ≡ 0
-  no-kick resumes v action value =
+  no-kick : (resumes : Bool) (v action value : ℕ) (feed : Feed) → kicks vcpu (replySignal resumes v action value feed) ≡ 0
+  no-kick resumes v action value feed =
       pick (λ (g : Signal). kicks vcpu g ≡ 0) (eqb action 2) _ _ (λ _. refl)
-      (λ _. pick (λ (g : Signal). kicks vcpu g ≡ 0) resumes (Resume v action value) Quiet (λ _. refl) (λ _. refl))
+      (λ _. pick (λ (g : Signal). kicks vcpu g ≡ 0) resumes (Resume v action value feed) Quiet (λ _. refl) (λ _. refl))
 
-  end-even : (m : Model) (guest d : List ℕ) (resumes : Bool) (v action value : ℕ) → Even m guest d (EndWait resumes v action value)
+  end-even : (m : Model) (guest d : List ℕ) (resumes : Bool) (v action value : ℕ) (feed : Feed) → Even m guest d (EndWait resumes v action value feed)
   unfolding apply queued
-  end-even m guest d resumes v action value = ap (λ (k : ℕ). queued vcpu m + k) (no-kick resumes v action value) ∙ add-zero _
+  end-even m guest d resumes v action value feed = ap (λ (k : ℕ). queued vcpu m + k) (no-kick resumes v action value feed) ∙ add-zero _
 
   -- each call
   still : (m : Model) (c : Call) (k : ℕ) (out guest : List ℕ) → sent vcpu c (plain k) out ≡ 0 → Balanced vcpu m c (unchanged k m out guest)
@@ -133,7 +134,7 @@ module _ (s : Settings) (vcpu : ℕ) where
           let d = drop 8 msg in
           verdict-cases (λ v. Balanced vcpu m (message msg out guest) (judged s m id seq d out guest v)) s (factsOf m (length guest) (vcpuOf d)) id seq d
           (λ q. absurd (true≢false q)) (λ code _ _. add-zero _ ∙ sym (zero-add _)) (λ p _. change-even m guest d a id p ∙ sym (zero-add _))
-          (λ _ _. end-even m guest d _ (vcpuOf d) _ _ ∙ sym (zero-add _))
+          (λ _ _. end-even m guest d _ (vcpuOf d) _ _ _ ∙ sym (zero-add _))
 
   ready-balanced : (m : Model) (v : ℕ) → Balanced vcpu m (ready v) (readyStep s m v)
   unfolding readyStep accepted sent queued

@@ -22,8 +22,8 @@ use Rattle.kvmi.specs.Settings.{allowsCommand, allowsEvent}
 use Rattle.kvmi.specs.Tables.{isCr}
 use Rattle.kvmi.specs.Message.{layoutOf, sizeFits, carriesData, namesVcpu, vcpuOf, switchesAt, actionOf, repliedEvent, eventOf, registerOf, gpaOf, sizeOf, countOf, countFits, viewOf, Entry, entriesOf, firstPadding, takesEvent}
 use Rattle.kvmi.specs.declared.Facts.{Facts}
-use Rattle.kvmi.specs.Event.{eventRowOf, newValue}
-use Rattle.kvmi.specs.Verdict.{repliesOn, takesAccess, inOnePage, isInvalid, isUnready, isDenied, isUnsupported, isBusy, isAbsent, changeOf, losesErrors, commandVerdict, isAwaited, replyFits, eventReplyVerdict, refuse, verdict}
+use Rattle.kvmi.specs.Event.{eventRowOf, valueOf}
+use Rattle.kvmi.specs.Verdict.{repliesOn, takesAccess, inOnePage, isInvalid, isUnready, isDenied, isUnsupported, isBusy, isAbsent, changeOf, losesErrors, commandVerdict, isAwaited, replyFits, feedBy, eventReplyVerdict, refuse, verdict}
 use Rattle.laws.proofs.Bool.{and-l, and-r}
 
 pub or-false-l : (a b : Bool) → (a || b) ≡ false → a ≡ false
@@ -74,7 +74,7 @@ pub record Replied (s : Settings) (f : Facts) (id seq : ℕ) (d : List ℕ) : Ty
 
 -- what it does
 abbrev pub ending : Facts → List ℕ → Change
-ending f d = EndWait (not (eqb (f .awaited) 2)) (vcpuOf d) (actionOf d) (newValue (eventRowOf (f .awaited)) d)
+ending f d = EndWait (not (eqb (f .awaited) 2)) (vcpuOf d) (actionOf d) (valueOf (eventRowOf (f .awaited) .form) d) (feedBy (eventRowOf (f .awaited) .form) f d)
 
 -- a message closes, fails, does its change, or ends a vCPU's wait
 pub verdict-cases : (P : Verdict → Type 0) (s : Settings) (f : Facts) (id seq : ℕ) (d : List ℕ) → P Closes → ((code : ℤ) → isError code ≡ true → P (Fails code))

@@ -14,7 +14,7 @@ use Rattle.kvmi.specs.Codes.{EPERM, ENOSYS}
 use Rattle.kvmi.specs.Settings.{allowsCommand, allowsEvent}
 use Rattle.kvmi.specs.Message.{sizeFits, carriesData, vcpuOf}
 use Rattle.kvmi.specs.Verdict.{repliesOn, refuse, commandVerdict, eventReplyVerdict}
-use Rattle.store.specs.Words.{field, PAUSES, AWAITED, AWAITED-SEQ}
+use Rattle.store.specs.Words.{field, PAUSES, AWAITED, AWAITED-SEQ, FAULT-GVA, FAULT-GPA, FAULT-ACCESS}
 use Rattle.tests.specs.Known.{isKnown}
 use Rattle.verdict.specs.declared.Asked.{Asked}
 
@@ -35,6 +35,9 @@ factsFor a vcpus d =
       pauses = field vcpus (vcpuOf d) PAUSES;
       awaited = field vcpus (vcpuOf d) AWAITED;
       seq = field vcpus (vcpuOf d) AWAITED-SEQ;
+      gva = field vcpus (vcpuOf d) FAULT-GVA;
+      gpa = field vcpus (vcpuOf d) FAULT-GPA;
+      access = field vcpus (vcpuOf d) FAULT-ACCESS;
     }
 
 -- tests 2 to 4 of a known message, by the table's row

@@ -73,6 +73,9 @@ fn facts_of(a: Asked, vcpus: &[u64], d: &[u8]) -> Facts
         pauses: pending.pauses,
         awaited: pending.awaited,
         seq: pending.seq,
+        gva: pending.gva,
+        gpa: pending.gpa,
+        access: pending.access,
     }
 }
 

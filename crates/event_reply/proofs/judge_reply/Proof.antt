@@ -39,15 +39,18 @@ load16-requires c κs = search needs
 byte-requires-2 : tie.Need-byte-requires-2
 byte-requires-2 c κs = search needs
 
-cast-t10 : tie.Need-cast-t10
-cast-t10 c = search needs
+cast-t11 : tie.Need-cast-t11
+cast-t11 c = search needs
 
-new-value-requires : tie.Need-new-value-requires
-new-value-requires c κs = search needs
+value-of-requires : tie.Need-value-of-requires
+value-of-requires c κs = search needs
+
+feed-by-requires : tie.Need-feed-by-requires
+feed-by-requires c κs = search needs
 
 returns-4 : tie.Need-returns-4
 unfolding eventReplyVerdict vcpuOf
-returns-4 c = rw (← c .before .before .before .before .before .before .row .ensures, ← c .before .before .before .before .before .before .before .before .before .before .before .of-event-reply .ensures, eq-eqb _ _ (c .before .before .before .before .before .before .before .before .before .before .if1 .left), ← c .before .before .before .before .before .before .before .before .before .byte .ensures, ← c .before .before .before .before .before .before .before .before .is-awaited .ensures, not-false (c .before .before .before .before .before .before .before .before .is-awaited .result) (c .before .before .before .before .before .before .before .if2 .left), ← c .before .before .before .before .before .reply-fits .ensures, not-false (c .before .before .before .before .before .reply-fits .result) (c .before .before .before .before .if3 .left), ← c .before .before .before .load16 .ensures, ← c .before .byte2 .ensures, ← c .new-value .ensures)
+returns-4 c = rw (← c .before .before .before .before .before .before .before .row .ensures, ← c .before .before .before .before .before .before .before .before .before .before .before .before .of-event-reply .ensures, eq-eqb _ _ (c .before .before .before .before .before .before .before .before .before .before .before .if1 .left), ← c .before .before .before .before .before .before .before .before .before .before .byte .ensures, ← c .before .before .before .before .before .before .before .before .before .is-awaited .ensures, not-false (c .before .before .before .before .before .before .before .before .before .is-awaited .result) (c .before .before .before .before .before .before .before .before .if2 .left), ← c .before .before .before .before .before .before .reply-fits .ensures, not-false (c .before .before .before .before .before .before .reply-fits .result) (c .before .before .before .before .before .if3 .left), ← c .before .before .before .load16 .ensures, ← c .before .before .byte2 .ensures, ← c .before .value-of .ensures, ← c .feed-by .ensures)
 
 pub judge-reply-spec : {M : Type 1} → statement M
 judge-reply-spec =
@@ -63,6 +66,7 @@ judge-reply-spec =
     returns-3
     load16-requires
     byte-requires-2
-    cast-t10
-    new-value-requires
+    cast-t11
+    value-of-requires
+    feed-by-requires
     returns-4)
