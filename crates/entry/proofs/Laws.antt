@@ -1,7 +1,7 @@
 -- What goes out of an entry. Assumes nothing.
 use mathlib.Core.Path.{_≡_, refl, sym, ap, _∙_}
 use mathlib.Core.List.{List, [], _++_}
-use Prim.Native.Nat.{ℕ, _+_, _-_, _%_}
+use Prim.Native.Nat.{ℕ, _+_, _-_, _*_, _/_, _%_, _^_, _<_}
 use native.Mathlib.Omega.{arith}
 use lib.ListN.{length, replicate}
 use borrow.Author.Tests.{lt-leb, le-leb, eq-eqb}
@@ -13,13 +13,14 @@ use Rattle.kvmi.specs.Answer.{paper, handled}
 use Rattle.kvmi.specs.Model.{nextSeq}
 use Rattle.kvmi.specs.Reply.{messageBytes, eventBytes, pauseEvent}
 use Rattle.store.specs.Words.{field, setField, PAUSES, AWAITED}
+use Rattle.page_words.specs.PageWords.{keyOf}
 use Rattle.entry.specs.declared.HandedOut.{HandedOut}
 use Rattle.reply.specs.Written.{Written}
 use Rattle.reply.proofs.Lengths.{length-event}
 use Rattle.session.specs.declared.Session.{Session}
 use Rattle.session.specs.State.{state, withTool, withToolSeq}
 use Rattle.session.specs.Calls.{told}
-use Rattle.entry.specs.Entry.{awaitingWords, sendingOf, pausingOf, dequeuingOf, Went, sentOf, enteredOf}
+use Rattle.entry.specs.Entry.{awaitingWords, faultWords, sendingOf, pausingOf, dequeuingOf, Went, sentOf, enteredOf}
 
 -- an event's number goes out as one byte
 number-byte : (event : ℕ) → le 1 (event % 256) ≡ le 1 event
@@ -30,12 +31,17 @@ low-event : (seq vcpu event : ℕ) (block own : List ℕ) → eventBytes seq vcp
 unfolding eventBytes
 low-event seq vcpu event block own = rw (number-byte event)
 
+-- the key of the page at an address, in a view below 8
+pub key-of : (view gpa : ℕ) → view < 8 → gpa < 18446744073709551616 → keyOf view (gpa % 2 ^ 64 / 4096) ≡ view * 4503599627370496 + gpa / 4096
+unfolding keyOf
+key-of view gpa v g = omega arith
+
 module _ (w after out wrote block : List ℕ) (vcpu seq next count : ℕ) where
-  pub sent-as : (own : List ℕ) (event : ℕ) → wrote ≡ store out 0 (eventBytes seq vcpu (event % 256) block own) → after ≡ awaitingWords w vcpu event seq
-      → count ≡ length block + length own + 16 → next ≡ nextSeq seq
+  pub sent-as : (own : List ℕ) (event : ℕ) (awaits : List ℕ) → wrote ≡ store out 0 (eventBytes seq vcpu (event % 256) block own)
+      → awaits ≡ awaitingWords w vcpu event seq → after ≡ faultWords awaits vcpu event own → count ≡ length block + length own + 16 → next ≡ nextSeq seq
       → Went after out wrote (record { count = count; next = next }) (sendingOf w vcpu seq block event own)
   unfolding sendingOf
-  sent-as own event o a n e =
+  sent-as own event awaits o a f n e =
       record {
         written =
             record {
@@ -43,7 +49,7 @@ module _ (w after out wrote block : List ℕ) (vcpu seq next count : ℕ) where
               there = o ∙ ap (store out 0) (low-event seq vcpu event block own);
             };
         next = e;
-        words = a;
+        words = f ∙ ap (λ (l : List ℕ). faultWords l vcpu event own) a;
       }
 
   pub paused-as : (queued : ℕ) (fewer : List ℕ) → queued ≡ field w vcpu PAUSES → (queued ≡ 0 → ⊥) → Written out wrote count (pauseEvent seq vcpu block)

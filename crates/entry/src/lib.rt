@@ -1,8 +1,10 @@
 // The call by which a vCPU enters the guest: an event that it is offered goes out if the tool asked for it, or else a queued pause.
 use kvmi::Answer;
 use kvmi::EventSwitch;
+use page_words::PageWords;
 use session::Done;
 use session::Session;
+use session::Tool;
 use store::words::VcpuWords;
 ghost use mathlib.Core.Path.{_≡_};
 ghost use mathlib.Core.List.{List, []};
@@ -11,7 +13,7 @@ ghost use lib.ListN.{length};
 ghost use Rattle.kvmi.specs.Event.{offerFits};
 ghost use Rattle.session.specs.State.{state};
 ghost use Rattle.session.specs.Calls.{told};
-ghost use Rattle.entry.specs.Entry.{isAskedForOf, crBitOn, awaitingWords, Went, sendingOf, dequeuingOf, sentOf, enteredOf, enterOf};
+ghost use Rattle.entry.specs.Entry.{isGuarded, isAskedForOf, crBitOn, awaitingWords, faultWords, Went, sendingOf, dequeuingOf, sentOf, enteredOf, enterOf};
 
 // How many bytes go out of an entry, and the next event's seq after them.
 struct HandedOut {
@@ -19,8 +21,11 @@ struct HandedOut {
     next: u32,
 }
 
-// The least output that an entry is given: the bytes of a CR or an MSR event.
+// The least output that an entry is given: the bytes of a CR, an MSR or a page fault event.
 pub const EVENT_OUT: usize = 576;
+
+// How many views a session can have.
+const VIEWS: u16 = 8;
 
 // Whether an event's number is one that can be offered, and its own bytes are as many as it has.
 fn offer_fits(event: u32, own: &[u8]) -> bool
@@ -42,16 +47,28 @@ fn cr_on(vcpus: &[u64], vcpu: u16, cr: u32) -> bool
     kvmi::bits::is_on(crs, store::bits::cr_bit(cr))
 }
 
-// Whether the tool asked for an event: what its row names is on among the VM's switches or the vCPU's.
-fn is_asked_for(vm_events: u64, vcpus: &[u64], vcpu: u16, event: u32, own: &[u8]) -> bool
-    ensures { λ r. ⌜ r ≡ isAskedForOf «vm_events» (now (vcpus .entry)) vcpu event (now (own .entry)) ⌝ }
+// Whether the page that a fault's bytes name stands below rwx in the view that they name; `used` page words are in use.
+fn is_guarded(pages: &[u64], used: u64, own: &[u8]) -> bool
+    ensures { λ r. ⌜ r ≡ isGuarded (now (pages .entry)) used (now (own .entry)) ⌝ }
+{
+    let view = wire::load16(own, 18);
+    if VIEWS <= view {
+        return false;
+    }
+    let key = (view as u64) * kvmi::PAGES + wire::load64(own, 8) / 4096;
+    page_words::word_access(pages, used as usize, key) < 7
+}
+
+// Whether the tool asked for an event: what its row names is on among the VM's switches or the vCPU's, and a page that it names is guarded.
+fn is_asked_for(tool: Tool, vcpus: &[u64], pages: &[u64], vcpu: u16, event: u32, own: &[u8]) -> bool
+    ensures { λ r. ⌜ r ≡ isAskedForOf tool (now (vcpus .entry)) (now (pages .entry)) vcpu event (now (own .entry)) ⌝ }
 {
     let row = kvmi::events::row(event as u64);
     let switch = row.switch;
     match switch {
         EventSwitch::Unoffered => false,
         EventSwitch::NoEvent => false,
-        EventSwitch::OfVm => kvmi::bits::is_on(vm_events, event),
+        EventSwitch::OfVm => kvmi::bits::is_on(tool.events, event),
         EventSwitch::OfVcpu => {
             let events = store::words::read_field(vcpus, vcpu, store::words::EVENTS);
             kvmi::bits::is_on(events, event)
@@ -66,6 +83,14 @@ fn is_asked_for(vm_events: u64, vcpus: &[u64], vcpu: u16, event: u32, own: &[u8]
             let msr = wire::load32(own, 0);
             kvmi::bits::is_on(events, event) & store::words::read_msr(vcpus, vcpu, msr)
         }
+        EventSwitch::OfPage => {
+            let events = store::words::read_field(vcpus, vcpu, store::words::EVENTS);
+            if kvmi::bits::is_on(events, event) {
+                is_guarded(pages, tool.pages, own)
+            } else {
+                false
+            }
+        }
     }
 }
 
@@ -75,6 +100,22 @@ fn await_reply(vcpus: &mut [u64], vcpu: u16, event: u32, seq: u32)
 {
     store::words::write_field(vcpus, vcpu, store::words::AWAITED, event as u64);
     store::words::write_field(vcpus, vcpu, store::words::AWAITED_SEQ, seq as u64);
+}
+
+// Of a page fault its addresses and access are kept until its reply comes.
+fn keep_fault(vcpus: &mut [u64], vcpu: u16, event: u32, own: &[u8])
+    ensures { λ _. ⌜ now (vcpus .exit) ≡ faultWords (now (vcpus .entry)) vcpu event (now (own .entry)) ⌝ }
+{
+    if event as u64 == kvmi::events::PF {
+        let access = wire::byte(own, 16) as u64;
+        store::words::write_fault(
+            vcpus,
+            vcpu,
+            wire::load64(own, 0),
+            wire::load64(own, 8),
+            access,
+        );
+    }
 }
 
 // The offered event goes out.
@@ -93,6 +134,7 @@ fn send(
     // numbers that are offered are below 15
     reply::event(out, seq, vcpu as u32, (event % 256) as u8, block, own);
     await_reply(vcpus, vcpu, event, seq);
+    keep_fault(vcpus, vcpu, event, own);
     HandedOut {
         count: block.len() + own.len() + 16,
         next: reply::next_seq(seq),
@@ -123,6 +165,7 @@ fn dequeue(vcpus: &mut [u64], vcpu: u16, seq: u32, block: &[u8], out: &mut [u8])
 fn hand_out(
     s: Session,
     vcpus: &mut [u64],
+    pages: &[u64],
     vcpu: u16,
     block: &[u8],
     event: u32,
@@ -130,10 +173,11 @@ fn hand_out(
     out: &mut [u8],
 ) -> HandedOut
     requires { ⌜ length (now own) ≤ 65535 ⌝ }
-    ensures { λ r. ⌜ ((p : List ℕ) → Went (now (vcpus .exit)) (now (out .entry)) (now (out .exit)) r (sentOf (state s (now (vcpus .entry)) p) vcpu (now (block .entry)) event (now (own .entry)))) ⌝ }
+    ensures { λ r. ⌜ Went (now (vcpus .exit)) (now (out .entry)) (now (out .exit)) r (sentOf (state s (now (vcpus .entry)) (now (pages .entry))) vcpu (now (block .entry)) event (now (own .entry))) ⌝ }
 {
     let seq = s.tool.seq;
-    if is_asked_for(s.tool.events, vcpus, vcpu, event, own) {
+    let tool = s.tool;
+    if is_asked_for(tool, vcpus, pages, vcpu, event, own) {
         return send(vcpus, vcpu, seq, block, event, own, out);
     }
     dequeue(vcpus, vcpu, seq, block, out)
@@ -143,6 +187,7 @@ fn hand_out(
 fn enter_open(
     s: Session,
     vcpus: &mut [u64],
+    pages: &[u64],
     vcpu: u16,
     block: &[u8],
     event: u32,
@@ -150,7 +195,7 @@ fn enter_open(
     out: &mut [u8],
 ) -> Done
     requires { ⌜ length (now own) ≤ 65535 ⌝ }
-    ensures { λ r. ⌜ ((p : List ℕ) → told r (now (vcpus .exit)) p (now (out .exit)) [] ≡ enteredOf (state s (now (vcpus .entry)) p) vcpu (now (block .entry)) event (now (own .entry)) (now (out .entry))) ⌝ }
+    ensures { λ r. ⌜ told r (now (vcpus .exit)) (now (pages .entry)) (now (out .exit)) [] ≡ enteredOf (state s (now (vcpus .entry)) (now (pages .entry))) vcpu (now (block .entry)) event (now (own .entry)) (now (out .entry)) ⌝ }
 {
     let awaited = store::words::read_field(vcpus, vcpu, store::words::AWAITED);
     if awaited != 0 {
@@ -159,7 +204,7 @@ fn enter_open(
             session: s,
         };
     }
-    let went = hand_out(s, vcpus, vcpu, block, event, own, out);
+    let went = hand_out(s, vcpus, pages, vcpu, block, event, own, out);
     Done {
         answer: kvmi::answers::wrote(went.count),
         session: s.with_seq(went.next),
@@ -171,13 +216,14 @@ fn enter_open(
 pub fn enter(
     s: Session,
     vcpus: &mut VcpuWords,
+    pages: &PageWords,
     vcpu: u16,
     block: &[u8],
     event: u32,
     own: &[u8],
     out: &mut [u8],
 ) -> Done
-    ensures { λ r. ⌜ ((p : List ℕ) → told r (now (vcpus .exit)) p (now (out .exit)) [] ≡ enterOf (state s (now (vcpus .entry)) p) vcpu (now (block .entry)) event (now (own .entry)) (now (out .entry))) ⌝ }
+    ensures { λ r. ⌜ told r (now (vcpus .exit)) (now (pages .entry)) (now (out .exit)) [] ≡ enterOf (state s (now (vcpus .entry)) (now (pages .entry))) vcpu (now (block .entry)) event (now (own .entry)) (now (out .entry)) ⌝ }
 {
     if s.tool.opened == 0 {
         return Done {
@@ -203,5 +249,5 @@ pub fn enter(
             session: s,
         };
     }
-    enter_open(s, vcpus, vcpu, block, event, own, out)
+    enter_open(s, vcpus, pages, vcpu, block, event, own, out)
 }

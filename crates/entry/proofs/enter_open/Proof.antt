@@ -14,7 +14,7 @@ same-length c = search needs
 
 returns : tie.Need-returns
 unfolding enteredOf
-returns c p = simp (← c .before .read-field .ensures, ne-eqb _ _ (c .if1 .taken))
+returns c = simp (← c .before .read-field .ensures, ne-eqb _ _ (c .if1 .taken))
 
 hand-out-requires : tie.Need-hand-out-requires
 hand-out-requires c κs = search needs
@@ -32,7 +32,7 @@ same-length-3 : tie.Need-same-length-3
 same-length-3 c = search needs
 
 returns-2 : tie.Need-returns-2
-returns-2 c p = went-as _ _ (c .before .wrote .result) (c .before .before .before .before .before .before .hand-out .result) _ _ _ _ _ _ _ _ _ _ (c .before .before .before .before .before .before .before .before .before .before .read-field .ensures) (c .before .before .before .before .before .before .before .before .before .if1 .left) (c .before .before .before .before .before .before .hand-out .ensures p) (c .before .wrote .ensures) (c .with-seq .ensures)
+returns-2 c = went-as _ _ (c .before .wrote .result) (c .before .before .before .before .before .before .hand-out .result) _ _ _ _ _ _ _ _ _ _ (c .before .before .before .before .before .before .before .before .before .before .read-field .ensures) (c .before .before .before .before .before .before .before .before .before .if1 .left) (c .before .before .before .before .before .before .hand-out .ensures) (c .before .wrote .ensures) (c .with-seq .ensures)
 
 pub enter-open-spec : {M : Type 1} → statement M
 enter-open-spec =

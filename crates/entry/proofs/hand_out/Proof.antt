@@ -18,7 +18,7 @@ same-length-2 c = search needs
 
 returns : tie.Need-returns
 unfolding sentOf
-returns c p = rw (← c .before .before .before .before .before .before .before .before .is-asked-for .ensures, c .before .before .before .before .before .before .before .if1 .taken) (c .before .before .before .before .send .ensures)
+returns c = rw (← c .before .before .before .before .before .before .before .before .is-asked-for .ensures, c .before .before .before .before .before .before .before .if1 .taken) (c .before .before .before .before .send .ensures)
 
 dequeue-requires : tie.Need-dequeue-requires
 dequeue-requires c κs = search needs
@@ -31,7 +31,7 @@ same-length-4 c = search needs
 
 returns-2 : tie.Need-returns-2
 unfolding sentOf
-returns-2 c p = rw (← c .before .before .before .before .before .before .before .before .is-asked-for .ensures, c .before .before .before .before .before .before .before .if1 .left) (c .before .before .before .before .dequeue .ensures)
+returns-2 c = rw (← c .before .before .before .before .before .before .before .before .is-asked-for .ensures, c .before .before .before .before .before .before .before .if1 .left) (c .before .before .before .before .dequeue .ensures)
 
 pub hand-out-spec : {M : Type 1} → statement M
 hand-out-spec =

@@ -62,6 +62,18 @@ is-on-requires-4 c κs = search needs
 read-msr-requires : tie.Need-read-msr-requires
 read-msr-requires c κs = search needs
 
+enum-told-7 : tie.Need-enum-told-7
+enum-told-7 c = search needs
+
+read-field-requires-4 : tie.Need-read-field-requires-4
+read-field-requires-4 c κs = search needs
+
+is-on-requires-5 : tie.Need-is-on-requires-5
+is-on-requires-5 c κs = search needs
+
+is-guarded-requires : tie.Need-is-guarded-requires
+is-guarded-requires c κs = search needs
+
 returns : tie.Need-returns
 unfolding isAskedForOf askedForBy
 returns c = rw (← c .before .before .row .ensures, c .enum-told .given .1)
@@ -86,6 +98,14 @@ returns-6 : tie.Need-returns-6
 unfolding isAskedForOf askedForBy
 returns-6 c = rw (← c .before .before .before .before .before .before .row .ensures, c .before .before .before .before .enum-told6 .given .1, ← c .before .before .before .read-field3 .ensures, ← c .before .before .load32 .ensures, ← c .before .is-on4 .ensures, ← c .read-msr .ensures)
 
+returns-7 : tie.Need-returns-7
+unfolding isAskedForOf askedForBy
+returns-7 c = rw (← c .before .before .before .before .before .before .row .ensures, c .before .before .before .before .enum-told7 .given .1, ← c .before .before .before .read-field4 .ensures, ← c .before .before .is-on5 .ensures, c .before .if1 .taken) (c .is-guarded .ensures)
+
+returns-8 : tie.Need-returns-8
+unfolding isAskedForOf askedForBy
+returns-8 c = rw (← c .before .before .before .before .before .row .ensures, c .before .before .before .enum-told7 .given .1, ← c .before .before .read-field4 .ensures, ← c .before .is-on5 .ensures, c .if1 .left)
+
 pub is-asked-for-spec : {M : Type 1} → statement M
 is-asked-for-spec =
     tie.close
@@ -109,9 +129,15 @@ is-asked-for-spec =
     load32-requires
     is-on-requires-4
     read-msr-requires
+    enum-told-7
+    read-field-requires-4
+    is-on-requires-5
+    is-guarded-requires
     returns
     returns-2
     returns-3
     returns-4
     returns-5
-    returns-6)
+    returns-6
+    returns-7
+    returns-8)

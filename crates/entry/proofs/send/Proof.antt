@@ -1,4 +1,4 @@
--- The event, and what is awaited after it. Assumes nothing.
+-- The event, what is awaited after it, and what is kept of a page fault. Assumes nothing.
 use mathlib.Core.Path.{refl}
 use Rattle.entry.proofs.Laws.{sent-as}
 use borrow.Author.Needs.{needs}
@@ -14,11 +14,14 @@ event-requires c κs = search needs
 await-reply-requires : tie.Need-await-reply-requires
 await-reply-requires c κs = search needs
 
-add-t18 : tie.Need-add-t18
-add-t18 c = search needs
+keep-fault-requires : tie.Need-keep-fault-requires
+keep-fault-requires c κs = search needs
 
-add-t19 : tie.Need-add-t19
-add-t19 c = search needs
+add-t20 : tie.Need-add-t20
+add-t20 c = search needs
+
+add-t21 : tie.Need-add-t21
+add-t21 c = search needs
 
 next-seq-requires : tie.Need-next-seq-requires
 next-seq-requires c κs = search needs
@@ -30,7 +33,7 @@ same-length-2 : tie.Need-same-length-2
 same-length-2 c = search needs
 
 returns : tie.Need-returns
-returns c = sent-as _ _ _ _ _ _ _ _ _ _ _ (c .before .before .before .before .before .before .before .event .ensures) (c .before .before .before .await-reply .ensures) refl (c .next-seq .ensures)
+returns c = sent-as _ _ _ _ _ _ _ _ _ _ _ _ (c .before .before .before .before .before .before .before .before .before .before .before .event .ensures) (c .before .before .before .before .before .before .before .await-reply .ensures) (c .before .before .before .keep-fault .ensures) refl (c .next-seq .ensures)
 
 pub send-spec : {M : Type 1} → statement M
 send-spec =
@@ -39,8 +42,9 @@ send-spec =
     cast-event
     event-requires
     await-reply-requires
-    add-t18
-    add-t19
+    keep-fault-requires
+    add-t20
+    add-t21
     next-seq-requires
     same-length
     same-length-2
