@@ -11,10 +11,11 @@ use lib.ListN.{length, getD, set, replicate, length-set}
 use lib.Seq.{ext-getD, getD-set-same, getD-set-other}
 use lib.Dec.{eqb}
 use borrow.Author.Tests.{eqb-true, eqb-false, eq-eqb, ne-eqb}
-use Rattle.kvmi.specs.Model.{Awaited, awaiting, isSome}
-use Rattle.kvmi.specs.Verdict.{awaitedEvent, awaitedSeq}
-use Rattle.store.specs.Words.{field, setField, setMsrBit, AWAITED, AWAITED-SEQ}
-use Rattle.session.specs.Meaning.{awaitedIn, awaitedOf}
+use Rattle.kvmi.specs.Model.{Awaited, isSome}
+use Rattle.kvmi.specs.Feed.{noFault}
+use Rattle.kvmi.specs.Verdict.{awaitedEvent, awaitedSeq, awaitedFault}
+use Rattle.store.specs.Words.{field, AWAITED, AWAITED-SEQ, FAULT-GVA, FAULT-GPA, FAULT-ACCESS}
+use Rattle.session.specs.Meaning.{faultIn, awaitedIn, awaitedOf}
 use Rattle.laws.proofs.Bool.{test}
 use Rattle.refine.proofs.Msrs.{zeros-field}
 
@@ -48,18 +49,21 @@ awaited-set w x n v a e q =
     (λ t. let gone = eqb-false i v t in
     q i gone ∙ sym (getD-set-other (awaitedOf w 0 n) v i a none gone ∙ awaited-at w n i l)))
 
--- the two fields are all that it reads
-pub awaited-fields : (w x : List ℕ) (i : ℕ) → field x i AWAITED ≡ field w i AWAITED → field x i AWAITED-SEQ ≡ field w i AWAITED-SEQ → awaitedIn x i ≡ awaitedIn w i
+-- the five fields of a wait are all that it reads
+pub awaited-fields : (w x : List ℕ) (i : ℕ) → ((k : ℕ) → 4 ≤ k → k < 9 → field x i k ≡ field w i k) → awaitedIn x i ≡ awaitedIn w i
 unfolding awaitedIn
-awaited-fields w x i p q = rw (p, q)
+awaited-fields w x i q =
+    rw (
+      q AWAITED (omega arith) (omega arith),
+      q AWAITED-SEQ (omega arith) (omega arith),
+      q FAULT-GVA (omega arith) (omega arith),
+      q FAULT-GPA (omega arith) (omega arith),
+      q FAULT-ACCESS (omega arith) (omega arith),
+    )
 
 pub awaited-none : (w : List ℕ) (i : ℕ) → field w i AWAITED ≡ 0 → awaitedIn w i ≡ none
 unfolding awaitedIn
 awaited-none w i e = rw e
-
-pub awaited-some : (w : List ℕ) (i event seq : ℕ) → field w i AWAITED ≡ event → field w i AWAITED-SEQ ≡ seq → (event ≡ 0 → ⊥) → awaitedIn w i ≡ some (awaiting event seq)
-unfolding awaitedIn
-awaited-some w i event seq p q d = rw (p, q, ne-eqb event 0 d)
 
 -- it is there where its word is not 0
 pub awaited-there : (w : List ℕ) (i : ℕ) → isSome (awaitedIn w i) ≡ not (eqb (field w i AWAITED) 0)
@@ -82,3 +86,7 @@ event-read w i = test (eqb (field w i AWAITED) 0) (λ e. rw e (sym (eqb-true (fi
 pub seq-read : (w : List ℕ) (i : ℕ) → (field w i AWAITED ≡ 0 → field w i AWAITED-SEQ ≡ 0) → awaitedSeq (awaitedIn w i) ≡ field w i AWAITED-SEQ
 unfolding awaitedIn
 seq-read w i q = test (eqb (field w i AWAITED) 0) (λ e. rw e (sym (q (eqb-true (field w i AWAITED) 0 e)))) (λ e. rw e)
+
+pub fault-read : (w : List ℕ) (i : ℕ) → (field w i AWAITED ≡ 0 → noFault ≡ faultIn w i) → awaitedFault (awaitedIn w i) ≡ faultIn w i
+unfolding awaitedIn
+fault-read w i q = test (eqb (field w i AWAITED) 0) (λ e. rw e (q (eqb-true (field w i AWAITED) 0 e))) (λ e. rw e)

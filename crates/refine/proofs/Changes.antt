@@ -6,7 +6,7 @@ use mathlib.Core.List.{List, [], _∷_}
 use mathlib.Core.Bool.{Bool, true, false, cond, not, So}
 use mathlib.Core.Option.{Option, none, some}
 use lib.ListN.{length, getD, set, take, drop}
-use lib.Seq.{set-getD, set-out}
+use lib.Seq.{set-out}
 use lib.Dec.{ltb, leb, eqb}
 use borrow.Author.Tests.{ltb-true, ltb-false, leb-true, leb-false, lt-ltb, eqb-true, ne-eqb, not-false}
 use Rattle.kvmi.specs.declared.Settings.{Settings}
@@ -18,27 +18,30 @@ use Rattle.kvmi.specs.Bits.{bit, every, putBit}
 use Rattle.kvmi.specs.Codes.{OK, ENOMEM}
 use Rattle.kvmi.specs.Settings.{inRange}
 use Rattle.kvmi.specs.Tables.{Vcpu, Msr, Tables, vcpuAt, setVcpu, withCrs, withEvents, withPauses, withSinglestep, withVcpus, withMsrs, withPages, crBit}
+use Rattle.kvmi.specs.declared.Feed.{Feed}
+use Rattle.kvmi.specs.Feed.{Fault, noFault}
 use Rattle.kvmi.specs.Model.{Awaited, awaiting, withTables, withMode, withAwaited, onVcpu, setAwaited}
 use Rattle.kvmi.specs.Message.{Entry, entriesOf, isVmEvent, isVcpuEvent}
 use Rattle.kvmi.specs.Verdict.{isAccess}
 use Rattle.kvmi.specs.Limits.{pageLimit}
 use Rattle.kvmi.specs.Change.{Run, takeEntries, setMsr, Applied, applied, apply}
-use Rattle.store.specs.Words.{field, setField, setMsrBit, putBit64, SINGLESTEP, CRS, EVENTS, PAUSES, AWAITED, AWAITED-SEQ}
+use Rattle.store.specs.Words.{field, setField, setMsrBit, putBit64, SINGLESTEP, CRS, EVENTS, PAUSES, setFault, AWAITED, AWAITED-SEQ, FAULT-GVA, FAULT-GPA, FAULT-ACCESS}
 use Rattle.page_words.specs.PageWords.{PageTable, runEntries}
 use Rattle.store.specs.Meaning.{msrsOf, vcpusOf, vcpuOfWords}
 use Rattle.page_words.specs.Meaning.{pagesOf}
 use Rattle.kvmi.specs.Mode.{numberOfMode, modeOfNumber}
 use Rattle.session.specs.State.{State, state, withField, withVcpuWords}
 use Rattle.change.specs.Change.{StateChanged, changed, change}
-use Rattle.session.specs.Meaning.{awaitedIn, awaitedOf, tablesOf, modelOf, WordsGood}
+use Rattle.session.specs.Meaning.{faultIn, awaitedIn, awaitedOf, tablesOf, modelOf, WordsGood}
 use Rattle.laws.proofs.Bool.{test, every-and}
 use Rattle.laws.proofs.Kept.{vm-event-small, vcpu-event-small}
 use Rattle.laws.proofs.Steps.{entries-small}
 use Rattle.refine.proofs.Pages.{Means, run-entries}
 use Rattle.refine.proofs.Msrs.{field-set, field-set-other, field-length, set-msr, msrs-field, bit-field}
 use Rattle.refine.proofs.Vcpus.{vcpus-crs, vcpus-events, vcpus-pauses, vcpus-singlestep, vcpus-msr, vcpus-apart}
-use Rattle.refine.proofs.Awaited.{awaited-length, awaited-same, awaited-set, awaited-fields, awaited-none, awaited-some}
-use Rattle.refine.proofs.Words.{tool-kept, pages-kept, field-past, vcpu-means, block-inside, field-kept, msr-kept, awaited-kept}
+use Rattle.refine.proofs.Waits.{waitWords, ended-as, wait-other, wait-event, wait-seq, wait-fault, zero-field-again}
+use Rattle.refine.proofs.Awaited.{awaited-length, awaited-same, awaited-set, awaited-fields}
+use Rattle.refine.proofs.Words.{tool-kept, pages-kept, field-past, vcpu-means, block-inside, field-kept, msr-kept, wait-kept}
 
 -- what the words mean after a change is what the model's change gives
 pub record Meant (r : StateChanged) (a : Applied) : Type 0 where
@@ -86,8 +89,7 @@ module _ (st : State) (g : WordsGood st) (few : st .session .settings .vcpus ≤
       let msrs : msrsOf (setField words v k x) 0 count ≡ msrsOf words 0 count = msrs-field words v k x count (omega arith) in
       let awaited : awaitedOf (setField words v k x) 0 count ≡ awaitedOf words 0 count
       = awaited-same words (setField words v k x) count
-      (λ i. awaited-fields words (setField words v k x) i (field-set-other words v k x i AWAITED (omega arith) (omega arith) (λ p q. omega arith))
-      (field-set-other words v k x i AWAITED-SEQ (omega arith) (omega arith) (λ p q. omega arith))) in
+      (λ i. awaited-fields words (setField words v k x) i (λ j b c. field-set-other words v k x i j (omega arith) (omega arith) (λ p q. omega arith))) in
       words-model (setField words v k x) _ _ _ vcpus msrs awaited
 
   pub pause-meant : (v : ℕ) (wait : Bool) → v < count → field words v PAUSES < 8 → Meant (change st guest d (QueuePause wait v)) (apply (modelOf st) guest d (QueuePause wait v))
@@ -152,7 +154,7 @@ module _ (st : State) (g : WordsGood st) (few : st .session .settings .vcpus ≤
       let vcpus : vcpusOf ready u 0 count ≡ vcpusOf ready words 0 count = vcpus-msr ready words v msr on count in
       let msrs : msrsOf u 0 count ≡ setMsr (record { vcpu = v; msr = msr }) on (msrsOf words 0 count) = set-msr words count v msr l h on in
       let awaited : awaitedOf u 0 count ≡ awaitedOf words 0 count
-      = awaited-same words u count (λ i. awaited-fields words u i (bit-field words v msr on i AWAITED (omega arith)) (bit-field words v msr on i AWAITED-SEQ (omega arith))) in
+      = awaited-same words u count (λ i. awaited-fields words u i (λ j b c. bit-field words v msr on i j (omega arith))) in
       record {
         model = words-model u _ _ _ vcpus msrs awaited;
         guest = refl;
@@ -198,56 +200,65 @@ module _ (st : State) (g : WordsGood st) (few : st .session .settings .vcpus ≤
         words = pages-kept st g (t .count) (t .words) (m .long ∙ l) (m .good);
       }
 
-  -- the awaited event of a vCPU, and its seq
-  await-words : (v event seq : ℕ) → v < count → (awaitedIn (setField (setField words v AWAITED event) v AWAITED-SEQ seq) v ≡ cond (eqb event 0) none (some (awaiting event seq)))
+  -- the awaited event of a vCPU
+  wait-words : (v event seq : ℕ) (f : Fault) → v < count → awaitedIn (waitWords words v event seq f) v ≡ cond (eqb event 0) none (some (awaiting event seq f))
   unfolding awaitedIn
-  await-words v event seq h =
+  wait-words v event seq f h =
       let l = block-inside st g few v h in
-      let u = setField words v AWAITED event in
-      let now : field (setField u v AWAITED-SEQ seq) v AWAITED ≡ event
-      = field-set-other u v AWAITED-SEQ seq v AWAITED (omega arith) (omega arith) (λ p q. omega arith) ∙ field-set words v AWAITED event (omega arith) in
-      let then : field (setField u v AWAITED-SEQ seq) v AWAITED-SEQ ≡ seq = field-set u v AWAITED-SEQ seq (rw (field-length words v AWAITED event) (omega arith)) in
-      rw (now, then)
+      let inside : v * 272 + 9 ≤ length words = omega arith in
+      let fault : faultIn (waitWords words v event seq f) v ≡ f = wait-fault words v event seq f inside in
+      λ j. cond (eqb (wait-event words v event seq f inside j) 0) none
+      (some (awaiting (wait-event words v event seq f inside j) (wait-seq words v event seq f inside j) (fault j)))
 
-  awaits-set : (v event seq : ℕ) (a : Option Awaited) → v < count → cond (eqb event 0) none (some (awaiting event seq)) ≡ a
-      → modelOf (withField (withField st v AWAITED event) v AWAITED-SEQ seq) ≡ setAwaited (modelOf st) v a
-  awaits-set v event seq a h e =
-      let u = setField words v AWAITED event in
-      let ended = setField u v AWAITED-SEQ seq in
-      let vcpus : vcpusOf ready ended 0 count ≡ vcpusOf ready words 0 count
-      = vcpus-apart ready u v seq count AWAITED-SEQ (omega arith) (omega arith) ∙ vcpus-apart ready words v event count AWAITED (omega arith) (omega arith) in
-      let msrs : msrsOf ended 0 count ≡ msrsOf words 0 count = msrs-field u v AWAITED-SEQ seq count (omega arith) ∙ msrs-field words v AWAITED event count (omega arith) in
-      let other : (i j : ℕ) → j < 272 → (i ≡ v → ⊥) → field ended i j ≡ field words i j
-      = λ i j b q. field-set-other u v AWAITED-SEQ seq i j (omega arith) b (λ p r. q p) ∙ field-set-other words v AWAITED event i j (omega arith) b (λ p r. q p) in
-      let awaited : awaitedOf ended 0 count ≡ set (awaitedOf words 0 count) v a
-      = awaited-set words ended count v a (await-words v event seq h ∙ e)
-      (λ i q. awaited-fields words ended i (other i AWAITED (omega arith) q) (other i AWAITED-SEQ (omega arith) q)) in
-      words-model ended _ _ _ vcpus msrs awaited
+  waits-set : (v event seq : ℕ) (f : Fault) (a : Option Awaited) → v < count → cond (eqb event 0) none (some (awaiting event seq f)) ≡ a
+      → modelOf (withVcpuWords st (waitWords words v event seq f)) ≡ setAwaited (modelOf st) v a
+  unfolding waitWords setFault
+  waits-set v event seq f a h e =
+      let one = setField words v AWAITED event in
+      let two = setField one v AWAITED-SEQ seq in
+      let three = setField two v FAULT-GVA (f .gva) in
+      let four = setField three v FAULT-GPA (f .gpa) in
+      let five = setField four v FAULT-ACCESS (f .access) in
+      let vcpus : vcpusOf ready five 0 count ≡ vcpusOf ready words 0 count
+      = vcpus-apart ready four v (f .access) count FAULT-ACCESS (omega arith) (omega arith) ∙ vcpus-apart ready three v (f .gpa) count FAULT-GPA (omega arith) (omega arith)
+      ∙ vcpus-apart ready two v (f .gva) count FAULT-GVA (omega arith) (omega arith) ∙ vcpus-apart ready one v seq count AWAITED-SEQ (omega arith) (omega arith)
+      ∙ vcpus-apart ready words v event count AWAITED (omega arith) (omega arith) in
+      let msrs : msrsOf five 0 count ≡ msrsOf words 0 count
+      = msrs-field four v FAULT-ACCESS (f .access) count (omega arith) ∙ msrs-field three v FAULT-GPA (f .gpa) count (omega arith)
+      ∙ msrs-field two v FAULT-GVA (f .gva) count (omega arith) ∙ msrs-field one v AWAITED-SEQ seq count (omega arith) ∙ msrs-field words v AWAITED event count (omega arith) in
+      let awaited : awaitedOf five 0 count ≡ set (awaitedOf words 0 count) v a
+      = awaited-set words five count v a (wait-words v event seq f h ∙ e)
+      (λ i q. awaited-fields words five i (λ j b c. wait-other words v event seq f i j (omega arith) (λ p x y. q p))) in
+      words-model five _ _ _ vcpus msrs awaited
 
-  pub await-model : (v event seq : ℕ) → v < count → (event ≡ 0 → ⊥)
-      → modelOf (withField (withField st v AWAITED event) v AWAITED-SEQ seq) ≡ setAwaited (modelOf st) v (some (awaiting event seq))
-  await-model v event seq h d = awaits-set v event seq (some (awaiting event seq)) h (rw (ne-eqb event 0 d))
+  pub await-model : (v event seq : ℕ) (f : Fault) → v < count → (event ≡ 0 → ⊥)
+      → modelOf (withVcpuWords st (waitWords words v event seq f)) ≡ setAwaited (modelOf st) v (some (awaiting event seq f))
+  await-model v event seq f h d = waits-set v event seq f (some (awaiting event seq f)) h (rw (ne-eqb event 0 d))
 
-  -- a word that is 0 already
-  zero-again : (v k : ℕ) → count ≤ v → setField words v k 0 ≡ words
-  unfolding setField field
-  zero-again v k h =
-      ap (λ (x : ℕ). set words (v * 272 + k) x) (sym (field-past st g v k h)) ∙ set-getD words (v * 272 + k) 0
+  -- past the count every word of a wait is 0 already
+  ended-past : (v : ℕ) → count ≤ v → waitWords words v 0 0 noFault ≡ words
+  unfolding waitWords setFault
+  ended-past v h =
+      let again : (k : ℕ) → setField words v k 0 ≡ words = λ k. zero-field-again words v k (field-past st g v k h) in
+      ap (λ (x : List ℕ). setField (setField (setField (setField x v AWAITED-SEQ 0) v FAULT-GVA 0) v FAULT-GPA 0) v FAULT-ACCESS 0) (again AWAITED)
+      ∙ ap (λ (x : List ℕ). setField (setField (setField x v FAULT-GVA 0) v FAULT-GPA 0) v FAULT-ACCESS 0) (again AWAITED-SEQ)
+      ∙ ap (λ (x : List ℕ). setField (setField x v FAULT-GPA 0) v FAULT-ACCESS 0) (again FAULT-GVA)
+      ∙ ap (λ (x : List ℕ). setField x v FAULT-ACCESS 0) (again FAULT-GPA) ∙ again FAULT-ACCESS
 
-  pub end-meant : (resumes : Bool) (v action value : ℕ) → Meant (change st guest d (EndWait resumes v action value)) (apply (modelOf st) guest d (EndWait resumes v action value))
+  pub end-meant : (resumes : Bool) (v action value : ℕ) (feed : Feed)
+      → Meant (change st guest d (EndWait resumes v action value feed)) (apply (modelOf st) guest d (EndWait resumes v action value feed))
   unfolding change apply
-  end-meant resumes v action value =
-      test (ltb v count)
+  end-meant resumes v action value feed =
+      rw (ended-as words v)
+      (test (ltb v count)
       (λ t. let h = ltb-true v count t in
-      record { model = awaits-set v 0 0 none h refl; guest = refl; code = refl; words = awaited-kept st g few v h 0 0 (λ e. refl) })
+      record { model = waits-set v 0 0 noFault none h refl; guest = refl; code = refl; words = wait-kept st g few v h 0 0 noFault (λ e. (refl, refl)) })
       (λ t. let h = ltb-false v count t in
-      let same : setField (setField words v AWAITED 0) v AWAITED-SEQ 0 ≡ words
-      = ap (λ (x : List ℕ). setField x v AWAITED-SEQ 0) (zero-again v AWAITED h) ∙ zero-again v AWAITED-SEQ h in
       let none-there : set (awaitedOf words 0 count) v none ≡ awaitedOf words 0 count = set-out (awaitedOf words 0 count) v none (rw (awaited-length words 0 count) h) in
-      rw same
+      rw (ended-past v h)
       (record {
         model = ap (λ (x : List (Option Awaited)). withAwaited (modelOf st) x) (sym none-there);
         guest = refl;
         code = refl;
         words = g;
-      }))
+      })))

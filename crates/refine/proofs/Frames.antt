@@ -4,7 +4,7 @@ use mathlib.Core.Logic.{_⊎_, inl, inr}
 use Prim.Native.Nat.{ℕ, _≤_, zero-le}
 use native.Mathlib.Omega.{arith}
 use mathlib.Core.List.{List, []}
-use mathlib.Core.Bool.{true, cond, not, _&&_}
+use mathlib.Core.Bool.{Bool, true, false, cond, not, _&&_}
 use lib.IntN.{ℤ}
 use lib.ListN.{length, drop}
 use lib.Dec.{leb, ltb, eqb}
@@ -24,6 +24,7 @@ use Rattle.kvmi.specs.declared.ReplyKind.the-variants.{CodeOnly, WithData, Sile
 use Rattle.kvmi.specs.declared.Change.{Change}
 use Rattle.kvmi.specs.declared.Verdict.{Verdict}
 use Rattle.kvmi.specs.declared.Verdict.the-variants.{Closes, Fails, Does}
+use Rattle.kvmi.specs.Answer.{lacksPage}
 use Rattle.kvmi.specs.Codes.{isError}
 use Rattle.kvmi.specs.Message.{layoutOf, vcpuOf, gpaOf, sizeOf}
 use Rattle.kvmi.specs.Change.{signalOf, modeFor}
@@ -45,20 +46,29 @@ use Rattle.refine.specs.Frames.{Refuses, Past}
 
 -- ---- "None": answers from 2 on change nothing in session, tables, output or guest memory
 pub same-refuses : (k : ℕ) (st : State) (out guest : List ℕ) → Refuses st out guest (toldSame k st out guest)
-same-refuses k st out guest h = record { answer = refl; state = refl; output = refl; memory = refl }
+same-refuses k st out guest h _ = record { answer = refl; state = refl; output = refl; memory = refl }
 
-acts : (st : State) (out guest : List ℕ) (r : Told) → r .answer .number ≤ 1 → Refuses st out guest r
-acts st out guest r h g = absurd (omega arith)
+-- a message that was looked at was taken, or closed the session
+abbrev Acts : ℕ → Type 0
+Acts k = (k ≤ 1) ⊎ (k ≡ 12)
 
-judged-acts : (st : State) (id seq : ℕ) (d out guest : List ℕ) (v : Verdict) → judgedOf st id seq d out guest v .answer .number ≤ 1
+acts : (st : State) (out guest : List ℕ) (r : Told) → Acts (r .answer .number) → Refuses st out guest r
+acts st out guest r (inl h) g _ = absurd (omega arith)
+acts st out guest r (inr h) g other = absurd (other h)
+
+handled-acts : (lacks : Bool) → Acts (cond lacks 12 0)
+handled-acts true = inr refl
+handled-acts false = inl zero-le
+
+judged-acts : (st : State) (id seq : ℕ) (d out guest : List ℕ) (v : Verdict) → Acts (judgedOf st id seq d out guest v .answer .number)
 unfolding judgedOf answeringOf
-judged-acts st id seq d out guest Closes = omega arith
-judged-acts st id seq d out guest (Fails code) = omega arith
-judged-acts st id seq d out guest (Does c) = omega arith
+judged-acts st id seq d out guest Closes = inl (omega arith)
+judged-acts st id seq d out guest (Fails code) = inl (omega arith)
+judged-acts st id seq d out guest (Does c) = handled-acts (lacksPage (signalOf c))
 
-headed-acts : (st : State) (d out guest : List ℕ) (h : Header) → headedOf st d out guest h .answer .number ≤ 1
+headed-acts : (st : State) (d out guest : List ℕ) (h : Header) → Acts (headedOf st d out guest h .answer .number)
 unfolding headedOf
-headed-acts st d out guest Broken = omega arith
+headed-acts st d out guest Broken = inl (omega arith)
 headed-acts st d out guest (Whole id size seq) = judged-acts st id seq d out guest (verdict (st .session .settings) (factsIn st (length guest) (vcpuOf d)) id seq d)
 
 pub message-refuses : (st : State) (msg out guest : List ℕ) → Refuses st out guest (messageOf st msg out guest)
@@ -72,7 +82,7 @@ pub ready-refuses : (st : State) (vcpu : ℕ) → Refuses st [] [] (readyOf st v
 unfolding readyOf
 ready-refuses st vcpu =
     pick (Refuses st [] []) (isClosed st) _ _ (λ _. same-refuses 2 st [] [])
-    (λ _. pick (Refuses st [] []) (leb (st .session .settings .vcpus) vcpu) _ _ (λ _. same-refuses 4 st [] []) (λ _ h. absurd (omega arith)))
+    (λ _. pick (Refuses st [] []) (leb (st .session .settings .vcpus) vcpu) _ _ (λ _. same-refuses 4 st [] []) (λ _ h _. absurd (omega arith)))
 
 pub enter-refuses : (st : State) (vcpu : ℕ) (block : List ℕ) (event : ℕ) (own out : List ℕ) → Refuses st out [] (enterOf st vcpu block event own out)
 unfolding enterOf enteredOf
@@ -81,7 +91,7 @@ enter-refuses st vcpu block event own out =
     (λ _. pick (Refuses st out []) (leb (st .session .settings .vcpus) vcpu) _ _ (λ _. same-refuses 4 st out [])
     (λ _. pick (Refuses st out []) (not (eqb (length block) 536 && offerFits event own)) _ _ (λ _. same-refuses 5 st out [])
     (λ _. pick (Refuses st out []) (ltb (length out) 576) _ _ (λ _. same-refuses 3 st out [])
-    (λ _. pick (Refuses st out []) (not (eqb (field (st .vcpus) vcpu AWAITED) 0)) _ _ (λ _. same-refuses 6 st out []) (λ _ h. absurd (omega arith))))))
+    (λ _. pick (Refuses st out []) (not (eqb (field (st .vcpus) vcpu AWAITED) 0)) _ _ (λ _. same-refuses 6 st out []) (λ _ h _. absurd (omega arith))))))
 
 -- ---- 4,112 bytes hold every answer
 -- an error has no data
@@ -155,7 +165,7 @@ sent-length st vcpu block event own fits =
     let few = own-few event own (and-r (eqb (length block) 536) (offerFits event own) fits) in
     let l = length-event seq vcpu event block own in
     let p = length-pause-whole seq vcpu block whole in
-    pick (λ (x : Sent). length (x .bytes) ≤ 576) (isAskedForOf (st .session .tool .events) (st .vcpus) vcpu event own) _ _ (λ _. omega arith)
+    pick (λ (x : Sent). length (x .bytes) ≤ 576) (isAskedForOf (st .session .tool) (st .vcpus) (st .pages) vcpu event own) _ _ (λ _. omega arith)
     (λ _. pick (λ (x : Sent). length (x .bytes) ≤ 576) (leb 1 (field (st .vcpus) vcpu PAUSES)) _ _ (λ _. omega arith) (λ _. zero-le))
 
 pub enter-past : (st : State) (vcpu : ℕ) (block : List ℕ) (event : ℕ) (own out : List ℕ) → Past out (enterOf st vcpu block event own out)

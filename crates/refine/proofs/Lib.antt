@@ -1,6 +1,8 @@
 pub mod Pages
+pub mod Access
 pub mod Msrs
 pub mod Vcpus
+pub mod Waits
 pub mod Awaited
 pub mod Words
 pub mod Changes

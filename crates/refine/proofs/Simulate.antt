@@ -24,10 +24,11 @@ use Rattle.kvmi.specs.declared.Change.{Change}
 use Rattle.kvmi.specs.declared.Change.the-variants.{SetVmEvent, QueuePause, SetVcpuEvent, SetCr, SetMsr, SetPages, SetSinglestep}
 use Rattle.kvmi.specs.declared.Verdict.{Verdict}
 use Rattle.kvmi.specs.declared.Verdict.the-variants.{Closes, Fails, Does}
-use Rattle.kvmi.specs.Answer.{Paper}
+use Rattle.kvmi.specs.Answer.{Paper, handled}
 use Rattle.kvmi.specs.Bits.{every, among, putBit}
 use Rattle.kvmi.specs.Codes.{isError}
 use Rattle.kvmi.specs.Settings.{inRange}
+use Rattle.kvmi.specs.Feed.{Fault, noFault, keptOf}
 use Rattle.kvmi.specs.Tables.{Vcpu, vcpuAt, resting, emptyTables, withReady, withPauses, withVcpus, withMsrs, withPages}
 use Rattle.kvmi.specs.Model.{Model, fresh, closedModel, withTables, withSeq, withAwaited, nextSeq, onVcpu, awaitedBy, isSome}
 use Rattle.kvmi.specs.Message.{layoutOf, namesVcpu, vcpuOf, enables, eventOf, registerOf, gpaOf, sizeOf, countOf, countFits, viewOf, Entry, entriesOf, isVmEvent, isVcpuEvent, takesEvent}
@@ -58,10 +59,11 @@ use Rattle.laws.proofs.Steps.{takes-access, step-kept}
 use Rattle.reply.proofs.Lengths.{length-answer}
 use Rattle.refine.proofs.Frames.{error-length, data-fits, sent-length}
 use Rattle.refine.proofs.Pages.{none-good}
-use Rattle.refine.proofs.Msrs.{zeros-field, zeros-msrs}
+use Rattle.refine.proofs.Msrs.{field-set-other, zeros-field, zeros-msrs}
 use Rattle.refine.proofs.Vcpus.{zeros-vcpus, vcpus-ready, vcpus-pauses}
+use Rattle.refine.proofs.Waits.{waitWords, awaiting-as, sent-words}
 use Rattle.refine.proofs.Awaited.{awaited-there, zeros-awaited}
-use Rattle.refine.proofs.Words.{few-vcpus, tool-kept, shared-kept, vcpu-means, awaited-means, asked-means, facts-mean, block-inside, field-kept, awaited-kept}
+use Rattle.refine.proofs.Words.{few-vcpus, tool-kept, shared-kept, vcpu-means, awaited-means, asked-means, facts-mean, block-inside, field-kept, wait-kept}
 use Rattle.refine.proofs.Changes.{field-model, await-model, Meant, pause-meant, event-meant, cr-meant, single-meant, msr-meant, vm-event-meant, replies-meant, pages-meant, end-meant}
 
 -- ---- a message that passes: its change
@@ -170,7 +172,7 @@ zero-words s x vcpus pages v p c m r k =
       ready = rw r (pow-pos (x .settings .vcpus));
       pages = rw k (none-good (length pages));
       flag = λ i. rw (zeros-field (length vcpus) i SINGLESTEP) zero-le;
-      waits = λ i _. zeros-field (length vcpus) i AWAITED-SEQ;
+      waits = λ i j _ _ _. zeros-field (length vcpus) i j;
       spare = λ i j _ _. zeros-field (length vcpus) i j;
       past = λ j _. zero-at (length vcpus) j;
     }
@@ -219,7 +221,7 @@ unfolding answeringOf model.answering
 answering-simulates st st′ mode id seq code d sig out guest h e g =
     let bytes : Settings → List ℕ = λ x. answerOf (layoutOf id .reply) mode (st′ .session .tool .seq) id seq code (replyData x guest id d) in
     record {
-      answer = λ j. record { number = 0; count = length (bytes (e j)); signal = sig; offset = 0 };
+      answer = λ j. handled (length (bytes (e j))) sig;
       out = store-start out (bytes (st′ .session .settings)) h ∙ (λ j. bytes (e j) ++ drop (length (bytes (e j))) out);
       guest = refl;
       model = refl;
@@ -267,7 +269,7 @@ module _ (st : State) (f : WellFormed st) (out guest : List ℕ) where
       (λ p. does-simulates id seq d long (changeOf id d) (data-fits cfg (factsOf (modelOf st) (length guest) (vcpuOf d)) id d p) (change-meant st (f .words) (f .settings) guest d id p))
       (λ p. let e = p .reply in
       does-simulates id seq d long (ending (factsOf (modelOf st) (length guest) (vcpuOf d)) d) (inr (λ q. omega arith))
-      (end-meant st (f .words) (few-vcpus cfg (f .settings)) guest d _ (vcpuOf d) _ _))
+      (end-meant st (f .words) (few-vcpus cfg (f .settings)) guest d _ (vcpuOf d) _ _ _))
 
   headed-simulates : (d : List ℕ) → 4112 ≤ length out → (h : Header) → S (headedOf st d out guest h) (model.headed cfg (modelOf st) d out guest h)
   unfolding headedOf model.headed
@@ -307,17 +309,16 @@ module _ (st : State) (f : WellFormed st) where
 
 -- ---- entry of a vCPU
 -- the reply to an event that was sent is awaited
-awaiting-simulates : (st : State) → WordsGood st → st .session .settings .vcpus ≤ 16 → (v event : ℕ) → v < st .session .settings .vcpus → (event ≡ 0 → ⊥)
-    → let x = withVcpuWords st (awaitingWords (st .vcpus) v event (st .session .tool .seq)) in
-    (modelOf (withSeqOf x (nextSeq (st .session .tool .seq))) ≡ model.awaitingReply (modelOf st) v event) × WordsGood x
-unfolding awaitingWords
-awaiting-simulates st g few v event inside some-event =
+awaiting-simulates : (st : State) → WordsGood st → st .session .settings .vcpus ≤ 16 → (v event : ℕ) (fault : Fault) → v < st .session .settings .vcpus → (event ≡ 0 → ⊥)
+    → let x = withVcpuWords st (waitWords (st .vcpus) v event (st .session .tool .seq) fault) in
+    (modelOf (withSeqOf x (nextSeq (st .session .tool .seq))) ≡ model.awaitingReply (modelOf st) v event fault) × WordsGood x
+awaiting-simulates st g few v event fault inside some-event =
     let seq = st .session .tool .seq in (
-      ap (λ (m : Model). withSeq m (nextSeq seq)) (await-model st g few [] [] v event seq inside some-event),
-      awaited-kept st g few v inside event seq (λ e. absurd (some-event e)),
+      ap (λ (m : Model). withSeq m (nextSeq seq)) (await-model st g few [] [] v event seq fault inside some-event),
+      wait-kept st g few v inside event seq fault (λ e. absurd (some-event e)),
     )
 
-module _ (st : State) (f : WellFormed st) (v : ℕ) (inside : v < st .session .settings .vcpus) (block out : List ℕ) where
+module _ (st : State) (f : WellFormed st) (v : ℕ) (inside : v < st .session .settings .vcpus) (idle : field (st .vcpus) v AWAITED ≡ 0) (block out : List ℕ) where
   abbrev less : ℕ
   less = field (st .vcpus) v PAUSES - 1
 
@@ -346,14 +347,21 @@ module _ (st : State) (f : WellFormed st) (v : ℕ) (inside : v < st .session .s
   sending-simulates : (event : ℕ) (own : List ℕ) → (event ≡ 0 → ⊥) → length (sendingOf (st .vcpus) v (st .session .tool .seq) block event own .bytes) ≤ length out
       → Simulates st (toldSent st (sendingOf (st .vcpus) v (st .session .tool .seq) block event own) out) (model.sending (modelOf st) v block event own out)
   unfolding sendingOf model.sending
-  sending-simulates event own some-event l = told-simulates _ _ l (awaiting-simulates st (f .words) few-here v event inside some-event)
+  sending-simulates event own some-event l =
+      told-simulates _ _ l
+      (rw (sent-words (st .vcpus) v event (st .session .tool .seq) own (λ k a b. f .words .waits v k (omega arith) b idle))
+      (awaiting-simulates st (f .words) few-here v event (keptOf event own) inside some-event))
 
   pausing-simulates : length (pausingOf (st .vcpus) v (st .session .tool .seq) block .bytes) ≤ length out
       → Simulates st (toldSent st (pausingOf (st .vcpus) v (st .session .tool .seq) block) out) (model.pausing (modelOf st) v block out)
   unfolding pausingOf model.pausing
   pausing-simulates l =
-      let waits = awaiting-simulates dequeued dequeued-words few-here v 2 inside (λ e. omega arith) in
-      told-simulates _ _ l (waits .0 ∙ ap (λ (m : Model). model.awaitingReply m v 2) dequeued-model, waits .1)
+      let waits = awaiting-simulates dequeued dequeued-words few-here v 2 noFault inside (λ e. omega arith) in
+      let empty : (k : ℕ) → 6 ≤ k → k < 9 → field (dequeued .vcpus) v k ≡ 0
+      = λ k a b. field-set-other (st .vcpus) v PAUSES less v k (omega arith) (omega arith) (λ p q. omega arith) ∙ f .words .waits v k (omega arith) b idle in
+      told-simulates _ _ l
+      (rw (awaiting-as (dequeued .vcpus) v 2 (st .session .tool .seq) empty)
+      (waits .0 ∙ ap (λ (m : Model). model.awaitingReply m v 2 noFault) dequeued-model, waits .1))
 
   -- the queued pauses are the model's
   own-pauses : vcpuAt (tablesOf st) v .pauses ≡ field (st .vcpus) v PAUSES
@@ -364,7 +372,7 @@ module _ (st : State) (f : WellFormed st) (v : ℕ) (inside : v < st .session .s
       → Simulates st (toldSent st (sentOf st v block event own) out) (model.entering (modelOf st) v block event own out)
   unfolding sentOf dequeuingOf model.entering model.dequeuing
   entering-simulates event own =
-      rw (asked-means st (f .words) v event own, own-pauses)
+      rw (asked-means st (f .words) (f .tables .paUp) v event own, own-pauses)
       (both (λ (x : Sent) (q : model.Step). length (x .bytes) ≤ length out → Simulates st (toldSent st x out) q) (isAskedFor (tablesOf st) v event own) _ _ _ _
       (λ asked. sending-simulates event own (eqb-false event 0 (asked-some (tablesOf st) v event own asked)))
       (λ _. both (λ (x : Sent) (q : model.Step). length (x .bytes) ≤ length out → Simulates st (toldSent st x out) q) (leb 1 (field (st .vcpus) v PAUSES)) _ _ _ _
@@ -384,6 +392,7 @@ enter-simulates st f v block event own out =
     (λ w. both (Simulates st) (ltb (length out) 576) _ _ _ _ (λ _. same-simulates 3 st out [] (f .words))
     (λ l. rw (awaits-same st (f .words) v)
     (both (Simulates st) (not (eqb (field (st .vcpus) v AWAITED) 0)) _ _ _ _ (λ _. same-simulates 6 st out [] (f .words))
-    (λ _. let few = sent-length st v block event own (not-false _ w) in
+    (λ a. let few = sent-length st v block event own (not-false _ w) in
     let room = ltb-false (length out) 576 l in
-    entering-simulates st f v (leb-false (st .session .settings .vcpus) v h) block out event own (omega arith)))))))
+    let idle = eqb-true (field (st .vcpus) v AWAITED) 0 (not-false _ a) in
+    entering-simulates st f v (leb-false (st .session .settings .vcpus) v h) idle block out event own (omega arith)))))))

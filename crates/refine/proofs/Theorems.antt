@@ -29,7 +29,7 @@ use Rattle.kvmi.specs.Message.{namesVcpu, vcpuOf, enables, registerOf, countOf,
 use Rattle.kvmi.specs.Verdict.{changeOf, modeOf, verdict}
 use Rattle.kvmi.specs.Valid.{Valid}
 use Rattle.kvmi.specs.Call as model
-use Rattle.store.specs.Words.{field, setField, setMsrBit, cleared, SINGLESTEP, CRS, EVENTS, PAUSES, AWAITED, AWAITED-SEQ, vcpuWordCount}
+use Rattle.store.specs.Words.{field, setField, setMsrBit, cleared, SINGLESTEP, CRS, EVENTS, PAUSES, AWAITED, AWAITED-SEQ, FAULT-GVA, FAULT-GPA, FAULT-ACCESS, setFault, endedWait, vcpuWordCount}
 use Rattle.page_words.specs.PageWords.{runEntries, pageWordCount}
 use Rattle.kvmi.specs.Mode.{modeOfNumber}
 use Rattle.session.specs.State.{State, state, freshSession, clearedState, withField, withSeqOf, isClosed}
@@ -118,8 +118,15 @@ module _ (st : State) (guest d : List ℕ) (i : ℕ) (other : i ≢ vcpuOf d) wh
       (λ _. pick Apart (eqb id 15) _ _ (λ _. refl) (λ _. refl)))))))))
 
   end-apart : (f : Facts) → Apart (ending f d)
-  unfolding change
-  end-apart f = field-block (setField (st .vcpus) (vcpuOf d) AWAITED 0) (vcpuOf d) AWAITED-SEQ 0 i (omega arith) other ∙ one-field AWAITED 0 (omega arith)
+  unfolding change endedWait setFault
+  end-apart f =
+      let v = vcpuOf d in
+      let one = setField (st .vcpus) v AWAITED 0 in
+      let two = setField one v AWAITED-SEQ 0 in
+      let three = setField two v FAULT-GVA 0 in
+      let four = setField three v FAULT-GPA 0 in
+      field-block four v FAULT-ACCESS 0 i (omega arith) other ∙ field-block three v FAULT-GPA 0 i (omega arith) other ∙ field-block two v FAULT-GVA 0 i (omega arith) other
+      ∙ field-block one v AWAITED-SEQ 0 i (omega arith) other ∙ one-field AWAITED 0 (omega arith)
 
   abbrev Spares : Told → Type 0
   Spares r = (r .answer .number ≡ 1 → ⊥) → (block (r .state .vcpus) i ≡ block (st .vcpus) i) × (r .state .session .shared .ready ≡ st .session .shared .ready)
@@ -136,7 +143,7 @@ module _ (st : State) (guest d : List ℕ) (i : ℕ) (other : i ≢ vcpuOf d) wh
   ready-kept-by (SetPages view count) = refl
   ready-kept-by (SetSinglestep on vcpu) = refl
   ready-kept-by (SetReplies now mode) = refl
-  ready-kept-by (EndWait resumes vcpu action value) = refl
+  ready-kept-by (EndWait resumes vcpu action value feed) = refl
 
   judged-apart : (id seq : ℕ) (out : List ℕ) (f : Facts) → Spares (judgedOf st id seq d out guest (verdict (st .session .settings) f id seq d))
   unfolding judgedOf answeringOf

@@ -9,34 +9,38 @@ use mathlib.Core.Option.{Option, none, some}
 use lib.ListN.{length, getD, set, List·getD-eq-default}
 use lib.Seq.{getD-set-same, getD-set-other}
 use lib.Dec.{ltb, leb, eqb}
-use borrow.Author.Tests.{ltb-true, ltb-false, leb-true, eqb-true, eqb-false}
+use borrow.Author.Tests.{ltb-true, ltb-false, lt-ltb, leb-true, eqb-true, eqb-false}
 use Rattle.msrs.specs.declared.Place.{Place}
 use Rattle.msrs.specs.declared.Place.the-variants.{At, None}
 use Rattle.msrs.specs.Place.{msrPlace, isMsr}
 use Rattle.kvmi.specs.declared.Settings.{Settings}
 use Rattle.kvmi.specs.declared.EventSwitch.{EventSwitch}
-use Rattle.kvmi.specs.declared.EventSwitch.the-variants.{Unoffered, NoEvent, OfVm, OfVcpu, OfCr, OfMsr}
+use Rattle.kvmi.specs.declared.EventSwitch.the-variants.{Unoffered, NoEvent, OfVm, OfVcpu, OfCr, OfMsr, OfPage}
 use Rattle.kvmi.specs.Bits.{isOn}
 use Rattle.kvmi.specs.Settings.{inRange}
-use Rattle.kvmi.specs.Tables.{Vcpu, resting, vcpuAt, isCr, crBit, vmEventOn, eventOn, crOn, msrOn}
+use Rattle.kvmi.specs.Tables.{Vcpu, resting, vcpuAt, isCr, crBit, vmEventOn, eventOn, crOn, msrOn, access, pageKey}
 use Rattle.kvmi.specs.Event.{eventRowOf, crNamed, msrNamed, asksFor, isAskedFor}
 use Rattle.kvmi.specs.Model.{Awaited, awaitedBy}
-use Rattle.kvmi.specs.Verdict.{awaitedEvent, awaitedSeq, factsOf}
-use Rattle.store.specs.Words.{field, setField, switchOn, readSwitch, msrBitOn, setMsrBit, SINGLESTEP, CRS, EVENTS, PAUSES, AWAITED, AWAITED-SEQ, vcpuWordCount}
+use Rattle.kvmi.specs.Feed.{Fault, noFault, viewNamed, pageNamed}
+use Rattle.kvmi.specs.Ascending.{rising}
+use Rattle.kvmi.specs.Verdict.{awaitedEvent, awaitedSeq, awaitedFault, factsOf}
+use Rattle.store.specs.Words.{field, setField, setFault, switchOn, readSwitch, msrBitOn, setMsrBit, SINGLESTEP, CRS, EVENTS, PAUSES, AWAITED, AWAITED-SEQ, FAULT-GVA, FAULT-GPA, FAULT-ACCESS, vcpuWordCount}
 use Rattle.store.specs.Meaning.{vcpuOfWords, vcpusOf}
 use Rattle.page_words.specs.Meaning.{PagesGood}
-use Rattle.page_words.specs.PageWords.{pageWordCount}
+use Rattle.page_words.specs.PageWords.{pageWordCount, keyOf, wordAccess}
 use Rattle.session.specs.declared.Tool.{Tool}
 use Rattle.session.specs.State.{State, state, withTool, withToolPages, withReadyBits, withVcpuWords, withField}
 use Rattle.message.specs.Message.{factsIn}
-use Rattle.entry.specs.Entry.{crBitOn, askedForBy, isAskedForOf}
-use Rattle.session.specs.Meaning.{awaitedIn, awaitedOf, tablesOf, modelOf, WordsGood, WellFormed}
+use Rattle.entry.specs.Entry.{crBitOn, isGuarded, askedForBy, isAskedForOf}
+use Rattle.session.specs.Meaning.{faultIn, awaitedIn, awaitedOf, tablesOf, modelOf, WordsGood, WellFormed}
 use Rattle.laws.proofs.Bool.{and-l, and-r, test}
 use Rattle.laws.proofs.Bits.{on-none}
 use Rattle.laws.proofs.Same.{on-high}
 use Rattle.refine.proofs.Msrs.{field-set, field-set-other, field-length, bit-cases, bit-length, bit-field, bit-placed, msrs-look}
 use Rattle.refine.proofs.Vcpus.{vcpus-length, vcpus-at}
-use Rattle.refine.proofs.Awaited.{awaited-length, awaited-at, awaited-none, event-read, seq-read}
+use Rattle.refine.proofs.Access.{access-means}
+use Rattle.refine.proofs.Waits.{waitWords, wait-length, wait-other, wait-event, wait-seq, wait-gva, wait-gpa, wait-access}
+use Rattle.refine.proofs.Awaited.{awaited-length, awaited-at, awaited-none, event-read, seq-read, fault-read}
 
 pub few-vcpus : (s : Settings) → So (inRange s) → s .vcpus ≤ 16
 unfolding inRange
@@ -100,8 +104,8 @@ module _ (st : State) (g : WordsGood st) where
       }
 
   -- the vCPU words
-  pub vcpus-kept : (u : List ℕ) → length u ≡ vcpuWordCount → ((i : ℕ) → field u i SINGLESTEP ≤ 1) → ((i : ℕ) → field u i AWAITED ≡ 0 → field u i AWAITED-SEQ ≡ 0)
-      → ((i k : ℕ) → 6 ≤ k → k < 16 → field u i k ≡ 0) → ((j : ℕ) → n * 272 ≤ j → getD u j 0 ≡ 0) → WordsGood (withVcpuWords st u)
+  pub vcpus-kept : (u : List ℕ) → length u ≡ vcpuWordCount → ((i : ℕ) → field u i SINGLESTEP ≤ 1) → ((i k : ℕ) → 4 ≤ k → k < 9 → field u i AWAITED ≡ 0 → field u i k ≡ 0)
+      → ((i k : ℕ) → 9 ≤ k → k < 16 → field u i k ≡ 0) → ((j : ℕ) → n * 272 ≤ j → getD u j 0 ≡ 0) → WordsGood (withVcpuWords st u)
   vcpus-kept u long flag waits spare past =
       record {
         vcpuWords = long;
@@ -165,18 +169,33 @@ module _ (st : State) (g : WordsGood st) where
   msr-means v msr =
       rw (msrs-look w n v msr) (test (ltb v n) (λ q. rw q (bit-placed w v msr)) (λ q. rw (q, msr-past v msr (ltb-false v n q)) (and-false (isMsr msr))))
 
+  -- a page is guarded where it stands below rwx
+  pub guard-means : So (rising pageKey 0 (tablesOf st .pages)) → (own : List ℕ)
+      → isGuarded (st .pages) (st .session .tool .pages) own ≡ ltb (access (tablesOf st) (viewNamed own) (pageNamed own)) 7
+  unfolding isGuarded access
+  guard-means up own =
+      let view = viewNamed own in
+      let page = pageNamed own in
+      let small : ltb page (2 ^ 52) ≡ true = lt-ltb page (2 ^ 52) (omega arith) in
+      let asked : isGuarded (st .pages) (st .session .tool .pages) own
+      ≡ ltb (cond (ltb view 8 && ltb page (2 ^ 52)) (wordAccess (st .pages) (st .session .tool .pages) (keyOf view page)) 7) 7
+      = test (ltb view 8) (λ a. rw (a, small)) (λ a. rw a) in
+      asked ∙ ap (λ (a : ℕ). ltb a 7) (access-means (st .pages) (st .session .tool .pages) (g .pages) up view page)
+
   -- an offered event is asked for where the model asks for it
-  pub asked-means : (v event : ℕ) (own : List ℕ) → isAskedForOf (st .session .tool .events) w v event own ≡ isAskedFor (tablesOf st) v event own
+  pub asked-means : So (rising pageKey 0 (tablesOf st .pages)) → (v event : ℕ) (own : List ℕ)
+      → isAskedForOf (st .session .tool) w (st .pages) v event own ≡ isAskedFor (tablesOf st) v event own
   unfolding isAskedForOf askedForBy crBitOn isAskedFor asksFor vmEventOn
-  asked-means v event own = by (eventRowOf event .switch)
+  asked-means up v event own = by (eventRowOf event .switch)
     where
-      by : (x : EventSwitch) → askedForBy (st .session .tool .events) w v event own x ≡ asksFor (tablesOf st) v event own x
+      by : (x : EventSwitch) → askedForBy (st .session .tool) w (st .pages) v event own x ≡ asksFor (tablesOf st) v event own x
       by Unoffered = refl
       by NoEvent = refl
       by OfVm = refl
       by OfVcpu = sym (event-means v event)
       by OfCr = rw (event-means v event, cr-means v (crNamed own))
       by OfMsr = rw (event-means v event, msr-means v (msrNamed own))
+      by OfPage = rw (event-means v event, guard-means up own)
 
   -- what the tests ask is what the model says
   pub facts-mean : (guest v : ℕ) → factsIn st guest v ≡ factsOf (modelOf st) guest v
@@ -184,13 +203,22 @@ module _ (st : State) (g : WordsGood st) where
   facts-mean guest v =
       let own = vcpu-means v in
       let waits = awaited-means v in
+      let fault : faultIn w v ≡ awaitedFault (awaitedBy (modelOf st) v)
+      = sym (ap awaitedFault waits ∙ fault-read w v (λ e. sym (λ j. record {
+        gva = g .waits v FAULT-GVA (omega arith) (omega arith) e j;
+        gpa = g .waits v FAULT-GPA (omega arith) (omega arith) e j;
+        access = g .waits v FAULT-ACCESS (omega arith) (omega arith) e j;
+      }))) in
       λ j. record {
         mode = modelOf st .mode;
         guest = guest;
         ready = sym (ap (λ (x : Vcpu). x .ready) own) j;
         pauses = sym (ap (λ (x : Vcpu). x .pauses) own) j;
         awaited = sym (ap awaitedEvent waits ∙ event-read w v) j;
-        seq = sym (ap awaitedSeq waits ∙ seq-read w v (g .waits v)) j;
+        seq = sym (ap awaitedSeq waits ∙ seq-read w v (g .waits v AWAITED-SEQ (omega arith) (omega arith))) j;
+        gva = fault j .gva;
+        gpa = fault j .gpa;
+        access = fault j .access;
       }
 
   -- ---- a plain field of a vCPU set
@@ -207,7 +235,7 @@ module _ (st : State) (g : WordsGood st) where
     field-kept k x a small =
         let far : (i j : ℕ) → j < 272 → (i ≡ v → j ≡ k → ⊥) → field (setField w v k x) i j ≡ field w i j = λ i j b d. field-set-other w v k x i j (omega arith) b d in
         vcpus-kept (setField w v k x) (field-length w v k x ∙ g .vcpuWords) (λ i. flag i far)
-        (λ i e. far i AWAITED-SEQ (omega arith) (λ p q. omega arith) ∙ g .waits i (sym (far i AWAITED (omega arith) (λ p q. omega arith)) ∙ e))
+        (λ i m b c e. far i m (omega arith) (λ p q. omega arith) ∙ g .waits i m b c (sym (far i AWAITED (omega arith) (λ p q. omega arith)) ∙ e))
         (λ i j b c. far i j (omega arith) (λ p q. omega arith) ∙ g .spare i j b c)
         (past-set (v * 272 + k) x (omega arith))
       where
@@ -227,35 +255,50 @@ module _ (st : State) (g : WordsGood st) where
     msr-kept m on =
         let same : (i j : ℕ) → j < 16 → field (setMsrBit w v m on) i j ≡ field w i j = λ i j b. bit-field w v m on i j b in
         vcpus-kept (setMsrBit w v m on) (bit-length w v m on ∙ g .vcpuWords) (λ i. rw (same i SINGLESTEP (omega arith)) (g .flag i))
-        (λ i e. same i AWAITED-SEQ (omega arith) ∙ g .waits i (sym (same i AWAITED (omega arith)) ∙ e)) (λ i j b c. same i j c ∙ g .spare i j b c)
+        (λ i k b c e. same i k (omega arith) ∙ g .waits i k b c (sym (same i AWAITED (omega arith)) ∙ e)) (λ i j b c. same i j c ∙ g .spare i j b c)
         (bit-cases w v (λ u. (j : ℕ) → n * 272 ≤ j → getD u j 0 ≡ 0) m on (λ k x a b. past-set (v * 272 + k) x (omega arith)) (g .past))
 
-    -- the awaited event and its seq together
-    pub awaited-kept : (event seq : ℕ) → (event ≡ 0 → seq ≡ 0) → WordsGood (withField (withField st v AWAITED event) v AWAITED-SEQ seq)
-    unfolding setField
-    awaited-kept event seq z =
-        let u = setField w v AWAITED event in
-        let far : (i j : ℕ) → j < 272 → (i ≡ v → j ≡ AWAITED → ⊥) → (i ≡ v → j ≡ AWAITED-SEQ → ⊥) → field (setField u v AWAITED-SEQ seq) i j ≡ field w i j
-        = λ i j b d e. field-set-other u v AWAITED-SEQ seq i j (omega arith) b e ∙ field-set-other w v AWAITED event i j (omega arith) b d in
+    -- the five words of a wait together
+    wait-past : (event seq : ℕ) (f : Fault) (j : ℕ) → n * 272 ≤ j → getD (waitWords w v event seq f) j 0 ≡ 0
+    unfolding waitWords setFault setField
+    wait-past event seq f j h =
+        let one = setField w v AWAITED event in
+        let two = setField one v AWAITED-SEQ seq in
+        let three = setField two v FAULT-GVA (f .gva) in
+        let four = setField three v FAULT-GPA (f .gpa) in
+        getD-set-other four (v * 272 + FAULT-ACCESS) j (f .access) 0 (λ e. omega arith) ∙ getD-set-other three (v * 272 + FAULT-GPA) j (f .gpa) 0 (λ e. omega arith)
+        ∙ getD-set-other two (v * 272 + FAULT-GVA) j (f .gva) 0 (λ e. omega arith) ∙ getD-set-other one (v * 272 + AWAITED-SEQ) j seq 0 (λ e. omega arith)
+        ∙ past-set (v * 272 + AWAITED) event (omega arith) j h
+
+    pub wait-kept : (event seq : ℕ) (f : Fault) → (event ≡ 0 → (seq ≡ 0) × (f ≡ noFault)) → WordsGood (withVcpuWords st (waitWords w v event seq f))
+    wait-kept event seq f z =
+        let u = waitWords w v event seq f in
         let l = block-inside in
-        vcpus-kept (setField u v AWAITED-SEQ seq) (field-length u v AWAITED-SEQ seq ∙ field-length w v AWAITED event ∙ g .vcpuWords)
-        (λ i. rw (far i SINGLESTEP (omega arith) (λ p q. omega arith) (λ p q. omega arith)) (g .flag i))
-        (λ i. waits i far)
-        (λ i j b c. far i j (omega arith) (λ p q. omega arith) (λ p q. omega arith) ∙ g .spare i j b c)
-        (λ j h. getD-set-other u (v * 272 + AWAITED-SEQ) j seq 0 (λ e. omega arith) ∙ past-set (v * 272 + AWAITED) event (omega arith) j h)
+        let far : (i j : ℕ) → j < 272 → (i ≡ v → 4 ≤ j → j < 9 → ⊥) → field u i j ≡ field w i j = wait-other w v event seq f in
+        vcpus-kept u (wait-length w v event seq f ∙ g .vcpuWords)
+        (λ i. rw (far i SINGLESTEP (omega arith) (λ p a b. omega arith)) (g .flag i))
+        (λ i k a b. waits i k a b far)
+        (λ i j b c. far i j (omega arith) (λ p q r. omega arith) ∙ g .spare i j b c)
+        (wait-past event seq f)
       where
-        waits : (i : ℕ)
-            → ((i j : ℕ) → j < 272 → (i ≡ v → j ≡ AWAITED → ⊥) → (i ≡ v → j ≡ AWAITED-SEQ → ⊥) → field (setField (setField w v AWAITED event) v AWAITED-SEQ seq) i j ≡ field w i j)
-            → field (setField (setField w v AWAITED event) v AWAITED-SEQ seq) i AWAITED ≡ 0
-            → field (setField (setField w v AWAITED event) v AWAITED-SEQ seq) i AWAITED-SEQ ≡ 0
-        waits i far e =
-            let l = block-inside in
+        inside-here : v * 272 + 9 ≤ length w
+        inside-here = let l = block-inside in omega arith
+
+        here : (k : ℕ) → 4 ≤ k → k < 9 → event ≡ 0 → field (waitWords w v event seq f) v k ≡ 0
+        here k a b e =
+            test (eqb k AWAITED) (λ t. rw (eqb-true k AWAITED t) (wait-event w v event seq f inside-here ∙ e))
+            (λ t4. test (eqb k AWAITED-SEQ) (λ t. rw (eqb-true k AWAITED-SEQ t) (wait-seq w v event seq f inside-here ∙ z e .0))
+            (λ t5. test (eqb k FAULT-GVA) (λ t. rw (eqb-true k FAULT-GVA t) (wait-gva w v event seq f inside-here ∙ ap (λ (x : Fault). x .gva) (z e .1)))
+            (λ t6. test (eqb k FAULT-GPA) (λ t. rw (eqb-true k FAULT-GPA t) (wait-gpa w v event seq f inside-here ∙ ap (λ (x : Fault). x .gpa) (z e .1)))
+            (λ t7. let n4 = eqb-false k AWAITED t4 in let n5 = eqb-false k AWAITED-SEQ t5 in let n6 = eqb-false k FAULT-GVA t6 in let n7 = eqb-false k FAULT-GPA t7 in
+            let last : k ≡ FAULT-ACCESS = omega arith in
+            rw last (wait-access w v event seq f inside-here ∙ ap (λ (x : Fault). x .access) (z e .1))))))
+
+        waits : (i k : ℕ) → 4 ≤ k → k < 9 → ((i j : ℕ) → j < 272 → (i ≡ v → 4 ≤ j → j < 9 → ⊥) → field (waitWords w v event seq f) i j ≡ field w i j)
+            → field (waitWords w v event seq f) i AWAITED ≡ 0 → field (waitWords w v event seq f) i k ≡ 0
+        waits i k a b far e =
             test (eqb i v)
-            (λ t. let here = eqb-true i v t in
-            let there : v * 272 + AWAITED < length w = omega arith in
-            let now : field (setField (setField w v AWAITED event) v AWAITED-SEQ seq) v AWAITED ≡ event
-            = field-set-other (setField w v AWAITED event) v AWAITED-SEQ seq v AWAITED (omega arith) (omega arith) (λ p q. omega arith) ∙ field-set w v AWAITED event there in
-            let nothing : event ≡ 0 = sym now ∙ rw here at e in
-            rw here (field-set (setField w v AWAITED event) v AWAITED-SEQ seq (rw (field-length w v AWAITED event) (omega arith)) ∙ z nothing))
+            (λ t. let same = eqb-true i v t in
+            rw same (here k a b (sym (wait-event w v event seq f inside-here) ∙ rw same at e)))
             (λ t. let gone = eqb-false i v t in
-            far i AWAITED-SEQ (omega arith) (λ p q. gone p) (λ p q. gone p) ∙ g .waits i (sym (far i AWAITED (omega arith) (λ p q. gone p) (λ p q. gone p)) ∙ e))
+            far i k (omega arith) (λ p q r. gone p) ∙ g .waits i k a b (sym (far i AWAITED (omega arith) (λ p q r. gone p)) ∙ e))

@@ -1,5 +1,6 @@
 -- What a host call leaves as it was.
 use mathlib.Core.Path.{_≡_}
+use mathlib.Core.Logic.{_≢_}
 use Prim.Native.Nat.{ℕ, _≤_}
 use mathlib.Core.List.{List}
 use lib.ListN.{length, drop}
@@ -14,9 +15,9 @@ pub record Still (st : State) (out guest : List ℕ) (r : Told) : Type 0 where
   pub output : r .out ≡ out
   pub memory : r .guest ≡ guest
 
--- a refusal, which has a number from 2 on, leaves everything as it was
+-- a refusal, which has a number from 2 on (W5's 12 is none: "all else as under answer 0"), leaves everything as it was
 abbrev pub Refuses : State → List ℕ → List ℕ → Told → Type 0
-Refuses st out guest r = 2 ≤ r .answer .number → Still st out guest r
+Refuses st out guest r = 2 ≤ r .answer .number → r .answer .number ≢ 12 → Still st out guest r
 
 -- "output past the count is untouched": what is written lies inside the output, and the bytes behind it are as they were
 pub record Past (out : List ℕ) (r : Told) : Type 0 where
