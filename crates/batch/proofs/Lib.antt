@@ -1,3 +1,4 @@
 pub mod Turns
+pub mod Feeds
 pub mod Parts
 pub mod Kept

@@ -17,7 +17,8 @@ use Rattle.session.proofs.Laws.{rest-part}
 use Rattle.message.specs.Message.{messageOf}
 use Rattle.refine.proofs.Frames.{message-past}
 use Rattle.batch.specs.declared.Batched.{Batched}
-use Rattle.batch.specs.Batch.{toldTaken, messageTakes, batchOf, batched}
+use Rattle.batch.specs.Batch.{toldTaken, messageTakes, batchOf, batched, fedAt}
+use Rattle.batch.proofs.Feeds.{message-begins}
 use Rattle.batch.proofs.Turns.{goes-of, ends-inside, ends-behind, Rest, rest-begins, rest-next}
 
 -- the next message, as code measures it: of the part of the input behind a place
@@ -32,6 +33,17 @@ wrote-inside done vcpus pages out′ guest′ st msg out at guest e =
     let long : length part ≡ length out - at = rw (rest-part out at) (length-drop at out) in
     subst (λ (n : ℕ). paper (done .answer) .count ≤ n) long
     (subst (λ (r : Told). r .answer .count ≤ length part) (sym e) (message-past st msg part guest .inside))
+
+-- and what it supplies to feed a vCPU begins inside the input
+pub fed-inside : (done : Done) (vcpus pages out′ guest′ : List ℕ) (st : State) (input : List ℕ) (at n : ℕ) (out guest : List ℕ) → at ≤ length input
+    → told done vcpus pages out′ guest′ ≡ messageOf st (take n (drop at input)) out guest → at + fedAt (paper (done .answer) .signal) ≤ length input
+fed-inside done vcpus pages out′ guest′ st input at n out guest h e =
+    let msg = take n (drop at input) in
+    let begins : fedAt (paper (done .answer) .signal) ≤ length msg =
+    subst (λ (r : Told). fedAt (r .answer .signal) ≤ length msg) (sym e) (message-begins st msg out guest) in
+    let part = length-take n (drop at input) in
+    let rest = length-drop at input in
+    omega arith
 
 -- a turn: the message that was cut off was taken on the output that is left, and was counted
 pub turn-told : (b r : Batched) (done : Done) (input vcpus pages out signals guest vcpus′ pages′ out′ signals′ guest′ : List ℕ) (n : ℕ)

@@ -1,6 +1,11 @@
 -- A batch as code performs it: answer, counts, session, and every lent word and byte after it, for any bits in the session.
 use Prim.Native.Nat.{ℕ}
 use mathlib.Core.List.{List}
+use mathlib.Core.Bool.{cond}
+use lib.Dec.{eqb}
+use Rattle.kvmi.specs.declared.Feed.{Feed}
+use Rattle.kvmi.specs.declared.Signal.{Signal}
+use Rattle.kvmi.specs.declared.Signal.the-variants.{Quiet, Kick, Crash, Resume}
 use Rattle.kvmi.specs.Batch.{Taken, Takes, Batch, batchBy, usedBy}
 use Rattle.kvmi.specs.Call.{Call}
 use Rattle.session.specs.State.{State, state, isClosed}
@@ -36,3 +41,13 @@ batched r vcpus pages out signals guest =
       signals = signals;
       guest = guest;
     }
+
+-- at which byte of its message the bytes begin that feed a resumed vCPU: 0 where the message does not supply them
+abbrev pub suppliedAt : Feed → ℕ
+suppliedAt f = cond (eqb (f .source) 1) (f .at) 0
+
+abbrev pub fedAt : Signal → ℕ
+fedAt Quiet = 0
+fedAt (Kick wait vcpu) = 0
+fedAt (Crash vcpu) = 0
+fedAt (Resume vcpu action value feed) = suppliedAt feed

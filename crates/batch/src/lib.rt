@@ -1,5 +1,6 @@
 // Several messages of the tool in one write, end to end: each is cut off by its size field and taken as a single one is, on what the one before it
 // left. What they write stands end to end in one output, their signals in a list that the host lends.
+use kvmi::Feed;
 use kvmi::Signal;
 use page_words::PageWords;
 use session::Done;
@@ -11,12 +12,12 @@ ghost use mathlib.Core.Bool.{true};
 ghost use mathlib.Core.List.{List, [], _∷_, _++_};
 ghost use lib.Dec.{eqb};
 ghost use lib.ListN.{length, take};
-ghost use Rattle.kvmi.specs.Batch.{nextLength, listedAs, resumeOf, isResume, refusalOf, goesOn, counted, turnOf};
+ghost use Rattle.kvmi.specs.Batch.{nextLength, listedAs, feedIn, resumeOf, isResume, refusalOf, goesOn, counted, turnOf};
 ghost use Rattle.kvmi.specs.Answer.{paper};
 ghost use Rattle.session.specs.State.{state};
 ghost use Rattle.session.specs.Calls.{told};
 ghost use Rattle.wire.specs.Bytes.{store};
-ghost use Rattle.batch.specs.Batch.{toldTaken, messageTakes, batchOf, batched};
+ghost use Rattle.batch.specs.Batch.{toldTaken, messageTakes, batchOf, batched, suppliedAt, fedAt};
 
 // A kick's number in the list of signals: this, twice the vCPU, and 1 more with wait.
 const KICK: u32 = 256;
@@ -82,23 +83,43 @@ fn list(signals: &mut [u32], listed: usize, signal: Signal) -> usize
             vcpu: _,
             action: _,
             value: _,
+            feed: _,
         } => listed,
     }
 }
 
+// The bytes that feed a resumed vCPU, where its message begins at a byte of the input: those that the message supplies are a part of the input.
+fn feed_in(start: usize, feed: Feed) -> Feed
+    requires { ⌜ start + suppliedAt feed ≤ 18446744073709551615 ⌝ }
+    ensures { λ r. ⌜ r ≡ feedIn start feed ⌝ }
+{
+    let mut f = feed;
+    if feed.source == kvmi::answers::MESSAGE {
+        f.at = start as u64 + feed.at;
+    }
+    f
+}
+
 // What is handed back of a signal beside the list: a resume.
-fn resume_of(signal: Signal) -> Signal
-    ensures { λ r. ⌜ r ≡ resumeOf signal ⌝ }
+fn resume_of(start: usize, signal: Signal) -> Signal
+    requires { ⌜ start + fedAt signal ≤ 18446744073709551615 ⌝ }
+    ensures { λ r. ⌜ r ≡ resumeOf start signal ⌝ }
 {
     match signal {
         Signal::Quiet => Signal::Quiet,
         Signal::Kick { wait: _, vcpu: _ } => Signal::Quiet,
         Signal::Crash { vcpu: _ } => Signal::Quiet,
         Signal::Resume {
-            vcpu: _,
-            action: _,
-            value: _,
-        } => signal,
+            vcpu,
+            action,
+            value,
+            feed,
+        } => Signal::Resume {
+            vcpu,
+            action,
+            value,
+            feed: feed_in(start, feed),
+        },
     }
 }
 
@@ -113,6 +134,7 @@ fn is_resume(signal: Signal) -> bool
             vcpu: _,
             action: _,
             value: _,
+            feed: _,
         } => true,
     }
 }
@@ -140,7 +162,8 @@ fn goes_on(b: Batched, input: &[u8], out: &[u8], signals: &[u32]) -> bool
 
 // A message was taken: it is used, whatever its answer is, and what it wrote and signalled is counted.
 fn count(b: Batched, used: usize, done: Done, signals: &mut [u32]) -> Batched
-    requires { ⌜ (b .listed < length (now signals)) × (b .count + paper (done .answer) .count ≤ 18446744073709551615) ⌝ }
+    requires { ⌜ (b .listed < length (now signals)) × (b .count + paper (done .answer) .count ≤ 18446744073709551615)
+        × (b .used + fedAt (paper (done .answer) .signal) ≤ 18446744073709551615) ⌝ }
     ensures { λ r. ⌜ ((n : ℕ) (vcpus pages out out′ guest guest′ v p : List ℕ) → used ≡ b .used + n
         → batched r vcpus pages (take (b .count) out ++ out′) (now (signals .exit)) guest′
         ≡ counted (batched b v p out (now (signals .entry)) guest) n (toldTaken (told done vcpus pages out′ guest′))) ⌝ }
@@ -151,7 +174,7 @@ fn count(b: Batched, used: usize, done: Done, signals: &mut [u32]) -> Batched
     let signal = values.signal;
     Batched {
         session,
-        resume: resume_of(signal),
+        resume: resume_of(b.used, signal),
         number: stream::answer_number(answer) as u32,
         used,
         count: b.count + values.count,

@@ -17,7 +17,7 @@ ghost use Rattle.message.specs.Moves.{messageMove, sessionAfter};
 ghost use Rattle.vcpu_list.specs.List.{one, oneReady, oneCr};
 ghost use Rattle.calls.specs.Given.{resultWords, given, freshGiven, readyGiven, messageGiven, enterGiven, sizeGiven, writeGiven, readGiven, oneGiven};
 
-// How many words are lent for an answer's values: its seven, and five that are 0.
+// How many words are lent for an answer's values: its ten, and two that are 0.
 pub const RESULT_WORDS: usize = 12;
 
 pub type ResultWords = [u64; RESULT_WORDS];
@@ -61,11 +61,18 @@ fn put_result(result: &mut ResultWords, a: Answer) -> u32
                     vcpu,
                     action,
                     value,
+                    feed,
                 } => {
                     result[2] = 3;
                     result[3] = vcpu as u64;
                     result[5] = action as u64;
                     result[6] = value;
+                    if feed.source == kvmi::answers::MISSING {
+                        return 12;
+                    }
+                    result[7] = feed.source as u64;
+                    result[8] = feed.at;
+                    result[9] = feed.length as u64;
                 }
             }
             0
@@ -169,6 +176,7 @@ pub fn message(
 pub fn enter(
     s: Session,
     vcpus: &mut VcpuWords,
+    pages: &PageWords,
     vcpu: u32,
     block: &[u8],
     event: u32,
@@ -176,12 +184,12 @@ pub fn enter(
     out: &mut [u8],
     result: &mut ResultWords,
 ) -> Returned
-    ensures { λ r. ⌜ (r ≡ enterGiven s (now (vcpus .entry)) vcpu (now (block .entry)) event (now (own .entry)) (now (out .entry)) .done)
-        × (now (vcpus .exit) ≡ enterGiven s (now (vcpus .entry)) vcpu (now (block .entry)) event (now (own .entry)) (now (out .entry)) .vcpus)
-        × (now (out .exit) ≡ enterGiven s (now (vcpus .entry)) vcpu (now (block .entry)) event (now (own .entry)) (now (out .entry)) .out)
-        × (now (result .exit) ≡ enterGiven s (now (vcpus .entry)) vcpu (now (block .entry)) event (now (own .entry)) (now (out .entry)) .result) ⌝ }
+    ensures { λ r. ⌜ (r ≡ enterGiven s (now (vcpus .entry)) (now (pages .entry)) vcpu (now (block .entry)) event (now (own .entry)) (now (out .entry)) .done)
+        × (now (vcpus .exit) ≡ enterGiven s (now (vcpus .entry)) (now (pages .entry)) vcpu (now (block .entry)) event (now (own .entry)) (now (out .entry)) .vcpus)
+        × (now (out .exit) ≡ enterGiven s (now (vcpus .entry)) (now (pages .entry)) vcpu (now (block .entry)) event (now (own .entry)) (now (out .entry)) .out)
+        × (now (result .exit) ≡ enterGiven s (now (vcpus .entry)) (now (pages .entry)) vcpu (now (block .entry)) event (now (own .entry)) (now (out .entry)) .result) ⌝ }
 {
-    let done = entry::enter(s, vcpus, vcpu_number(vcpu), block, event, own, out);
+    let done = entry::enter(s, vcpus, pages, vcpu_number(vcpu), block, event, own, out);
     finish(done, result)
 }
 

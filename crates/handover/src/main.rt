@@ -138,10 +138,10 @@ fn mark_ready(held: Held, vcpu: u16) -> Held {
 }
 
 // A vCPU enters.
-fn enter(held: Held, vcpus: &mut VcpuWords, vcpu: u16) -> Held {
+fn enter(held: Held, vcpus: &mut VcpuWords, pages: &PageWords, vcpu: u16) -> Held {
     let block = [0u8; reply::STATE_BYTES];
     let mut out = [0u8; 4112];
-    let done = entry::enter(held.session, vcpus, vcpu, &block, 0, &[], &mut out);
+    let done = entry::enter(held.session, vcpus, pages, vcpu, &block, 0, &[], &mut out);
     move_to(b'E', held, done)
 }
 
@@ -227,7 +227,7 @@ fn take_call(
 ) -> Held {
     match letter {
         b'R' => mark_ready(held, wire::load16(arg, 0)),
-        b'E' => enter(held, vcpus, wire::load16(arg, 0)),
+        b'E' => enter(held, vcpus, pages, wire::load16(arg, 0)),
         _ => take_message(held, vcpus, pages, arg, guest),
     }
 }

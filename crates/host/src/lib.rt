@@ -83,6 +83,7 @@ pub extern "C" fn semblurick_raw_message(
 pub extern "C" fn semblurick_raw_enter(
     s: &mut Session,
     vcpus: &mut VcpuWords,
+    pages: &PageWords,
     vcpu: u32,
     block: &[u8],
     event: u32,
@@ -90,13 +91,13 @@ pub extern "C" fn semblurick_raw_enter(
     out: &mut [u8],
     result: &mut ResultWords,
 ) -> u32
-    ensures { λ r. ⌜ (r ≡ enterGiven (now (s .entry)) (now (vcpus .entry)) vcpu (now (block .entry)) event (now (own .entry)) (now (out .entry)) .done .code)
-        × (now (s .exit) ≡ enterGiven (now (s .entry)) (now (vcpus .entry)) vcpu (now (block .entry)) event (now (own .entry)) (now (out .entry)) .done .session)
-        × (now (vcpus .exit) ≡ enterGiven (now (s .entry)) (now (vcpus .entry)) vcpu (now (block .entry)) event (now (own .entry)) (now (out .entry)) .vcpus)
-        × (now (out .exit) ≡ enterGiven (now (s .entry)) (now (vcpus .entry)) vcpu (now (block .entry)) event (now (own .entry)) (now (out .entry)) .out)
-        × (now (result .exit) ≡ enterGiven (now (s .entry)) (now (vcpus .entry)) vcpu (now (block .entry)) event (now (own .entry)) (now (out .entry)) .result) ⌝ }
+    ensures { λ r. ⌜ (r ≡ enterGiven (now (s .entry)) (now (vcpus .entry)) (now (pages .entry)) vcpu (now (block .entry)) event (now (own .entry)) (now (out .entry)) .done .code)
+        × (now (s .exit) ≡ enterGiven (now (s .entry)) (now (vcpus .entry)) (now (pages .entry)) vcpu (now (block .entry)) event (now (own .entry)) (now (out .entry)) .done .session)
+        × (now (vcpus .exit) ≡ enterGiven (now (s .entry)) (now (vcpus .entry)) (now (pages .entry)) vcpu (now (block .entry)) event (now (own .entry)) (now (out .entry)) .vcpus)
+        × (now (out .exit) ≡ enterGiven (now (s .entry)) (now (vcpus .entry)) (now (pages .entry)) vcpu (now (block .entry)) event (now (own .entry)) (now (out .entry)) .out)
+        × (now (result .exit) ≡ enterGiven (now (s .entry)) (now (vcpus .entry)) (now (pages .entry)) vcpu (now (block .entry)) event (now (own .entry)) (now (out .entry)) .result) ⌝ }
 {
-    let d = calls::enter(*s, vcpus, vcpu, block, event, own, out, result);
+    let d = calls::enter(*s, vcpus, pages, vcpu, block, event, own, out, result);
     s.tool.seq = d.session.tool.seq;
     d.code
 }

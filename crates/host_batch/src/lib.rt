@@ -30,11 +30,17 @@ fn put_batch(result: &mut ResultWords, used: usize, count: usize, listed: usize,
             vcpu,
             action,
             value,
+            feed,
         } => {
             result[3] = RESUME;
             result[4] = vcpu as u64;
             result[5] = action as u64;
             result[6] = value;
+            if feed.source != kvmi::answers::MISSING {
+                result[7] = feed.source as u64;
+                result[8] = feed.at;
+                result[9] = feed.length as u64;
+            }
         }
     }
 }

@@ -22,7 +22,7 @@ use Rattle.kvmi.specs.Message.{layoutOf, vcpuOf}
 use Rattle.kvmi.specs.Verdict.{verdict}
 use Rattle.kvmi.specs.Change.{signalOf, modeFor}
 use Rattle.kvmi.specs.Reply.{replyData, answerBytes, answerOf, answerSeq}
-use Rattle.store.specs.Words.{field, PAUSES, AWAITED, AWAITED-SEQ}
+use Rattle.store.specs.Words.{field, PAUSES, AWAITED, AWAITED-SEQ, FAULT-GVA, FAULT-GPA, FAULT-ACCESS}
 use Rattle.verdict.specs.declared.Asked.{Asked}
 use Rattle.session.specs.declared.Session.{Session}
 use Rattle.session.specs.State.{State, withSeqOf, isClosed}
@@ -39,6 +39,9 @@ factsIn st guest vcpu =
       pauses = field (st .vcpus) vcpu PAUSES;
       awaited = field (st .vcpus) vcpu AWAITED;
       seq = field (st .vcpus) vcpu AWAITED-SEQ;
+      gva = field (st .vcpus) vcpu FAULT-GVA;
+      gpa = field (st .vcpus) vcpu FAULT-GPA;
+      access = field (st .vcpus) vcpu FAULT-ACCESS;
     }
 
 -- the code with which a message is answered, where it is: that of its verdict, or of its change

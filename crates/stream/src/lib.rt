@@ -88,12 +88,19 @@ pub fn signed(n: u32) -> i32
     }
 }
 
-// Document 01's number of an answer.
+// The number of an answer: document 01's, or W5's 12.
 pub fn answer_number(a: Answer) -> u8
     ensures { λ r. ⌜ r ≡ paper a .number ⌝ }
 {
     match a {
-        Answer::Handled(_) => 0,
+        Answer::Handled(values) => {
+            let signal = values.signal;
+            if kvmi::answers::lacks_page(signal) {
+                12
+            } else {
+                0
+            }
+        }
         Answer::Closing => 1,
         Answer::Closed => 2,
         Answer::ShortOut => 3,

@@ -8,7 +8,7 @@ values-requires : tie.Need-values-requires
 values-requires c κs = search needs
 
 resume-of-requires : tie.Need-resume-of-requires
-resume-of-requires c κs = search needs
+resume-of-requires c κs = rw (c .values .ensures .1) (c .before .before .before .pre .2)
 
 answer-number-requires : tie.Need-answer-number-requires
 answer-number-requires c κs = search needs

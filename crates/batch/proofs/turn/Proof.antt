@@ -6,7 +6,8 @@ use lib.ListN.{length}
 use denote.Ref.{now}
 use Rattle.batch.proofs.Turns.{goes-of}
 use Rattle.kvmi.specs.Answer.{paper}
-use Rattle.batch.proofs.Parts.{cut-inside, wrote-inside, turn-told}
+use Rattle.batch.specs.Batch.{fedAt}
+use Rattle.batch.proofs.Parts.{cut-inside, wrote-inside, fed-inside, turn-told}
 use borrow.Author.Needs.{needs}
 use Rattle.batch.proofs.turn.Statement.{statement}
 use Rattle.batch.proofs.turn.Tie as tie
@@ -51,11 +52,16 @@ count-requires : tie.Need-count-requires
 count-requires c κs =
     let g = goes-of _ _ (c .before .before .before .before .before .before .before .before .before .before .before .before .before .before .before .before .before .before .pre) in
     let r = g .room in
+    let m = g .more in
     let k = c .before .before .before .before .before .before .before .before .before .before .before .before .before .before .before .before .before .before .good .1 .1 .1 .1 .0 .0 in
+    let l = c .before .before .before .before .before .before .before .before .before .before .before .before .before .before .before .before .before .before .good .1 .1 .1 .0 .0 in
     let i : paper (c .before .before .before .before .before .take .result .answer) .count ≤ length (now (c .before .before .before .before .before .before .before .before .before .before .before .before .before .before .before .before .before .before .args .out)) - c .before .before .before .before .before .before .before .before .before .before .before .before .before .before .before .before .before .before .args .b .count =
     wrote-inside (c .before .before .before .before .before .take .result) _ _ _ _ _ _ (now (c .before .before .before .before .before .before .before .before .before .before .before .before .before .before .before .before .before .before .args .out)) (c .before .before .before .before .before .before .before .before .before .before .before .before .before .before .before .before .before .before .args .b .count) _ (c .before .before .before .before .before .take .ensures) in
     let s : c .before .before .before .before .before .before .before .before .before .before .before .before .before .before .before .before .before .before .args .b .count + paper (c .before .before .before .before .before .take .result .answer) .count ≤ 18446744073709551615 = omega arith in
-    (g .place, s)
+    let f : c .before .before .before .before .before .before .before .before .before .before .before .before .before .before .before .before .before .before .args .b .used + fedAt (paper (c .before .before .before .before .before .take .result .answer) .signal) ≤ length (now (c .before .before .before .before .before .before .before .before .before .before .before .before .before .before .before .before .before .before .args .input)) =
+    fed-inside (c .before .before .before .before .before .take .result) _ _ _ _ _ (now (c .before .before .before .before .before .before .before .before .before .before .before .before .before .before .before .before .before .before .args .input)) (c .before .before .before .before .before .before .before .before .before .before .before .before .before .before .before .before .before .before .args .b .used) (c .before .before .before .before .before .before .before .before .before .before .before .before .before .before .before .before .before .before .args .b .used + c .before .before .before .before .before .before .before .before .before .before .before .next-length .result - c .before .before .before .before .before .before .before .before .before .before .before .before .before .before .before .before .before .before .args .b .used) _ _ (omega arith) (c .before .before .before .before .before .take .ensures) in
+    let t : c .before .before .before .before .before .before .before .before .before .before .before .before .before .before .before .before .before .before .args .b .used + fedAt (paper (c .before .before .before .before .before .take .result .answer) .signal) ≤ 18446744073709551615 = omega arith in
+    (g .place, s, t)
 
 same-length : tie.Need-same-length
 same-length c = search needs

@@ -1,7 +1,6 @@
 -- What the session tells of an entry, as a host has it. Assumes nothing.
 use mathlib.Core.Path.{_∙_, ap}
 use Prim.Native.Nat.{ℕ}
-use mathlib.Core.List.{[]}
 use Rattle.session.specs.State.{state}
 use Rattle.session.specs.Calls.{Told}
 use Rattle.entry.specs.Entry.{enterOf}
@@ -27,8 +26,8 @@ unfolding enterGiven
 returns c =
     let a = c .before .before .before .before .before .before .before .before .before .before .before .args in
     let e =
-    c .before .before .before .before .enter .ensures []
-    ∙ ap (λ (n : ℕ). enterOf (state (a .s) (a .vcpus .now) []) n (a .block .now) (a .event) (a .own .now) (a .out .now)) (c .before .before .before .before .before .before .vcpu-number .ensures) in
+    c .before .before .before .before .enter .ensures
+    ∙ ap (λ (n : ℕ). enterOf (state (a .s) (a .vcpus .now) (a .pages .now)) n (a .block .now) (a .event) (a .own .now) (a .out .now)) (c .before .before .before .before .before .before .vcpu-number .ensures) in
     (c .finish .ensures .0 ∙ ap (λ (t : Told). given t .done) e, ap (λ (t : Told). t .state .vcpus) e, ap (λ (t : Told). t .out) e, c .finish .ensures .1 ∙ ap (λ (t : Told). given t .result) e)
 
 pub enter-spec : {M : Type 1} → statement M
