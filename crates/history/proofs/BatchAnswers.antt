@@ -1,6 +1,6 @@
 -- The answers of a batch, each with its condition and with what it leaves, of any session whatever. Assumes nothing.
 use mathlib.Core.Path.{_≡_, refl, sym, ap, subst, _∙_}
-use mathlib.Core.Logic.{_↔_, _⊎_, inl, inr}
+use mathlib.Core.Logic.{_↔_, _⊎_, _≢_, inl, inr, ⊎-elim}
 use Prim.Native.Nat.{ℕ, zero, suc, _+_, _-_, _≤_, _<_}
 use native.Mathlib.Omega.{arith}
 use mathlib.Core.List.{List, [], _∷_, _++_}
@@ -18,6 +18,7 @@ use Rattle.kvmi.specs.declared.Change.{Change}
 use Rattle.kvmi.specs.declared.Change.the-variants.{Nothing, SetVmEvent, WritePhysical, QueuePause, SetVcpuEvent, SetCr, SetMsr, SetPages, SetSinglestep, SetReplies, EndWait}
 use Rattle.kvmi.specs.declared.Verdict.{Verdict}
 use Rattle.kvmi.specs.declared.Verdict.the-variants.{Closes, Fails, Does}
+use Rattle.kvmi.specs.Answer.{lacksPage}
 use Rattle.kvmi.specs.Bits.{among}
 use Rattle.kvmi.specs.Limits.{leastOut}
 use Rattle.kvmi.specs.Message.{vcpuOf}
@@ -38,7 +39,7 @@ use Rattle.history.proofs.Singly.{one-place}
 
 -- ---- a message to an open session, with room, is answered 0 and leaves it open, or 1, closes it and signals nothing
 abbrev Lives : Told → Type 0
-Lives r = ((r .answer .number ≡ 0) × (isClosed (r .state) ≡ false)) ⊎ ((r .answer .number ≡ 1) × (isClosed (r .state) ≡ true) × (r .answer .signal ≡ Quiet))
+Lives r = ((r .answer .number ≡ cond (lacksPage (r .answer .signal)) 12 0) × (isClosed (r .state) ≡ false)) ⊎ ((r .answer .number ≡ 1) × (isClosed (r .state) ≡ true) × (r .answer .signal ≡ Quiet))
 
 change-lives : (st : State) (guest d : List ℕ) (c : Change) → isClosed (change st guest d c .state) ≡ isClosed st
 unfolding change
@@ -52,7 +53,7 @@ change-lives st guest d (SetMsr on vcpu msr) = refl
 change-lives st guest d (SetPages view count) = refl
 change-lives st guest d (SetSinglestep on vcpu) = refl
 change-lives st guest d (SetReplies now mode) = refl
-change-lives st guest d (EndWait resumes vcpu action value) = refl
+change-lives st guest d (EndWait resumes vcpu action value feed) = refl
 
 judged-lives : (st : State) (id seq : ℕ) (d out guest : List ℕ) → isClosed st ≡ false → (v : Verdict) → Lives (judgedOf st id seq d out guest v)
 unfolding judgedOf answeringOf
@@ -69,9 +70,16 @@ message-lives : (st : State) (msg out guest : List ℕ) → isClosed st ≡ fals
 unfolding messageOf
 message-lives st msg out guest o l = rw (o, le-ltb (length out) leastOut l) (headed-lives st (drop 8 msg) out guest o (headerOf msg))
 
+-- a resume that is handed back lacks its page where the message's does
+lacks-back : (start : ℕ) (g : Signal) → lacksPage g ≡ lacksPage (resumeOf start g)
+lacks-back start Quiet = refl
+lacks-back start (Kick wait vcpu) = refl
+lacks-back start (Crash vcpu) = refl
+lacks-back start (Resume vcpu action value feed) = refl
+
 -- ---- so does each turn
 abbrev Alive : Batch State → Type 0
-Alive b = ((b .number ≡ 0) × (isClosed (b .state) ≡ false)) ⊎ ((b .number ≡ 1) × (isClosed (b .state) ≡ true) × (isResume (b .resume) ≡ false))
+Alive b = ((b .number ≡ cond (lacksPage (b .resume)) 12 0) × (isClosed (b .state) ≡ false)) ⊎ ((b .number ≡ 1) × (isClosed (b .state) ≡ true) × (isResume (b .resume) ≡ false))
 
 -- ---- what a turn leaves, of what was lent
 record Held (input out signals : List ℕ) (b : Batch State) : Type 0 where
@@ -96,8 +104,8 @@ module _ (input out signals : List ℕ) (b : Batch State) (g : goesOn input b �
   lives = by-message (message-lives (b .state) (nextOf input b) (outLeft b) (b .guest) opened (let room = goes-of input b g .room in rw (length-drop (b .count) (b .out)) room))
     where
       by-message : Lives r → Alive (turnOf messageTakes input b)
-      by-message (inl q) = inl q
-      by-message (inr q) = inr (q .0, q .1, ap (λ (x : Signal). isResume (resumeOf x)) (q .2))
+      by-message (inl q) = inl (q .0 ∙ ap (λ (x : Bool). cond x 12 0) (lacks-back (b .used) (r .answer .signal)), q .1)
+      by-message (inr q) = inr (q .0, q .1, ap (λ (x : Signal). isResume (resumeOf (b .used) x)) (q .2))
 
   output-held : PastCount out (b .count + r .answer .count) (take (b .count) (b .out) ++ r .out)
   output-held =
@@ -191,26 +199,31 @@ module _ (st : State) (input out signals guest : List ℕ) where
       some-place : eqb (length signals) 0 ≡ false → 0 < length signals
       some-place z = let n = eqb-false (length signals) 0 z in omega arith
 
-  refused-answers : (k : ℕ) → 2 ≤ k → So (among k (0 ∷ 1 ∷ 2 ∷ 3 ∷ 11 ∷ [])) → ((k ≡ 2) ↔ Closed st) → ((k ≡ 3) ↔ (Open st × (length out < leastOut)))
+  refused-answers : (k : ℕ) → 2 ≤ k → k ≢ 12 → So (among k (0 ∷ 1 ∷ 2 ∷ 3 ∷ 11 ∷ 12 ∷ [])) → ((k ≡ 2) ↔ Closed st) → ((k ≡ 3) ↔ (Open st × (length out < leastOut)))
       → ((k ≡ 11) ↔ (Open st × (leastOut ≤ length out) × (length signals ≡ 0))) → BatchAnswers st input out signals guest (start k)
   unfolding goesOn
-  refused-answers k two numbers closed short place =
+  refused-answers k two none-lacks numbers closed short place =
       record {
         numbers = numbers;
         closed = closed;
         short = short;
         noPlace = place;
-        refused = λ _. refl;
+        refused = λ _ _. refl;
         output = record { inside = omega arith; long = refl; rest = refl };
         list = record { inside = omega arith; long = refl; rest = refl };
         inside = omega arith;
-        some = λ l _. absurd (omega arith);
+        some = λ l _. absurd (neither l);
         closes = λ e. absurd (omega arith);
-        opened = λ e. absurd (omega arith);
+        opened = λ e. absurd (⊎-elim (λ z. omega arith) none-lacks e);
         resumes = λ e. absurd (false≢true e);
+        noPage = (λ e. absurd (none-lacks e), λ e. absurd (false≢true e));
         ends = rw (not-nought k two) refl;
       }
     where
+      neither : (k < 2) ⊎ (k ≡ 12) → ⊥
+      neither (inl l) = omega arith
+      neither (inr e) = none-lacks e
+
       not-nought : (k : ℕ) → 2 ≤ k → eqb k 0 ≡ false
       not-nought k l = ne-eqb k 0 (λ z. absurd (omega arith))
 
@@ -221,10 +234,10 @@ module _ (st : State) (input out signals guest : List ℕ) where
       let h = turns-held (length input) input out signals (start 0) (start-held 0 (inl (refl, o))) in
       record {
         numbers = small e (h .alive);
-        closed = (λ k. absurd (below e _ (h .alive) k (omega arith)), λ c. clash c o);
-        short = (λ k. absurd (below e _ (h .alive) k (omega arith)), λ q. absurd (omega arith));
-        noPlace = (λ k. absurd (below e _ (h .alive) k (omega arith)), λ q. absurd (omega arith));
-        refused = λ k. absurd (below e _ (h .alive) refl k);
+        closed = (λ k. absurd (below e _ (h .alive) k (omega arith) (λ z. omega arith)), λ c. clash c o);
+        short = (λ k. absurd (below e _ (h .alive) k (omega arith) (λ z. omega arith)), λ q. absurd (omega arith));
+        noPlace = (λ k. absurd (below e _ (h .alive) k (omega arith) (λ z. omega arith)), λ q. absurd (omega arith));
+        refused = λ k n. absurd (below e _ (h .alive) refl k n);
         output = h .output;
         list = h .list;
         inside = h .inside;
@@ -232,28 +245,53 @@ module _ (st : State) (input out signals guest : List ℕ) where
         closes = closing e (h .alive);
         opened = opening e (h .alive);
         resumes = resuming e (h .alive);
+        noPage = lacking e (h .alive);
         ends = turns-over messageTakes (length input) input (start 0) (omega arith);
       }
     where
-      small : (e : Batch State) → Alive e → So (among (e .number) (0 ∷ 1 ∷ 2 ∷ 3 ∷ 11 ∷ []))
-      small e (inl q) = rw (q .0) refl
+      few : (lacks : Bool) → So (among (cond lacks 12 0) (0 ∷ 1 ∷ 2 ∷ 3 ∷ 11 ∷ 12 ∷ []))
+      few true = refl
+      few false = refl
+
+      either-one : (lacks : Bool) → (_≡_ {A = ℕ} (cond lacks 12 0) 0) ⊎ (_≡_ {A = ℕ} (cond lacks 12 0) 12)
+      either-one true = inr refl
+      either-one false = inl refl
+
+      small : (e : Batch State) → Alive e → So (among (e .number) (0 ∷ 1 ∷ 2 ∷ 3 ∷ 11 ∷ 12 ∷ []))
+      small e (inl q) = rw (q .0) (few (lacksPage (e .resume)))
       small e (inr q) = rw (q .0) refl
 
       closing : (e : Batch State) → Alive e → e .number ≡ 1 → Closed (e .state)
-      closing e (inl q) n = let z = q .0 in absurd (omega arith)
+      closing e (inl q) n = let z = q .0 in ⊎-elim (λ a. absurd (omega arith)) (λ a. absurd (omega arith)) (either-one (lacksPage (e .resume)))
       closing e (inr q) n = q .1
 
-      opening : (e : Batch State) → Alive e → e .number ≡ 0 → Open (e .state)
+      opening : (e : Batch State) → Alive e → (e .number ≡ 0) ⊎ (e .number ≡ 12) → Open (e .state)
       opening e (inl q) n = q .1
-      opening e (inr q) n = let z = q .0 in absurd (omega arith)
+      opening e (inr q) (inl n) = let z = q .0 in absurd (omega arith)
+      opening e (inr q) (inr n) = let z = q .0 in absurd (omega arith)
 
-      resuming : (e : Batch State) → Alive e → isResume (e .resume) ≡ true → e .number ≡ 0
-      resuming e (inl q) n = q .0
+      resuming : (e : Batch State) → Alive e → isResume (e .resume) ≡ true → (e .number ≡ 0) ⊎ (e .number ≡ 12)
+      resuming e (inl q) n = ⊎-elim (λ a. inl (q .0 ∙ a)) (λ a. inr (q .0 ∙ a)) (either-one (lacksPage (e .resume)))
       resuming e (inr q) n = clash n (q .2)
 
-      below : (e : Batch State) (k : ℕ) → Alive e → e .number ≡ k → 2 ≤ k → ⊥
-      below e k (inl q) n l = let z = q .0 in omega arith
-      below e k (inr q) n l = let z = q .0 in omega arith
+      -- what lacks its page is a resume
+      lacks-resumes : (g : Signal) → lacksPage g ≡ true → isResume g ≡ true
+      lacks-resumes Quiet h = absurd (false≢true h)
+      lacks-resumes (Kick wait vcpu) h = absurd (false≢true h)
+      lacks-resumes (Crash vcpu) h = absurd (false≢true h)
+      lacks-resumes (Resume vcpu action value feed) h = refl
+
+      twelve : (lacks : Bool) → _≡_ {A = ℕ} (cond lacks 12 0) 12 → lacks ≡ true
+      twelve true h = refl
+      twelve false h = absurd (omega arith)
+
+      lacking : (e : Batch State) → Alive e → (e .number ≡ 12) ↔ (lacksPage (e .resume) ≡ true)
+      lacking e (inl q) = (λ n. twelve (lacksPage (e .resume)) (sym (q .0) ∙ n), λ l. q .0 ∙ ap (λ (x : Bool). cond x 12 0) l)
+      lacking e (inr q) = (λ n. let z = q .0 in absurd (omega arith), λ l. clash (lacks-resumes (e .resume) l) (q .2))
+
+      below : (e : Batch State) (k : ℕ) → Alive e → e .number ≡ k → 2 ≤ k → k ≢ 12 → ⊥
+      below e k (inl q) n l other = let z = q .0 in ⊎-elim (λ a. omega arith) (λ a. other (sym n ∙ z ∙ a)) (either-one (lacksPage (e .resume)))
+      below e k (inr q) n l other = let z = q .0 in omega arith
 
       -- the first message
       first : 0 < length input → 0 < turnsOf messageTakes (length input) input (start 0) .used
@@ -270,7 +308,7 @@ module _ (st : State) (input out signals guest : List ℕ) where
   pub batch-answers : BatchAnswers st input out signals guest (batchOf st input out signals guest)
   batch-answers =
       batch-cases (BatchAnswers st input out signals guest)
-      (λ c. refused-answers 2 (omega arith) refl (λ _. c, λ _. refl) (λ k. absurd (omega arith), λ q. clash c (q .0)) (λ k. absurd (omega arith), λ q. clash c (q .0)))
-      (λ o l. refused-answers 3 (omega arith) refl (λ k. absurd (omega arith), λ c. clash c o) (λ _. (o, l), λ _. refl) (λ k. absurd (omega arith), λ q. let m = q .1 in absurd (omega arith)))
-      (λ o l z. refused-answers 11 (omega arith) refl (λ k. absurd (omega arith), λ c. clash c o) (λ k. absurd (omega arith), λ q. let m = q .1 in absurd (omega arith)) (λ _. (o, l, z), λ _. refl))
+      (λ c. refused-answers 2 (omega arith) (λ z. omega arith) refl (λ _. c, λ _. refl) (λ k. absurd (omega arith), λ q. clash c (q .0)) (λ k. absurd (omega arith), λ q. clash c (q .0)))
+      (λ o l. refused-answers 3 (omega arith) (λ z. omega arith) refl (λ k. absurd (omega arith), λ c. clash c o) (λ _. (o, l), λ _. refl) (λ k. absurd (omega arith), λ q. let m = q .1 in absurd (omega arith)))
+      (λ o l z. refused-answers 11 (omega arith) (λ z. omega arith) refl (λ k. absurd (omega arith), λ c. clash c o) (λ k. absurd (omega arith), λ q. let m = q .1 in absurd (omega arith)) (λ _. (o, l, z), λ _. refl))
       taken-answers

@@ -51,7 +51,7 @@ module _ (guest : List ℕ) where
   change-long st d (SetPages view count) = refl
   change-long st d (SetSinglestep on vcpu) = refl
   change-long st d (SetReplies now mode) = refl
-  change-long st d (EndWait resumes vcpu action value) = refl
+  change-long st d (EndWait resumes vcpu action value feed) = refl
 
   judged-long : (st : State) (id seq : ℕ) (d out : List ℕ) (v : Verdict) → Long (judgedOf st id seq d out guest v)
   unfolding judgedOf answeringOf

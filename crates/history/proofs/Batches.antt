@@ -88,7 +88,7 @@ module _ (s : Settings) (input : List ℕ) (b : Batch State) (c : Batch Model) (
         used = rw (h .used) refl;
         count = rw (answer, h .count) refl;
         listed = rw (answer, h .listed) refl;
-        resume = rw answer refl;
+        resume = rw (answer, h .used) refl;
         out = rw (out′, h .count, h .out) refl;
         signals = rw (answer, h .signals, h .listed) refl;
         guest = guest′;

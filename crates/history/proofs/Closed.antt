@@ -37,7 +37,7 @@ apply-lives m guest d (SetMsr on vcpu msr) = refl
 apply-lives m guest d (SetPages view count) = refl
 apply-lives m guest d (SetSinglestep on vcpu) = refl
 apply-lives m guest d (SetReplies now mode) = refl
-apply-lives m guest d (EndWait resumes vcpu action value) = refl
+apply-lives m guest d (EndWait resumes vcpu action value feed) = refl
 
 module _ (s : Settings) (m : Model) (rests : Rests s m) where
   abbrev R : Step → Type 0

@@ -4,7 +4,7 @@ use mathlib.Core.Logic.{_↔_, inl, inr, ⊎-elim}
 use Prim.Native.Nat.{ℕ, zero, suc, _≤_, _<_, min}
 use native.Mathlib.Omega.{arith}
 use mathlib.Core.List.{List, [], _∷_}
-use mathlib.Core.Bool.{Bool, true, false, not, _&&_, _||_, So}
+use mathlib.Core.Bool.{Bool, true, false, cond, not, _&&_, _||_, So}
 use mathlib.Core.Option.{Option, none}
 use lib.ListN.{length, getD, drop, List·getD-eq-default}
 use lib.Dec.{leb, ltb, eqb}
@@ -16,7 +16,8 @@ use Rattle.kvmi.specs.declared.Settings.{Settings}
 use Rattle.kvmi.specs.declared.Signal.the-variants.{Quiet}
 use Rattle.kvmi.specs.declared.Verdict.{Verdict}
 use Rattle.kvmi.specs.declared.Verdict.the-variants.{Closes, Fails, Does}
-use Rattle.kvmi.specs.Answer.{plainAt}
+use Rattle.kvmi.specs.Answer.{plainAt, lacksPage}
+use Rattle.kvmi.specs.Change.{signalOf}
 use Rattle.kvmi.specs.declared.EventRow.{EventRow}
 use Rattle.kvmi.specs.Bits.{among}
 use Rattle.kvmi.specs.Limits.{leastOut, eventOut, stateBytes}
@@ -35,7 +36,7 @@ use Rattle.image_writer.specs.Write.{statedVcpus, statedTables, imageOf}
 use Rattle.image_reader.specs.Read.{toldLoaded, readOf}
 use Rattle.refine.specs.Frames.{Refuses, Past}
 use Rattle.history.proofs.BatchAnswers.{batch-answers}
-use Rattle.history.specs.Demand1.{Answers, OneOf, Closed, Open, IsVcpu, NoVcpu, offers, ownLength, Offer, Lent, Awaits, AwaitsAny, imageLength, InRange, saidOf, RuleCloses, FreshAnswers, ReadyAnswers, MessageAnswers, EntryAnswers, WriterAnswers, ReaderAnswers, Demand1}
+use Rattle.history.specs.Demand1.{Answers, OneOf, Closed, Open, IsVcpu, NoVcpu, offers, ownLength, Offer, Lent, Awaits, AwaitsAny, imageLength, InRange, saidOf, RuleCloses, NeedsPage, FreshAnswers, ReadyAnswers, MessageAnswers, EntryAnswers, WriterAnswers, ReaderAnswers, Demand1}
 use Rattle.wire.proofs.Laws.{le-or-lt}
 use Rattle.laws.proofs.Bool.{and-l, and-r, either, or-l, or-r, test, clash, same-test, among-every}
 use Rattle.laws.proofs.Verdicts.{pick}
@@ -81,6 +82,9 @@ module _ (st : State) (vcpu : ℕ) where
       }
 
 -- ---- a message
+abbrev message-numbers : List ℕ
+message-numbers = 0 ∷ 1 ∷ 2 ∷ 3 ∷ 12 ∷ []
+
 module _ (st : State) (msg out guest : List ℕ) where
   abbrev r-message : Told
   r-message = messageOf st msg out guest
@@ -88,8 +92,12 @@ module _ (st : State) (msg out guest : List ℕ) where
   abbrev closing-when : Type 0
   closing-when = Open st × (leastOut ≤ length out) × RuleCloses st msg guest
 
+  abbrev lacking-when : Type 0
+  lacking-when = Open st × (leastOut ≤ length out) × NeedsPage st msg guest
+
   abbrev message-by : List (Type 0)
-  message-by = Unit {0} ∷ closing-when ∷ Closed st ∷ (Open st × (length out < leastOut)) ∷ []
+  message-by =
+      Unit {0} ∷ closing-when ∷ Closed st ∷ (Open st × (length out < leastOut)) ∷ ⊥ ∷ ⊥ ∷ ⊥ ∷ ⊥ ∷ ⊥ ∷ ⊥ ∷ ⊥ ∷ ⊥ ∷ lacking-when ∷ []
 
   -- what holds of a message that tests 2 to 6 judge, by what they say
   judged-told : (id size seq : ℕ) → Open st → leastOut ≤ length out → headerOf msg ≡ Whole id size seq → (v : Verdict) → saidOf st msg guest id seq ≡ v
@@ -97,7 +105,11 @@ module _ (st : State) (msg out guest : List ℕ) where
   unfolding judgedOf answeringOf
   judged-told id size seq o l h Closes e = (o, l, inr (id, size, seq, h, e))
   judged-told id size seq o l h (Fails code) e = tt
-  judged-told id size seq o l h (Does c) e = tt
+  judged-told id size seq o l h (Does c) e = by (lacksPage (signalOf c)) refl
+    where
+      by : (lacks : Bool) → lacksPage (signalOf c) ≡ lacks → at message-by (cond lacks 12 0)
+      by true p = (o, l, (id, size, seq, c, h, e, p))
+      by false p = tt
 
   headed-told : Open st → leastOut ≤ length out → (h : Header) → headerOf msg ≡ h → Told-by message-by (headedOf st (drop 8 msg) out guest h)
   unfolding headedOf
@@ -116,13 +128,22 @@ module _ (st : State) (msg out guest : List ℕ) where
   rule-closes (o, l, inl e) = rw (o, le-ltb (length out) leastOut l, e)
   rule-closes (o, l, inr (id, size, seq, h, e)) = rw (o, le-ltb (length out) leastOut l, h, e)
 
-  judged-numbers : (id seq : ℕ) (v : Verdict) → OneOf (0 ∷ 1 ∷ 2 ∷ 3 ∷ []) (judgedOf st id seq (drop 8 msg) out guest v)
+  -- a message that needs the guest page
+  page-lacks : lacking-when → Answers r-message 12
+  unfolding messageOf headedOf judgedOf answeringOf
+  page-lacks (o, l, (id, size, seq, c, h, e, p)) = rw (o, le-ltb (length out) leastOut l, h, e, p)
+
+  few-numbers : (lacks : Bool) → So (among (cond lacks 12 0) message-numbers)
+  few-numbers true = refl
+  few-numbers false = refl
+
+  judged-numbers : (id seq : ℕ) (v : Verdict) → OneOf message-numbers (judgedOf st id seq (drop 8 msg) out guest v)
   unfolding judgedOf answeringOf
   judged-numbers id seq Closes = refl
   judged-numbers id seq (Fails code) = refl
-  judged-numbers id seq (Does c) = refl
+  judged-numbers id seq (Does c) = few-numbers (lacksPage (signalOf c))
 
-  headed-numbers : (h : Header) → OneOf (0 ∷ 1 ∷ 2 ∷ 3 ∷ []) (headedOf st (drop 8 msg) out guest h)
+  headed-numbers : (h : Header) → OneOf message-numbers (headedOf st (drop 8 msg) out guest h)
   unfolding headedOf
   headed-numbers Broken = refl
   headed-numbers (Whole id size seq) = judged-numbers id seq (saidOf st msg guest id seq)
@@ -133,10 +154,11 @@ module _ (st : State) (msg out guest : List ℕ) where
       let closing : Answers r-message 1 ↔ closing-when = exactly message-by r-message 1 message-told (λ q. ap (λ (r : Told). r .answer .number) (rule-closes q)) in
       record {
         numbers =
-            pick (OneOf (0 ∷ 1 ∷ 2 ∷ 3 ∷ [])) (isClosed st) _ _ (λ _. refl)
-            (λ _. pick (OneOf (0 ∷ 1 ∷ 2 ∷ 3 ∷ [])) (ltb (length out) leastOut) _ _ (λ _. refl) (λ _. headed-numbers (headerOf msg)));
+            pick (OneOf message-numbers) (isClosed st) _ _ (λ _. refl)
+            (λ _. pick (OneOf message-numbers) (ltb (length out) leastOut) _ _ (λ _. refl) (λ _. headed-numbers (headerOf msg)));
         closed = exactly message-by r-message 2 message-told (λ c. rw c);
         short = exactly message-by r-message 3 message-told (λ q. rw (q .0, lt-ltb (length out) leastOut (q .1)));
+        noPage = exactly message-by r-message 12 message-told page-lacks;
         closing = closing;
         closes = λ e. rule-closes (closing .0 e);
         refused = message-refuses st msg out guest;

@@ -109,7 +109,7 @@ module _ (w x : List ℕ) (i : ℕ) (e : block x i ≡ block w i) where
   awaited-same n =
       test (ltb i n)
       (λ h. let l = ltb-true i n h in
-      awaited-at x n i l ∙ awaited-fields w x i (field-same AWAITED (omega arith)) (field-same AWAITED-SEQ (omega arith)) ∙ sym (awaited-at w n i l))
+      awaited-at x n i l ∙ awaited-fields w x i (λ k a b. field-same k (omega arith)) ∙ sym (awaited-at w n i l))
       (λ h. let l = ltb-false i n h in
       List·getD-eq-default (awaitedOf x 0 n) none {n = i} (rw (awaited-length x 0 n) l)
       ∙ sym (List·getD-eq-default (awaitedOf w 0 n) none {n = i} (rw (awaited-length w 0 n) l)))

@@ -92,7 +92,7 @@ change-fits st guest d (SetPages view count) =
     pick (SFits w32) (runEntries pageLimit view (entriesOf count (drop 8 d)) (st .pages) (st .session .tool .pages) .skipped) ENOMEM OK (λ _. sfits-lit tt) (λ _. sfits-lit tt)
 change-fits st guest d (SetSinglestep on vcpu) = sfits-lit tt
 change-fits st guest d (SetReplies now mode) = sfits-lit tt
-change-fits st guest d (EndWait resumes vcpu action value) = sfits-lit tt
+change-fits st guest d (EndWait resumes vcpu action value feed) = sfits-lit tt
 
 -- ---- the error in an answer's bytes
 -- of an id two bytes are written

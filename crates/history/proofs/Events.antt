@@ -9,7 +9,7 @@ use mathlib.Core.Option.{Option, none, some}
 use lib.ListN.{length, getD, set, take, drop, replicate, List·getD-eq-default}
 use lib.Seq.{getD-set-same, getD-set-other, set-out, take-append-seam}
 use lib.Dec.{leb, ltb, eqb}
-use borrow.Author.Tests.{ltb-true, ltb-false, eqb-true, eqb-false, eq-eqb, ne-eqb, le-leb, le-ltb, not-true}
+use borrow.Author.Tests.{ltb-true, ltb-false, eqb-true, eqb-false, eq-eqb, ne-eqb, leb-true, le-leb, le-ltb, not-true}
 use Rattle.wire.specs.Bytes.{load}
 use Rattle.wire.specs.Header.{headerOf}
 use Rattle.wire.specs.declared.Header.{Header}
@@ -28,14 +28,18 @@ use Rattle.kvmi.specs.Bits.{every, among}
 use Rattle.kvmi.specs.Limits.{leastOut}
 use Rattle.kvmi.specs.Settings.{allowsCommand}
 use Rattle.kvmi.specs.Tables.{Tables, Vcpu, resting, vcpuAt, withPauses}
+use Rattle.kvmi.specs.declared.ReplyForm.{ReplyForm}
+use Rattle.kvmi.specs.declared.ReplyForm.the-variants as form
+use Rattle.kvmi.specs.Feed.{Fault, noFault, keptOf, unfed, wantsBytes, contextFits, chosenFeed, feedOf}
 use Rattle.kvmi.specs.Model.{Awaited, awaiting, Model, awaitedBy, isSome, nextSeq}
 use Rattle.kvmi.specs.Message.{layoutOf, sizeFits, vcpuOf, actionOf, repliedEvent, firstPadding}
-use Rattle.kvmi.specs.Event.{eventRowOf, offerFits, asksFor, isAskedFor, takesAction, newValue}
-use Rattle.kvmi.specs.Verdict.{awaitedEvent, awaitedSeq, factsOf, repliesOn, isAwaited, replyFits, eventReplyVerdict, changeOf, verdict}
+use Rattle.kvmi.specs.Event.{eventRowOf, offerFits, asksFor, isAskedFor, takesAction, formFits, valueOf}
+use Rattle.kvmi.specs.Verdict.{awaitedEvent, awaitedSeq, awaitedFault, factsOf, repliesOn, isAwaited, replyFits, feedBy, eventReplyVerdict, changeOf, verdict}
 use Rattle.kvmi.specs.Change.{apply, signalOf}
 use Rattle.kvmi.specs.Reply.{eventBytes, pauseEvent, answerOf}
 use Rattle.kvmi.specs.Pauses.{queued}
 use Rattle.kvmi.specs.Call.{Call, message, ready, enter, Step, answering, judged, headed, messageStep, sending, pausing, dequeuing, entering, enterStep, step, move, after}
+use Rattle.session.specs.declared.Tool.{Tool}
 use Rattle.session.specs.State.{State}
 use Rattle.session.specs.Calls.{Told}
 use Rattle.session.specs.Meaning.{modelOf}
@@ -44,7 +48,7 @@ use Rattle.refine.specs.Errors.{HasId}
 use Rattle.history.specs.History.{stepOf, afterOf, BeganOn, anew, fromImage}
 use Rattle.history.specs.Demand1.{offers, Offer, Open, Awaits}
 use Rattle.history.specs.Unsteered.{written}
-use Rattle.history.specs.Events.{switchesOn, SentExactly, PauseGoes, replied, hasValue, replyLength, valueIn, isTaken, Replies, signalled, NoReply, NoReplies, Events}
+use Rattle.history.specs.Events.{switchesOn, SentExactly, PauseGoes, replied, hasValue, replyLength, valueIn, isTaken, fedBy, Context, Replies, signalled, NoReply, NoReplies, Events}
 use Rattle.laws.proofs.Bool.{and-l, and-r, either, test, clash, every-getD, every-set, every-replicate, among-every}
 use Rattle.laws.proofs.Verdicts.{pick, verdict-cases}
 use Rattle.laws.proofs.Events.{asked-some, event-number, event-long}
@@ -74,7 +78,7 @@ each-among P x (y ∷ ys) e h = either (eqb x y) (among x ys) h (λ q. rw (eqb-t
 asked-on : (t : Tables) (vcpu event : ℕ) (own : List ℕ) → So (among event offers) → isAskedFor t vcpu event own ≡ switchesOn t vcpu event own
 unfolding isAskedFor asksFor eventRowOf switchesOn
 asked-on t vcpu event own h =
-    each-among (λ e. isAskedFor t vcpu e own ≡ switchesOn t vcpu e own) event offers (refl, (refl, (refl, (refl, (refl, (refl, (refl, (refl, (refl, (refl, tt)))))))))) h
+    each-among (λ e. isAskedFor t vcpu e own ≡ switchesOn t vcpu e own) event offers (refl, (refl, (refl, (refl, (refl, (refl, (refl, (refl, (refl, (refl, (refl, tt))))))))))) h
 
 -- it is no pause
 no-pause : (event : ℕ) → So (among event offers) → event % 256 ≢ 2
@@ -108,7 +112,7 @@ module _ (m : Model) (vcpu : ℕ) (block : List ℕ) (event : ℕ) (own out : Li
   abbrev Exactly : Step → Type 0
   Exactly r =
       ((wrote r ≡ eventBytes (m .seq) vcpu event block own) ↔ (asked ≡ true))
-      × ((awaitedBy (r .model) vcpu ≡ some (awaiting event (m .seq))) ↔ (asked ≡ true))
+      × ((awaitedBy (r .model) vcpu ≡ some (awaiting event (m .seq) (keptOf event own))) ↔ (asked ≡ true))
       × (asked ≡ true → r .model .seq ≡ nextSeq (m .seq))
 
   entering-exactly : event % 256 ≢ 2 → isSome (awaitedBy m vcpu) ≡ false → Exactly (entering m vcpu block event own out)
@@ -117,7 +121,7 @@ module _ (m : Model) (vcpu : ℕ) (block : List ℕ) (event : ℕ) (own out : Li
       let bytes = eventBytes (m .seq) vcpu event block own in
       let pause = eventBytes (m .seq) vcpu 2 block [] in
       entering-cases Exactly m vcpu block event own out
-      (λ a. ((λ _. a, λ _. take-append-seam bytes (drop (length bytes) out)), (λ _. a, λ _. awaits-now (some (awaiting event (m .seq)))), λ _. refl))
+      (λ a. ((λ _. a, λ _. take-append-seam bytes (drop (length bytes) out)), (λ _. a, λ _. awaits-now (some (awaiting event (m .seq) (keptOf event own)))), λ _. refl))
       (λ a _. (
         (
           λ e. let same : pause ≡ bytes = sym (take-append-seam pause (drop (length pause) out)) ∙ e in
@@ -126,7 +130,7 @@ module _ (m : Model) (vcpu : ℕ) (block : List ℕ) (event : ℕ) (own out : Li
           λ t. clash t a,
         ),
         (
-          λ e. let number : 2 ≡ event = ap awaitedEvent (sym (awaits-now (some (awaiting 2 (m .seq)))) ∙ e) in
+          λ e. let number : 2 ≡ event = ap awaitedEvent (sym (awaits-now (some (awaiting 2 (m .seq) noFault))) ∙ e) in
               absurd (other (ap (λ (k : ℕ). k % 256) (sym number))),
           λ t. clash t a,
         ),
@@ -135,7 +139,7 @@ module _ (m : Model) (vcpu : ℕ) (block : List ℕ) (event : ℕ) (own out : Li
       (λ a. ((λ e. clash (sym (ap (λ (l : List ℕ). eqb (length l) 0) e)) (event-long (m .seq) vcpu event block own), λ t. clash t a), (λ e. clash (ap isSome e) idle, λ t. clash t a), λ t. clash t a))
 
   abbrev Goes : Step → Type 0
-  Goes r = (wrote r ≡ pauseEvent (m .seq) vcpu block) × (awaitedBy (r .model) vcpu ≡ some (awaiting 2 (m .seq))) × (queued vcpu (r .model) + 1 ≡ queued vcpu m)
+  Goes r = (wrote r ≡ pauseEvent (m .seq) vcpu block) × (awaitedBy (r .model) vcpu ≡ some (awaiting 2 (m .seq) noFault)) × (queued vcpu (r .model) + 1 ≡ queued vcpu m)
       × (r .model .seq ≡ nextSeq (m .seq))
 
   entering-pauses : vcpu < length (m .tables .vcpus) → asked ≡ false → 1 ≤ queued vcpu m → Goes (entering m vcpu block event own out)
@@ -144,7 +148,7 @@ module _ (m : Model) (vcpu : ℕ) (block : List ℕ) (event : ℕ) (own out : Li
       let v = vcpuAt (m .tables) vcpu in
       let pause = pauseEvent (m .seq) vcpu block in
       let less = ap (λ (x : Vcpu). x .pauses) (getD-set-same (m .tables .vcpus) vcpu (withPauses v (v .pauses - 1)) resting here) in
-      rw (a, le-leb 1 (v .pauses) one) (take-append-seam pause (drop (length pause) out), awaits-now (some (awaiting 2 (m .seq))), omega arith, refl)
+      rw (a, le-leb 1 (v .pauses) one) (take-append-seam pause (drop (length pause) out), awaits-now (some (awaiting 2 (m .seq) noFault)), omega arith, refl)
 
 -- an event that is asked for leaves the tables as they are, refused or not
 asked-keeps : (s : Settings) (m : Model) (vcpu : ℕ) (block : List ℕ) (event : ℕ) (own out : List ℕ) → isAskedFor (m .tables) vcpu event own ≡ true
@@ -159,11 +163,11 @@ none-fits : offerFits 0 [] ≡ true
 unfolding offerFits eventRowOf
 none-fits = refl
 
-none-asked : (vmEvents : ℕ) (w : List ℕ) (vcpu : ℕ) → isAskedForOf vmEvents w vcpu 0 [] ≡ false
+none-asked : (t : Tool) (w pages : List ℕ) (vcpu : ℕ) → isAskedForOf t w pages vcpu 0 [] ≡ false
 unfolding isAskedForOf askedForBy eventRowOf
-none-asked vmEvents w vcpu = refl
+none-asked t w pages vcpu = refl
 
-over : (st : State) (vcpu : ℕ) (block : List ℕ) (event : ℕ) (own out : List ℕ) → offerFits event own ≡ true → isAskedForOf (st .session .tool .events) (st .vcpus) vcpu event own ≡ false
+over : (st : State) (vcpu : ℕ) (block : List ℕ) (event : ℕ) (own out : List ℕ) → offerFits event own ≡ true → isAskedForOf (st .session .tool) (st .vcpus) (st .pages) vcpu event own ≡ false
     → enterOf st vcpu block event own out ≡ enterOf st vcpu block 0 [] out
 unfolding enterOf enteredOf sentOf
 over st vcpu block event own out fits a = rw (fits, none-fits, a, none-asked)
@@ -230,8 +234,8 @@ isKnown (some a) = among (a .event) replied
 abbrev KnownEvents : Model → Type 0
 KnownEvents m = So (every isKnown (m .awaited))
 
-known-at : (m : Model) → KnownEvents m → (vcpu event seq : ℕ) → awaitedBy m vcpu ≡ some (awaiting event seq) → So (among event replied)
-known-at m k vcpu event seq e = sym (ap isKnown e) ∙ every-getD isKnown (m .awaited) vcpu none refl k
+known-at : (m : Model) → KnownEvents m → (vcpu event seq : ℕ) (fault : Fault) → awaitedBy m vcpu ≡ some (awaiting event seq fault) → So (among event replied)
+known-at m k vcpu event seq fault e = sym (ap isKnown e) ∙ every-getD isKnown (m .awaited) vcpu none refl k
 
 -- an offered event that is asked for
 sent-known : (t : Tables) (vcpu event : ℕ) (own : List ℕ) → So (among event offers) → isAskedFor t vcpu event own ≡ true → So (among event replied)
@@ -256,8 +260,8 @@ module _ (s : Settings) (m : Model) (known : KnownEvents m) where
   unfolding sending pausing
   entering-known v block event own out fits =
       entering-cases K m v block event own out
-      (λ a. set-known v (some (awaiting event (m .seq))) (sent-known (m .tables) v event own (fits-offer event own fits .0) a))
-      (λ _ _. set-known v (some (awaiting 2 (m .seq))) refl) (λ _. known)
+      (λ a. set-known v (some (awaiting event (m .seq) (keptOf event own))) (sent-known (m .tables) v event own (fits-offer event own fits .0) a))
+      (λ _ _. set-known v (some (awaiting 2 (m .seq) noFault)) refl) (λ _. known)
 
   step-known : (c : Call) → K (step s m c)
   step-known c =
@@ -274,22 +278,43 @@ began-known s st m (anew vcpus pages v p ok) = every-replicate isKnown (length (
 began-known s st m (fromImage vcpus pages v p l t ok e) = every-replicate isKnown (length (t .vcpus)) none refl
 
 -- ---- the answer to an EVENT_REPLY
--- what its rule asks
-abbrev asks : Option Awaited → Facts
-asks a = record { mode = On; guest = 0; ready = false; pauses = 0; awaited = awaitedEvent a; seq = awaitedSeq a }
+-- what its rule asks; guest is how long guest memory is
+abbrev pub asks : Option Awaited → ℕ → Facts
+asks a guest =
+    record {
+      mode = On;
+      guest = guest;
+      ready = false;
+      pauses = 0;
+      awaited = awaitedEvent a;
+      seq = awaitedSeq a;
+      gva = awaitedFault a .gva;
+      gpa = awaitedFault a .gpa;
+      access = awaitedFault a .access;
+    }
 
-abbrev saysOf : Option Awaited → ℕ → List ℕ → Verdict
-saysOf a seq d = cond (leb 16 (length d)) (eventReplyVerdict (asks a) seq d) Closes
+abbrev pub saysOf : Option Awaited → ℕ → ℕ → List ℕ → Verdict
+saysOf a guest seq d = cond (leb 16 (length d)) (eventReplyVerdict (asks a guest) seq d) Closes
 
 abbrev answerBy : Verdict → Paper
 answerBy Closes = plain 1
 answerBy (Fails code) = handled 0 Quiet
 answerBy (Does c) = handled 0 (signalOf c)
 
+-- the mode, the ready mark and the queue are not read
+feed-asks : (form : ReplyForm) (f : Facts) (a : Option Awaited) (d : List ℕ) → f .gva ≡ awaitedFault a .gva → f .gpa ≡ awaitedFault a .gpa
+    → f .access ≡ awaitedFault a .access → feedBy form f d ≡ feedBy form (asks a (f .guest)) d
+unfolding feedOf
+feed-asks form.Plain f a d p q r = refl
+feed-asks form.NewValue f a d p q r = refl
+feed-asks form.Context f a d p q r = λ j. cond (wantsBytes (r j) (actionOf d)) (chosenFeed (p j) (q j) (f .guest) d) unfed
+
 -- of the tests, only its own rule is left
-reply-verdict : (s : Settings) (m : Model) (guest vcpu seq : ℕ) (d : List ℕ) → verdict s (factsOf m guest vcpu) 16 seq d ≡ saysOf (awaitedBy m vcpu) seq d
+pub reply-verdict : (s : Settings) (m : Model) (guest vcpu seq : ℕ) (d : List ℕ) → verdict s (factsOf m guest vcpu) 16 seq d ≡ saysOf (awaitedBy m vcpu) guest seq d
 unfolding verdict allowsCommand layoutOf sizeFits eventReplyVerdict isAwaited
-reply-verdict s m guest vcpu seq d = rw (and-false (not (repliesOn (m .mode)))) (test (leb 16 (length d)) (λ e. rw e) (λ e. rw e))
+reply-verdict s m guest vcpu seq d =
+    rw (and-false (not (repliesOn (m .mode))), feed-asks (eventRowOf (awaitedEvent (awaitedBy m vcpu)) .form) (factsOf m guest vcpu) (awaitedBy m vcpu) d refl refl refl)
+    (test (leb 16 (length d)) (λ e. rw e) (λ e. rw e))
 
 reply-answers : (s : Settings) (m : Model) (seq : ℕ) (d out guest : List ℕ) (v : Verdict) → judged s m 16 seq d out guest v .answer ≡ answerBy v
 unfolding judged answering answerOf layoutOf
@@ -297,27 +322,27 @@ reply-answers s m seq d out guest Closes = refl
 reply-answers s m seq d out guest (Fails code) = refl
 reply-answers s m seq d out guest (Does c) = refl
 
--- by whether it is closed, the length of the output and the awaited record
-abbrev replyAnswer : Bool → List ℕ → Option Awaited → ℕ → List ℕ → Paper
-replyAnswer closed out a seq d = cond closed (plain 2) (cond (ltb (length out) leastOut) (plain 3) (answerBy (saysOf a seq d)))
+-- by whether it is closed, the length of the output, the awaited record and the length of guest memory
+abbrev replyAnswer : Bool → List ℕ → Option Awaited → ℕ → ℕ → List ℕ → Paper
+replyAnswer closed out a guest seq d = cond closed (plain 2) (cond (ltb (length out) leastOut) (plain 3) (answerBy (saysOf a guest seq d)))
 
 reply-answer : (s : Settings) (m : Model) (msg out guest : List ℕ) (size seq : ℕ) → headerOf msg ≡ Whole 16 size seq
-    → step s m (message msg out guest) .answer ≡ replyAnswer (m .closed) out (awaitedBy m (vcpuOf (drop 8 msg))) seq (drop 8 msg)
+    → step s m (message msg out guest) .answer ≡ replyAnswer (m .closed) out (awaitedBy m (vcpuOf (drop 8 msg))) (length guest) seq (drop 8 msg)
 unfolding step messageStep headed
 reply-answer s m msg out guest size seq w =
     let d = drop 8 msg in
-    let own : judged s m 16 seq d out guest (verdict s (factsOf m (length guest) (vcpuOf d)) 16 seq d) .answer ≡ answerBy (saysOf (awaitedBy m (vcpuOf d)) seq d)
+    let own : judged s m 16 seq d out guest (verdict s (factsOf m (length guest) (vcpuOf d)) 16 seq d) .answer ≡ answerBy (saysOf (awaitedBy m (vcpuOf d)) (length guest) seq d)
     = reply-answers s m seq d out guest _ ∙ ap answerBy (reply-verdict s m (length guest) (vcpuOf d) seq d) in
     let Same : Step → Paper → Type 0 = λ r p. r .answer ≡ p in
     rw w (both Same (m .closed) _ _ _ _ (λ _. refl) (λ _. both Same (ltb (length out) leastOut) _ _ _ _ (λ _. refl) (λ _. own)))
 
 -- only what it reads counts
-reads-same : (s s′ : Settings) (m k : Model) (msg out guest guest′ : List ℕ) → HasId msg 16 → m .closed ≡ k .closed
+reads-same : (s s′ : Settings) (m k : Model) (msg out guest guest′ : List ℕ) → HasId msg 16 → length guest ≡ length guest′ → m .closed ≡ k .closed
     → awaitedBy m (vcpuOf (drop 8 msg)) ≡ awaitedBy k (vcpuOf (drop 8 msg))
     → step s m (message msg out guest) .answer ≡ step s′ k (message msg out guest′) .answer
-reads-same s s′ m k msg out guest guest′ (size, seq, w) closed awaited =
+reads-same s s′ m k msg out guest guest′ (size, seq, w) long closed awaited =
     reply-answer s m msg out guest size seq w
-    ∙ (λ j. replyAnswer (closed j) out (awaited j) seq (drop 8 msg))
+    ∙ (λ j. replyAnswer (closed j) out (awaited j) (long j) seq (drop 8 msg))
     ∙ sym (reply-answer s′ k msg out guest′ size seq w)
 
 -- ---- a reply that fits
@@ -331,8 +356,13 @@ alike-true false true h = h
 alike-true false false h = refl
 
 -- the rows of the events that take one
+abbrev formRight : ℕ → ReplyForm → Bool
+formRight event form.Plain = not (hasValue event) && not (eqb event 10)
+formRight event form.NewValue = hasValue event && not (eqb event 10)
+formRight event form.Context = eqb event 10
+
 abbrev rowRight : ℕ → EventRow → Bool
-rowRight event r = eqb (r .reply) (replyLength event) && alike (r .retry) (among event (4 ∷ 8 ∷ [])) && alike (r .valued) (hasValue event)
+rowRight event r = eqb (r .reply) (replyLength event) && alike (r .retry) (among event (4 ∷ 8 ∷ 10 ∷ [])) && formRight event (r .form)
 
 module _ (event : ℕ) (known : So (among event replied)) where
   row-right : So (rowRight event (eventRowOf event))
@@ -345,27 +375,70 @@ module _ (event : ℕ) (known : So (among event replied)) where
   reply-actions : (action : ℕ) → takesAction (eventRowOf event) action ≡ isTaken event action
   reply-actions action =
       let h = row-right in
-      ap (λ (b : Bool). among action (0 ∷ 2 ∷ []) || eqb action 1 && b) (alike-true (eventRowOf event .retry) (among event (4 ∷ 8 ∷ [])) (search (and-l, and-r)))
+      ap (λ (b : Bool). among action (0 ∷ 2 ∷ []) || eqb action 1 && b) (alike-true (eventRowOf event .retry) (among event (4 ∷ 8 ∷ 10 ∷ [])) (search (and-l, and-r)))
 
-  reply-value : (d : List ℕ) → newValue (eventRowOf event) d ≡ valueIn event d
-  reply-value d = let h = row-right in ap (λ (b : Bool). cond b (load 8 d 16) 0) (alike-true (eventRowOf event .valued) (hasValue event) (search (and-l, and-r)))
+  -- what a form says is what is said of the event
+  by-form : (form : ReplyForm) → formRight event form ≡ true → (f : Facts) (d : List ℕ)
+      → (valueOf form d ≡ valueIn event d) × (feedBy form f d ≡ fedBy event (record { gva = f .gva; gpa = f .gpa; access = f .access }) (f .guest) d)
+      × (formFits form d ≡ cond (eqb event 10) (contextFits d) true)
+  unfolding feedOf wantsBytes
+  by-form form.Plain h f d =
+      let a = not-true (hasValue event) (and-l (not (hasValue event)) (not (eqb event 10)) h) in
+      let b = not-true (eqb event 10) (and-r (not (hasValue event)) (not (eqb event 10)) h) in
+      rw (a, b) (refl, refl, refl)
+  by-form form.NewValue h f d =
+      let a = and-l (hasValue event) (not (eqb event 10)) h in
+      let b = not-true (eqb event 10) (and-r (hasValue event) (not (eqb event 10)) h) in
+      rw (a, b) (refl, refl, refl)
+  by-form form.Context h f d = rw h (refl, refl, refl)
+
+  form-right : formRight event (eventRowOf event .form) ≡ true
+  form-right = let h = row-right in search (and-l, and-r)
+
+  reply-value : (d : List ℕ) → valueOf (eventRowOf event .form) d ≡ valueIn event d
+  reply-value d = by-form (eventRowOf event .form) form-right (asks none 0) d .0
+
+  reply-feed : (f : Facts) (d : List ℕ) → feedBy (eventRowOf event .form) f d ≡ fedBy event (record { gva = f .gva; gpa = f .gpa; access = f .access }) (f .guest) d
+  reply-feed f d = by-form (eventRowOf event .form) form-right f d .1
+
+  reply-form : (d : List ℕ) → formFits (eventRowOf event .form) d ≡ cond (eqb event 10) (contextFits d) true
+  reply-form d = by-form (eventRowOf event .form) form-right (asks none 0) d .2
 
   some-event : event ≢ 0
   some-event = eqb-false event 0 (not-true _ (among-every (λ k. not (eqb k 0)) event replied refl known))
 
   reply-long : leb 16 (replyLength event) ≡ true
-  reply-long = pick (λ (n : ℕ). leb 16 n ≡ true) (hasValue event) 24 16 (λ _. refl) (λ _. refl)
+  reply-long = pick (λ (n : ℕ). leb 16 n ≡ true) (eqb event 10) 288 _ (λ _. refl) (λ _. pick (λ (n : ℕ). leb 16 n ≡ true) (hasValue event) 24 16 (λ _. refl) (λ _. refl))
 
-abbrev ended : ℕ → List ℕ → Change
-ended event d = EndWait (not (eqb event 2)) (vcpuOf d) (actionOf d) (valueIn event d)
+-- a context as it should be, as a test
+context-fits : (d : List ℕ) → Context d → contextFits d ≡ true
+unfolding contextFits
+context-fits d c = rw (c .padding, c .padding2, le-leb _ 256 (c .size), le-leb _ 1 (c .rep))
 
-reply-does : (s : Settings) (m : Model) (guest vcpu event seq : ℕ) (msg : List ℕ) → awaitedBy m vcpu ≡ some (awaiting event seq) → So (among event replied) → Replies vcpu event seq msg
-    → verdict s (factsOf m guest (vcpuOf (drop 8 msg))) 16 seq (drop 8 msg) ≡ Does (ended event (drop 8 msg))
+context-said : (d : List ℕ) → contextFits d ≡ true → Context d
+unfolding contextFits
+context-said d h =
+    record {
+      padding = eqb-true (getD d 28 0) 0 (search (and-l, and-r));
+      padding2 = eqb-true (load 2 d 30) 0 (search (and-l, and-r));
+      size = leb-true (load 4 d 24) 256 (search (and-l, and-r));
+      rep = leb-true (getD d 29 0) 1 (search (and-l, and-r));
+    }
+
+replied-context : (event : ℕ) (d : List ℕ) → (event ≡ 10 → Context d) → cond (eqb event 10) (contextFits d) true ≡ true
+replied-context event d c = test (eqb event 10) (λ e. rw e (context-fits d (c (eqb-true event 10 e)))) (λ e. rw e)
+
+abbrev ended : ℕ → Fault → ℕ → List ℕ → Change
+ended event fault guest d = EndWait (not (eqb event 2)) (vcpuOf d) (actionOf d) (valueIn event d) (fedBy event fault guest d)
+
+reply-does : (s : Settings) (m : Model) (guest vcpu event seq : ℕ) (fault : Fault) (msg : List ℕ) → awaitedBy m vcpu ≡ some (awaiting event seq fault) → So (among event replied)
+    → Replies vcpu event seq msg → verdict s (factsOf m guest (vcpuOf (drop 8 msg))) 16 seq (drop 8 msg) ≡ Does (ended event fault guest (drop 8 msg))
 unfolding eventReplyVerdict isAwaited replyFits
-reply-does s m guest vcpu event seq msg waits known q =
+reply-does s m guest vcpu event seq fault msg waits known q =
     let d = drop 8 msg in
+    let a = some (awaiting event seq fault) in
     reply-verdict s m guest (vcpuOf d) seq d
-    ∙ ap (λ (a : Option Awaited). saysOf a seq d) (ap (λ (v : ℕ). awaitedBy m v) (q .names) ∙ waits)
+    ∙ ap (λ (a : Option Awaited). saysOf a guest seq d) (ap (λ (v : ℕ). awaitedBy m v) (q .names) ∙ waits)
     ∙ rw (
       q .size,
       reply-long event known,
@@ -377,7 +450,10 @@ reply-does s m guest vcpu event seq msg waits known q =
       eq-eqb (replyLength event) (replyLength event) refl,
       reply-actions event known (actionOf d),
       q .action,
+      reply-form event known d,
+      replied-context event d (q .context),
       reply-value event known d,
+      reply-feed event known (asks a guest) d,
     )
 
 -- no record is awaited where none is set
@@ -386,22 +462,23 @@ none-set l v =
     test (ltb v (length l)) (λ h. getD-set-same l v none none (ltb-true v (length l) h))
     (λ h. let far = ltb-false v (length l) h in ap (λ (x : List (Option Awaited)). getD x v none) (set-out l v none far) ∙ List·getD-eq-default l none {n = v} far)
 
-reply-taken : (s : Settings) (m : Model) (vcpu event seq : ℕ) (msg out guest : List ℕ) → m .closed ≡ false → awaitedBy m vcpu ≡ some (awaiting event seq)
+reply-taken : (s : Settings) (m : Model) (vcpu event seq : ℕ) (fault : Fault) (msg out guest : List ℕ) → m .closed ≡ false → awaitedBy m vcpu ≡ some (awaiting event seq fault)
     → So (among event replied) → Replies vcpu event seq msg → leastOut ≤ length out
-    → let r = step s m (message msg out guest) in (r .answer ≡ handled 0 (signalled vcpu event (drop 8 msg))) × (awaitedBy (r .model) vcpu ≡ none)
+    → let r = step s m (message msg out guest) in (r .answer ≡ handled 0 (signalled vcpu event fault (length guest) (drop 8 msg))) × (awaitedBy (r .model) vcpu ≡ none)
 unfolding step messageStep headed judged answering answerOf layoutOf apply
-reply-taken s m vcpu event seq msg out guest o waits known q long =
+reply-taken s m vcpu event seq fault msg out guest o waits known q long =
     let d = drop 8 msg in
-    let does = reply-does s m (length guest) vcpu event seq msg waits known q in
-    let taken : step s m (message msg out guest) ≡ judged s m 16 seq d out guest (Does (ended event d)) = rw (o, le-ltb (length out) leastOut long, q .header .1, does) in
-    let signal : signalOf (ended event d) ≡ signalled vcpu event d = rw (q .names) (test (eqb event 2) (λ e. rw e) (λ e. rw e)) in (
+    let does = reply-does s m (length guest) vcpu event seq fault msg waits known q in
+    let taken : step s m (message msg out guest) ≡ judged s m 16 seq d out guest (Does (ended event fault (length guest) d)) = rw (o, le-ltb (length out) leastOut long, q .header .1, does) in
+    let signal : signalOf (ended event fault (length guest) d) ≡ signalled vcpu event fault (length guest) d = rw (q .names) (test (eqb event 2) (λ e. rw e) (λ e. rw e)) in (
       ap (λ (r : Step). r .answer) taken ∙ ap (handled 0) signal,
       ap (λ (r : Step). awaitedBy (r .model) vcpu) taken ∙ ap (λ (v : ℕ). getD (set (m .awaited) v none) vcpu none) (q .names) ∙ none-set (m .awaited) vcpu,
     )
 
 -- ---- a reply that does not
 reply-closes : (s : Settings) (m : Model) → KnownEvents m → (msg out guest : List ℕ) → HasId msg 16 → m .closed ≡ false → leastOut ≤ length out
-    → ((vcpu event seq : ℕ) → awaitedBy m vcpu ≡ some (awaiting event seq) → Replies vcpu event seq msg → ⊥) → step s m (message msg out guest) .answer ≡ plain 1
+    → ((vcpu event seq : ℕ) (fault : Fault) → awaitedBy m vcpu ≡ some (awaiting event seq fault) → Replies vcpu event seq msg → ⊥)
+    → step s m (message msg out guest) .answer ≡ plain 1
 unfolding eventReplyVerdict isAwaited replyFits
 reply-closes s m known msg out guest (size, seq, w) o long misses =
     reply-answer s m msg out guest size seq w ∙ rw (o, le-ltb (length out) leastOut long) (by (awaitedBy m (vcpuOf (drop 8 msg))) refl)
@@ -413,17 +490,19 @@ reply-closes s m known msg out guest (size, seq, w) o long misses =
     Shuts v = answerBy v ≡ plain 1
 
     fits : Option Awaited → Bool
-    fits a = eqb (firstPadding 16 (drop 8 msg)) 0 && isAwaited (asks a) seq (repliedEvent (drop 8 msg)) && replyFits (eventRowOf (awaitedEvent a)) (drop 8 msg)
+    fits a = eqb (firstPadding 16 (drop 8 msg)) 0 && isAwaited (asks a (length guest)) seq (repliedEvent (drop 8 msg)) && replyFits (eventRowOf (awaitedEvent a)) (drop 8 msg)
 
     never : (a : Option Awaited) → awaitedBy m (vcpuOf (drop 8 msg)) ≡ a → fits a ≡ true → ⊥
     never none e h =
-        let z : isAwaited (asks none) seq (repliedEvent (drop 8 msg)) ≡ true = search (and-l, and-r) in
+        let z : isAwaited (asks none (length guest)) seq (repliedEvent (drop 8 msg)) ≡ true = search (and-l, and-r) in
         false≢true z
     never (some a) e h =
         let same : a .seq ≡ seq = eqb-true (a .seq) seq (search (and-l, and-r)) in
-        let k : So (among (a .event) replied) = known-at m known (vcpuOf (drop 8 msg)) (a .event) (a .seq) e in
+        let k : So (among (a .event) replied) = known-at m known (vcpuOf (drop 8 msg)) (a .event) (a .seq) (a .fault) e in
+        let form : formFits (eventRowOf (a .event) .form) (drop 8 msg) ≡ true = search (and-l, and-r) in
+        let whole : cond (eqb (a .event) 10) (contextFits (drop 8 msg)) true ≡ true = sym (reply-form (a .event) k (drop 8 msg)) ∙ form in
         let action : takesAction (eventRowOf (a .event)) (actionOf (drop 8 msg)) ≡ true = search (and-l, and-r) in
-        misses (vcpuOf (drop 8 msg)) (a .event) (a .seq) e
+        misses (vcpuOf (drop 8 msg)) (a .event) (a .seq) (a .fault) e
         (record {
           header = (size, w ∙ ap (λ (n : ℕ). Whole 16 size n) (sym same));
           names = refl;
@@ -431,9 +510,10 @@ reply-closes s m known msg out guest (size, seq, w) o long misses =
           of = sym (eqb-true (a .event) (repliedEvent (drop 8 msg)) (search (and-l, and-r)));
           size = eqb-true (length (drop 8 msg)) (eventRowOf (a .event) .reply) (search (and-l, and-r)) ∙ reply-length (a .event) k;
           action = sym (reply-actions (a .event) k (actionOf (drop 8 msg))) ∙ action;
+          context = λ pf. context-said (drop 8 msg) (rw (eq-eqb (a .event) 10 pf) at whole);
         })
 
-    by : (a : Option Awaited) → awaitedBy m (vcpuOf (drop 8 msg)) ≡ a → answerBy (saysOf a seq (drop 8 msg)) ≡ plain 1
+    by : (a : Option Awaited) → awaitedBy m (vcpuOf (drop 8 msg)) ≡ a → answerBy (saysOf a (length guest) seq (drop 8 msg)) ≡ plain 1
     by a e =
         pick Shuts (leb 16 (length (drop 8 msg))) _ _ (λ _. pick Shuts (fits a) _ _ (λ h. absurd (never a e h)) (λ _. refl)) (λ _. refl)
 
@@ -513,14 +593,15 @@ module _ (s : Settings) (st : State) (m : Model) (f : Stands s st m) where
     unfolding stepOf
     stands-over o q =
         over st vcpu block event own out (offer-fits event own o)
-        (asked-means st (f .formed .words) vcpu event own ∙ ap (λ (k : Model). isAskedFor (k .tables) vcpu event own) (f .model) ∙ asked-on (m .tables) vcpu event own (o .0) ∙ q)
+        (asked-means st (f .formed .words) (f .formed .tables .paUp) vcpu event own ∙ ap (λ (k : Model). isAskedFor (k .tables) vcpu event own) (f .model) ∙ asked-on (m .tables) vcpu event own (o .0) ∙ q)
 
   -- ---- a reply
-  stands-taken : Rests s m → KnownEvents m → (vcpu event seq : ℕ) (msg out guest : List ℕ) → awaitedBy m vcpu ≡ some (awaiting event seq) → Replies vcpu event seq msg → leastOut ≤ length out
-      → let r = stepOf st (message msg out guest) in (r .answer ≡ handled 0 (signalled vcpu event (drop 8 msg))) × (awaitedBy (modelOf (r .state)) vcpu ≡ none)
-  stands-taken rests known vcpu event seq msg out guest waits q long =
+  stands-taken : Rests s m → KnownEvents m → (vcpu event seq : ℕ) (fault : Fault) (msg out guest : List ℕ) → awaitedBy m vcpu ≡ some (awaiting event seq fault)
+      → Replies vcpu event seq msg → leastOut ≤ length out
+      → let r = stepOf st (message msg out guest) in (r .answer ≡ handled 0 (signalled vcpu event fault (length guest) (drop 8 msg))) × (awaitedBy (modelOf (r .state)) vcpu ≡ none)
+  stands-taken rests known vcpu event seq fault msg out guest waits q long =
       let c = message msg out guest in
-      let t = reply-taken s m vcpu event seq msg out guest (waiting-open rests vcpu (ap isSome waits)) waits (known-at m known vcpu event seq waits) q long in
+      let t = reply-taken s m vcpu event seq fault msg out guest (waiting-open rests vcpu (ap isSome waits)) waits (known-at m known vcpu event seq fault waits) q long in
       (step-same s st m c f .0 ∙ t .0, ap (λ (k : Model). awaitedBy k vcpu) (step-stands s st m c f .model) ∙ t .1)
 
   stands-later : Rests s m → (between : List Call) (msg out guest : List ℕ) → HasId msg 16 → let vcpu = vcpuOf (drop 8 msg) in
@@ -533,11 +614,12 @@ module _ (s : Settings) (st : State) (m : Model) (f : Stands s st m) where
       let awaits : isSome (awaitedBy m vcpu) ≡ true = sym (ap (λ (k : Model). isSome (awaitedBy k vcpu)) (f .model)) ∙ waits in
       let opened : after s m between .closed ≡ false = sym (ap (λ (k : Model). k .closed) (g .model)) ∙ o in
       step-same s (afterOf st between) (after s m between) c g .0
-      ∙ reads-same s s (after s m between) m msg out guest guest id (opened ∙ sym (waiting-open rests vcpu awaits)) (after-waits s m vcpu between awaits none-replies opened)
+      ∙ reads-same s s (after s m between) m msg out guest guest id refl (opened ∙ sym (waiting-open rests vcpu awaits)) (after-waits s m vcpu between awaits none-replies opened)
       ∙ sym (step-same s st m c f .0)
 
   stands-closes : KnownEvents m → (msg out guest : List ℕ) → HasId msg 16 → Open st → leastOut ≤ length out
-      → ((vcpu event seq : ℕ) → awaitedBy m vcpu ≡ some (awaiting event seq) → Replies vcpu event seq msg → ⊥) → stepOf st (message msg out guest) .answer ≡ plain 1
+      → ((vcpu event seq : ℕ) (fault : Fault) → awaitedBy m vcpu ≡ some (awaiting event seq fault) → Replies vcpu event seq msg → ⊥)
+      → stepOf st (message msg out guest) .answer ≡ plain 1
   stands-closes known msg out guest id o long misses =
       step-same s st m (message msg out guest) f .0
       ∙ reply-closes s m known msg out guest id (sym (ap (λ (k : Model). k .closed) (f .model)) ∙ o) long misses
@@ -549,16 +631,17 @@ stands-resumed : (s : Settings) (st : State) (m : Model) → Stands s st m → R
     → (between : List Call) → NoReplies vcpu between → Open (afterOf (r .state) between)
     → (msg out′ guest : List ℕ) → Replies vcpu event (m .seq) msg → leastOut ≤ length out′
     → stepOf (afterOf (r .state) between) (message msg out′ guest) .answer
-    ≡ handled 0 (cond (eqb (actionOf (drop 8 msg)) 2) (Crash vcpu) (Resume vcpu (actionOf (drop 8 msg)) (valueIn event (drop 8 msg))))
+    ≡ handled 0
+    (cond (eqb (actionOf (drop 8 msg)) 2) (Crash vcpu) (Resume vcpu (actionOf (drop 8 msg)) (valueIn event (drop 8 msg)) (fedBy event (keptOf event own) (length guest) (drop 8 msg))))
 stands-resumed s st m f rests known vcpu block event own out h on between none-replies o msg out′ guest q long =
     let c = enter vcpu block event own out in
     let k = step s m c .model in
     let g = step-stands s st m c f in
     let e = after-stands s (stepOf st c .state) k between g in
-    let awaits : awaitedBy k vcpu ≡ some (awaiting event (m .seq)) = sym (stands-awaits s st m f vcpu block event own out) ∙ stands-sent s st m f vcpu block event own out h .awaited .1 on in
+    let awaits : awaitedBy k vcpu ≡ some (awaiting event (m .seq) (keptOf event own)) = sym (stands-awaits s st m f vcpu block event own out) ∙ stands-sent s st m f vcpu block event own out h .awaited .1 on in
     let opened : after s k between .closed ≡ false = sym (ap (λ (x : Model). x .closed) (e .model)) ∙ o in
     let still = after-waits s k vcpu between (ap isSome awaits) none-replies opened ∙ awaits in
-    let taken = stands-taken s (afterOf (stepOf st c .state) between) (after s k between) e (after-rests s k between (step-rests s m rests c)) (after-known s k between (step-known s m known c)) vcpu event (m .seq) msg out′ guest still q long .0 in
+    let taken = stands-taken s (afterOf (stepOf st c .state) between) (after s k between) e (after-rests s k between (step-rests s m rests c)) (after-known s k between (step-known s m known c)) vcpu event (m .seq) (keptOf event own) msg out′ guest still q long .0 in
     let other : eqb event 2 ≡ false = ne-eqb event 2 (λ z. no-pause event (stands-entered s st m f vcpu block event own out h .known) (ap (λ (n : ℕ). n % 256) z)) in
     rw other at taken
 
@@ -580,7 +663,7 @@ events =
       passedOver = λ s st m b cs. stands-over s (afterOf st cs) (after s m cs) (stands s st m b cs);
       pauseInstead = λ s st m b cs. stands-pauses s (afterOf st cs) (after s m cs) (stands s st m b cs);
       keeps = λ s st m b cs. stands-keeps s (afterOf st cs) (after s m cs) (stands s st m b cs);
-      known = λ s st m b cs vcpu event seq e. known-at (after s m cs) (known s st m b cs) vcpu event seq (sym (ap (λ (k : Model). awaitedBy k vcpu) (stands s st m b cs .model)) ∙ e);
+      known = λ s st m b cs vcpu event seq fault e. known-at (after s m cs) (known s st m b cs) vcpu event seq fault (sym (ap (λ (k : Model). awaitedBy k vcpu) (stands s st m b cs .model)) ∙ e);
       reads = reads-same;
       later = λ s st m b cs. stands-later s (afterOf st cs) (after s m cs) (stands s st m b cs) (rests s st m b cs);
       taken = λ s st m b cs. stands-taken s (afterOf st cs) (after s m cs) (stands s st m b cs) (rests s st m b cs) (known s st m b cs);

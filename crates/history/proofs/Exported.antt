@@ -69,14 +69,10 @@ module _ (st : State) (vcpu : ℕ) (block : List ℕ) (event : ℕ) (own out : L
   abbrev Enters : Told → Told → Type 0
   Enters r q = OnVcpus st (given r) q
 
-  -- without the page words
-  abbrev lent : State
-  lent = state (st .session) (st .vcpus) []
-
-  still : (k : ℕ) → Enters (toldSame k lent out []) (toldSame k st out [])
+  still : (k : ℕ) → Enters (toldSame k st out []) (toldSame k st out [])
   still k = record { done = refl; vcpus = refl; out = refl; result = refl; pages = refl }
 
-  entered-same : Enters (enteredOf lent vcpu block event own out) (enteredOf st vcpu block event own out)
+  entered-same : Enters (enteredOf st vcpu block event own out) (enteredOf st vcpu block event own out)
   unfolding enteredOf sentOf
   entered-same =
       both Enters (not (eqb (field (st .vcpus) vcpu AWAITED) 0)) _ _ _ _ (λ _. still 6)
@@ -88,11 +84,11 @@ module _ (st : State) (vcpu : ℕ) (block : List ℕ) (event : ℕ) (own out : L
       cond (not (eqb (length block) stateBytes && offerFits event own)) (toldSame 5 s out [])
       (cond (ltb (length out) eventOut) (toldSame 3 s out []) (enteredOf s k block event own out))
 
-  enter-same : st .session .settings .vcpus ≤ 65535 → Enters (enterOf lent (min vcpu 65535) block event own out) (enterOf st vcpu block event own out)
+  enter-same : st .session .settings .vcpus ≤ 65535 → Enters (enterOf st (min vcpu 65535) block event own out) (enterOf st vcpu block event own out)
   unfolding enterOf
   enter-same few =
       both Enters (isClosed st) _ _ _ _ (λ _. still 2)
-      (λ _. by-vcpu (st .session .settings .vcpus) vcpu few Enters (toldSame 4 lent out []) (behind lent) (toldSame 4 st out []) (behind st vcpu) (still 4)
+      (λ _. by-vcpu (st .session .settings .vcpus) vcpu few Enters (toldSame 4 st out []) (behind st) (toldSame 4 st out []) (behind st vcpu) (still 4)
       (both Enters (not (eqb (length block) stateBytes && offerFits event own)) _ _ _ _ (λ _. still 5)
       (λ _. both Enters (ltb (length out) eventOut) _ _ _ _ (λ _. still 3) (λ _. entered-same))))
 

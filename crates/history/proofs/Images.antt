@@ -191,7 +191,7 @@ module _ (s : Settings) (t : Tables) (ok : So (inRange s)) (a : Valid s t) (vcpu
   loaded-words =
       let c = count in
       let none-set = zero-words s (freshSession s) vcpus pages vlong plong (omega arith) zero-le refl refl in
-      let switches = vcpus-kept _ none-set words words-length flag-small (λ i _. spare i AWAITED-SEQ (omega arith) (omega arith)) (λ i k g h. spare i k (omega arith) h)
+      let switches = vcpus-kept _ none-set words words-length flag-small (λ i k a b _. spare i k (omega arith) (omega arith)) (λ i k g h. spare i k (omega arith) h)
       (λ j h. msrs-loaded-past (s .vcpus) fields (t .msrs) all j h ∙ fields-past j h) in
       let marks = shared-kept _ switches ready (ready-loaded-below (s .vcpus) 0 0 (t .vcpus) (pow-pos (s .vcpus)) (omega arith)) in
       let own = tool-kept _ marks (withToolEvents (freshSession s .tool) (t .events)) refl (omega arith) zero-le in

@@ -13,6 +13,7 @@ pub mod Closed
 pub mod Lookups
 pub mod Pauses
 pub mod Events
+pub mod Faults
 pub mod ExecuteOnly
 pub mod Msrs
 pub mod Singly

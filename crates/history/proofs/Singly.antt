@@ -17,7 +17,7 @@ use Rattle.message.specs.Message.{messageOf}
 use Rattle.batch.specs.Batch.{messageTakes, batchOf, usedOf}
 use Rattle.history.specs.History.{stepOf, afterOf}
 use Rattle.history.specs.Unsteered.{written}
-use Rattle.history.specs.Batches.{Singly, none, next, bytesOver, writtenOver, listedOver, guestOver, lastOver, TakenSingly}
+use Rattle.history.specs.Batches.{Singly, none, next, bytesOver, writtenOver, listedOver, guestOver, lastBegins, lastOver, TakenSingly}
 use Rattle.wire.proofs.Laws.{store-whole}
 use Rattle.laws.proofs.Bool.{test}
 use Rattle.refine.proofs.Frames.{message-past}
@@ -45,7 +45,7 @@ pub one-place : (g : Signal) → length (listedAs g) ≤ 1
 one-place Quiet = omega arith
 one-place (Kick wait vcpu) = omega arith
 one-place (Crash vcpu) = omega arith
-one-place (Resume vcpu action value) = omega arith
+one-place (Resume vcpu action value feed) = omega arith
 
 -- ---- from somewhere in a batch to its end, by the messages between
 record Ran (input : List ℕ) (b : Batch State) (cs : List Call) (e : Batch State) : Type 0 where
@@ -58,11 +58,11 @@ record Ran (input : List ℕ) (b : Batch State) (cs : List Call) (e : Batch Stat
   list : e .signals ≡ take (b .listed) (b .signals) ++ (listedOver (b .state) cs ++ drop (length (listedOver (b .state) cs)) (drop (b .listed) (b .signals)))
   memory : e .guest ≡ guestOver (b .state) (b .guest) cs
   number : (p : Paper) → p .number ≡ b .number → e .number ≡ lastOver (b .state) p cs .number
-  resume : (p : Paper) → resumeOf (p .signal) ≡ b .resume → e .resume ≡ resumeOf (lastOver (b .state) p cs .signal)
+  resume : (p : Paper) (at : ℕ) → resumeOf at (p .signal) ≡ b .resume → e .resume ≡ resumeOf (lastBegins at (b .used) cs) (lastOver (b .state) p cs .signal)
 
 -- no message: it is the end
 ran-none : (input : List ℕ) (b : Batch State) → Ran input b [] b
-unfolding afterOf bytesOver writtenOver listedOver guestOver lastOver
+unfolding afterOf bytesOver writtenOver listedOver guestOver lastBegins lastOver
 ran-none input b =
     record {
       messages = none (b .state) (drop (b .used) input) (outLeft b) (b .guest);
@@ -74,7 +74,7 @@ ran-none input b =
       list = sym (take-append-drop (b .listed) (b .signals));
       memory = refl;
       number = λ p h. sym h;
-      resume = λ p h. sym h;
+      resume = λ p at h. sym h;
     }
 
 -- one message more, in front
@@ -112,7 +112,7 @@ module _ (input : List ℕ) (b : Batch State) (g : goesOn input b ≡ true) wher
   place = let p = goes-of input b g .place in let o = one-place (r .answer .signal) in omega arith
 
   ran-next : (cs : List Call) (e : Batch State) → Ran input (turnOf messageTakes input b) cs e → Ran input b (message (nextOf input b) (outLeft b) (b .guest) ∷ cs) e
-  unfolding turnOf stepOf afterOf bytesOver writtenOver listedOver guestOver lastOver
+  unfolding turnOf stepOf afterOf bytesOver writtenOver listedOver guestOver lastBegins lastOver
   ran-next cs e h =
       record {
         messages =
@@ -127,7 +127,7 @@ module _ (input : List ℕ) (b : Batch State) (g : goesOn input b ≡ true) wher
         list = h .list ∙ join-past (b .signals) _ (listedAs (r .answer .signal)) _ (b .listed) (length (listedAs (r .answer .signal))) place refl put;
         memory = h .memory;
         number = λ p _. h .number (r .answer) refl;
-        resume = λ p _. h .resume (r .answer) refl;
+        resume = λ p at _. h .resume (r .answer) (b .used) refl ∙ ap (λ (k : ℕ). resumeOf (lastBegins (b .used) (b .used + k) cs) (lastOver (r .state) (r .answer) cs .signal)) (sym length-next);
       }
     where
       rest : drop (b .count + r .answer .count) (take (b .count) (b .out) ++ r .out) ≡ drop (r .answer .count) (r .out)
@@ -163,5 +163,5 @@ batch-singly st input out signals guest =
       list = h .list;
       memory = h .memory;
       number = h .number _ refl;
-      resume = h .resume _ refl;
+      resume = h .resume _ 0 refl;
     }

@@ -34,16 +34,18 @@ use Rattle.kvmi.specs.Message.{layoutOf, vcpuOf}
 use Rattle.kvmi.specs.Verdict.{verdict}
 use Rattle.kvmi.specs.Change.{signalOf, modeFor}
 use Rattle.kvmi.specs.Event.{eventRowOf, isOffered, offerFits, crNamed, msrNamed}
+use Rattle.kvmi.specs.Feed.{PF, Fault, keptOf, viewNamed}
 use Rattle.kvmi.specs.Reply.{messageBytes, replyBytes, replyData, eventBytes, pauseEvent, answerBytes, answerOf}
 use Rattle.kvmi.specs.Image.{image}
 use Rattle.kvmi.specs.Call.{Call, message, ready, enter, writeImage, awaitsAny}
 use Rattle.store.specs.Words.{field, PAUSES, AWAITED}
+use Rattle.session.specs.declared.Tool.{Tool}
 use Rattle.session.specs.State.{State, withSeqOf, withVcpuWords, isClosed}
 use Rattle.session.specs.Calls.{Told, toldSame, toldWritten}
 use Rattle.session.specs.Meaning.{awaitedOf}
 use Rattle.change.specs.Change.{change}
 use Rattle.message.specs.Message.{factsIn, answeringOf, judgedOf, headedOf, messageOf}
-use Rattle.entry.specs.Entry.{askedForBy, isAskedForOf, Sent, sendingOf, pausingOf, dequeuingOf, sentOf, toldSent, enteredOf, enterOf}
+use Rattle.entry.specs.Entry.{isGuarded, askedForBy, isAskedForOf, awaitingWords, faultWords, Sent, sendingOf, pausingOf, dequeuingOf, sentOf, toldSent, enteredOf, enterOf}
 use Rattle.image_writer.specs.Write.{statedVcpus, statedTables, imageOf}
 use Rattle.history.specs.History.{stepOf, afterOf}
 use Rattle.history.specs.Unsteered.{written, ownBytes, Alike, messages, readies, enters, writes, SameFor, ButGuest, ended, more, answersOf, bytesOf, Unsteered}
@@ -167,7 +169,7 @@ module _ (st : State) (guest guest′ d : List ℕ) where
   change-same (SetPages view count) = (refl, refl, λ l. l)
   change-same (SetSinglestep on vcpu) = (refl, refl, λ l. l)
   change-same (SetReplies now mode) = (refl, refl, λ l. l)
-  change-same (EndWait resumes vcpu action value) = (refl, refl, λ l. l)
+  change-same (EndWait resumes vcpu action value feed) = (refl, refl, λ l. l)
 
 -- ---- a message
 module _ (msg out out′ : List ℕ) (lo : length out ≡ length out′) where
@@ -279,41 +281,47 @@ events-alike seq vcpu event block block′ own own′ lb lw words next =
       next = refl;
     }
 
--- of its own bytes the switches that an event asks for know the register that CR and MSR name
-asked-alike : (vmEvents : ℕ) (w : List ℕ) (vcpu event : ℕ) (own own′ : List ℕ) → (event ≡ 5 → crNamed own ≡ crNamed own′)
-    → (event ≡ 9 → msrNamed own ≡ msrNamed own′) → isAskedForOf vmEvents w vcpu event own ≡ isAskedForOf vmEvents w vcpu event own′
-unfolding isAskedForOf askedForBy eventRowOf
-asked-alike vmEvents w vcpu zero own own′ cr msr = refl
-asked-alike vmEvents w vcpu (suc (zero)) own own′ cr msr = refl
-asked-alike vmEvents w vcpu (suc (suc (zero))) own own′ cr msr = refl
-asked-alike vmEvents w vcpu (suc (suc (suc (zero)))) own own′ cr msr = refl
-asked-alike vmEvents w vcpu (suc (suc (suc (suc (zero))))) own own′ cr msr = refl
-asked-alike vmEvents w vcpu (suc (suc (suc (suc (suc (zero)))))) own own′ cr msr = rw (cr refl)
-asked-alike vmEvents w vcpu (suc (suc (suc (suc (suc (suc (zero))))))) own own′ cr msr = refl
-asked-alike vmEvents w vcpu (suc (suc (suc (suc (suc (suc (suc (zero)))))))) own own′ cr msr = refl
-asked-alike vmEvents w vcpu (suc (suc (suc (suc (suc (suc (suc (suc (zero))))))))) own own′ cr msr = refl
-asked-alike vmEvents w vcpu (suc (suc (suc (suc (suc (suc (suc (suc (suc (zero)))))))))) own own′ cr msr = rw (msr refl)
-asked-alike vmEvents w vcpu (suc (suc (suc (suc (suc (suc (suc (suc (suc (suc (zero))))))))))) own own′ cr msr = refl
-asked-alike vmEvents w vcpu (suc (suc (suc (suc (suc (suc (suc (suc (suc (suc (suc (zero)))))))))))) own own′ cr msr = refl
-asked-alike vmEvents w vcpu (suc (suc (suc (suc (suc (suc (suc (suc (suc (suc (suc (suc (zero))))))))))))) own own′ cr msr = refl
-asked-alike vmEvents w vcpu (suc (suc (suc (suc (suc (suc (suc (suc (suc (suc (suc (suc (suc (zero)))))))))))))) own own′ cr msr = refl
-asked-alike vmEvents w vcpu (suc (suc (suc (suc (suc (suc (suc (suc (suc (suc (suc (suc (suc (suc (zero))))))))))))))) own own′ cr msr = refl
-asked-alike vmEvents w vcpu (suc (suc (suc (suc (suc (suc (suc (suc (suc (suc (suc (suc (suc (suc (suc (n)))))))))))))))) own own′ cr msr = refl
+-- of its own bytes the switches that an event asks for know the register that CR and MSR name, and the page that a fault names
+asked-alike : (t : Tool) (w pages : List ℕ) (vcpu event : ℕ) (own own′ : List ℕ) → (event ≡ 5 → crNamed own ≡ crNamed own′)
+    → (event ≡ 9 → msrNamed own ≡ msrNamed own′) → (event ≡ PF → (keptOf event own ≡ keptOf event own′) × (viewNamed own ≡ viewNamed own′))
+    → isAskedForOf t w pages vcpu event own ≡ isAskedForOf t w pages vcpu event own′
+unfolding isAskedForOf askedForBy isGuarded keptOf eventRowOf
+asked-alike t w pages vcpu zero own own′ cr msr pf = refl
+asked-alike t w pages vcpu (suc (zero)) own own′ cr msr pf = refl
+asked-alike t w pages vcpu (suc (suc (zero))) own own′ cr msr pf = refl
+asked-alike t w pages vcpu (suc (suc (suc (zero)))) own own′ cr msr pf = refl
+asked-alike t w pages vcpu (suc (suc (suc (suc (zero))))) own own′ cr msr pf = refl
+asked-alike t w pages vcpu (suc (suc (suc (suc (suc (zero)))))) own own′ cr msr pf = rw (cr refl)
+asked-alike t w pages vcpu (suc (suc (suc (suc (suc (suc (zero))))))) own own′ cr msr pf = refl
+asked-alike t w pages vcpu (suc (suc (suc (suc (suc (suc (suc (zero)))))))) own own′ cr msr pf = refl
+asked-alike t w pages vcpu (suc (suc (suc (suc (suc (suc (suc (suc (zero))))))))) own own′ cr msr pf = refl
+asked-alike t w pages vcpu (suc (suc (suc (suc (suc (suc (suc (suc (suc (zero)))))))))) own own′ cr msr pf = rw (msr refl)
+asked-alike t w pages vcpu (suc (suc (suc (suc (suc (suc (suc (suc (suc (suc (zero))))))))))) own own′ cr msr pf = rw (pf refl .1, ap (λ (f : Fault). f .gpa) (pf refl .0))
+asked-alike t w pages vcpu (suc (suc (suc (suc (suc (suc (suc (suc (suc (suc (suc (zero)))))))))))) own own′ cr msr pf = refl
+asked-alike t w pages vcpu (suc (suc (suc (suc (suc (suc (suc (suc (suc (suc (suc (suc (zero))))))))))))) own own′ cr msr pf = refl
+asked-alike t w pages vcpu (suc (suc (suc (suc (suc (suc (suc (suc (suc (suc (suc (suc (suc (zero)))))))))))))) own own′ cr msr pf = refl
+asked-alike t w pages vcpu (suc (suc (suc (suc (suc (suc (suc (suc (suc (suc (suc (suc (suc (suc (zero))))))))))))))) own own′ cr msr pf = refl
+asked-alike t w pages vcpu (suc (suc (suc (suc (suc (suc (suc (suc (suc (suc (suc (suc (suc (suc (suc (n)))))))))))))))) own own′ cr msr pf = refl
 
 module _ (vcpu : ℕ) (block block′ : List ℕ) (event : ℕ) (own own′ out out′ : List ℕ) (lb : length block ≡ length block′) (lw : length own ≡ length own′)
-    (cr : event ≡ 5 → crNamed own ≡ crNamed own′) (msr : event ≡ 9 → msrNamed own ≡ msrNamed own′) (lo : length out ≡ length out′) (st : State) where
+    (cr : event ≡ 5 → crNamed own ≡ crNamed own′) (msr : event ≡ 9 → msrNamed own ≡ msrNamed own′)
+    (pf : event ≡ PF → (keptOf event own ≡ keptOf event own′) × (viewNamed own ≡ viewNamed own′)) (lo : length out ≡ length out′) (st : State) where
   abbrev Enters : Told → Told → Type 0
   Enters = SameFor (enter vcpu block event own out)
 
   stays : (k : ℕ) → Enters (toldSame k st out []) (toldSame k st out′ [])
   stays k = idle (enter vcpu block event own out) (plain k) refl st out out′ [] []
 
+  kept-alike : (w : List ℕ) → faultWords w vcpu event own ≡ faultWords w vcpu event own′
+  unfolding faultWords
+  kept-alike w = test (eqb event PF) (λ e. rw (e, pf (eqb-true event PF e) .0)) (λ e. rw e)
+
   sent-same : SentAlike (sentOf st vcpu block event own) (sentOf st vcpu block′ event own′)
   unfolding sentOf sendingOf dequeuingOf pausingOf pauseEvent
   sent-same =
       let seq = st .session .tool .seq in
-      rw (← asked-alike (st .session .tool .events) (st .vcpus) vcpu event own own′ cr msr)
-      (both SentAlike (isAskedForOf (st .session .tool .events) (st .vcpus) vcpu event own) _ _ _ _
+      rw (← asked-alike (st .session .tool) (st .vcpus) (st .pages) vcpu event own own′ cr msr pf, ← kept-alike (awaitingWords (st .vcpus) vcpu event seq))
+      (both SentAlike (isAskedForOf (st .session .tool) (st .vcpus) (st .pages) vcpu event own) _ _ _ _
       (λ _. events-alike seq vcpu event block block′ own own′ lb lw _ _)
       (λ _. both SentAlike (leb 1 (field (st .vcpus) vcpu PAUSES)) _ _ _ _ (λ _. events-alike seq vcpu 2 block block′ [] [] lb refl _ _)
       (λ _. record { long = refl; front = refl; words = refl; next = refl })))
@@ -375,7 +383,7 @@ unfolding stepOf ownBytes
 call-same st c d (messages msg out out′ guest guest′ lo lg) =
     let same = message-same msg out out′ lo st guest guest′ lg in record { answer = same .answer; state = same .state; bytes = same .bytes }
 call-same st c d (readies vcpu) = record { answer = refl; state = refl; bytes = refl }
-call-same st c d (enters vcpu block block′ event own own′ out out′ lb lw cr msr lo) = enter-same vcpu block block′ event own own′ out out′ lb lw cr msr lo st
+call-same st c d (enters vcpu block block′ event own own′ out out′ lb lw cr msr pf lo) = enter-same vcpu block block′ event own own′ out out′ lb lw cr msr pf lo st
 call-same st c d (writes out out′ lo) = image-same out out′ lo st
 
 -- ---- lists of calls
@@ -384,7 +392,7 @@ own-alike : (c d : Call) → Alike c d → (r : Told) → ownBytes c r ≡ ownBy
 unfolding ownBytes
 own-alike c d (messages msg out out′ guest guest′ lo lg) r = refl
 own-alike c d (readies vcpu) r = refl
-own-alike c d (enters vcpu block block′ event own own′ out out′ lb lw cr msr lo) r = refl
+own-alike c d (enters vcpu block block′ event own own′ out out′ lb lw cr msr pf lo) r = refl
 own-alike c d (writes out out′ lo) r = refl
 
 -- what lists of calls give

@@ -59,6 +59,11 @@ unfoldable pub guestOver : State → List ℕ → List Call → List ℕ
 guestOver st guest [] = guest
 guestOver st guest (c ∷ cs) = guestOver (stepOf st c .state) (stepOf st c .guest) cs
 
+-- where in the input the last of them begins, if the first begins at `from`; or another place where there is none
+unfoldable pub lastBegins : ℕ → ℕ → List Call → ℕ
+lastBegins other from [] = other
+lastBegins other from (c ∷ cs) = lastBegins from (from + callBytes c) cs
+
 -- the last one's answer, or another where there is none
 unfoldable pub lastOver : State → Paper → List Call → Paper
 lastOver st p [] = p
@@ -81,7 +86,8 @@ pub record TakenSingly (st : State) (input out signals guest : List ℕ) (cs : L
   pub memory : b .guest ≡ guestOver st guest cs
   -- the answer is the last one's; where there is none, the refusal or 0
   pub number : b .number ≡ lastOver st (plain (refusalOf (isClosed st) (length out) (length signals))) cs .number
-  pub resume : b .resume ≡ resumeOf (lastOver st (plain (refusalOf (isClosed st) (length out) (length signals))) cs .signal)
+  -- W5: the bytes that the last message supplies are a part of the input, from where it begins
+  pub resume : b .resume ≡ resumeOf (lastBegins 0 0 cs) (lastOver st (plain (refusalOf (isClosed st) (length out) (length signals))) cs .signal)
 
 -- ---- two batches that agree but for what the guest has a part in
 -- what is the same after them

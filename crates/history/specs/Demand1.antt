@@ -5,7 +5,7 @@
 -- which numbers a call answers with, each refusal's number exactly if its condition holds, behind those that are tested before it, and what it leaves.
 -- An answer has one number, so that of one call's conditions no two hold.
 use mathlib.Core.Path.{_≡_}
-use mathlib.Core.Logic.{_↔_, _⊎_}
+use mathlib.Core.Logic.{_↔_, _⊎_, _≢_}
 use Prim.Native.Nat.{ℕ, _≤_, _<_}
 use mathlib.Core.List.{List, [], _∷_}
 use mathlib.Core.Bool.{true, false, cond, So}
@@ -13,9 +13,11 @@ use lib.ListN.{length, drop}
 use Rattle.wire.specs.Header.{headerOf}
 use Rattle.wire.specs.declared.Header.the-variants.{Whole, Broken}
 use Rattle.kvmi.specs.declared.Settings.{Settings}
+use Rattle.kvmi.specs.declared.Change.{Change}
 use Rattle.kvmi.specs.declared.Verdict.{Verdict}
-use Rattle.kvmi.specs.declared.Verdict.the-variants.{Closes}
-use Rattle.kvmi.specs.Answer.{Paper, plain, plainAt}
+use Rattle.kvmi.specs.declared.Verdict.the-variants.{Closes, Does}
+use Rattle.kvmi.specs.Answer.{Paper, plain, plainAt, lacksPage}
+use Rattle.kvmi.specs.Change.{signalOf}
 use Rattle.kvmi.specs.Bits.{among}
 use Rattle.kvmi.specs.Limits.{leastOut, eventOut, stateBytes}
 use Rattle.kvmi.specs.Model.{awaitedBy, isSome}
@@ -56,13 +58,13 @@ IsVcpu st vcpu = vcpu < st .session .settings .vcpus
 abbrev pub NoVcpu : State → ℕ → Type 0
 NoVcpu st vcpu = st .session .settings .vcpus ≤ vcpu
 
--- "events 3, 4, 5, 7, 8, 9, 11, 12 and 14", "or 0 for none": the numbers of what an entry is offered
+-- "events 3, 4, 5, 7, 8, 9, 11, 12 and 14", "or 0 for none", and W5's PF, 10: the numbers of what an entry is offered
 abbrev pub offers : List ℕ
-offers = 0 ∷ 3 ∷ 4 ∷ 5 ∷ 7 ∷ 8 ∷ 9 ∷ 11 ∷ 12 ∷ 14 ∷ []
+offers = 0 ∷ 3 ∷ 4 ∷ 5 ∷ 7 ∷ 8 ∷ 9 ∷ 10 ∷ 11 ∷ 12 ∷ 14 ∷ []
 
--- how many bytes each has of its own: 24 for CR and MSR, 16 for BREAKPOINT and CPUID, 8 for DESCRIPTOR and SINGLESTEP
+-- how many bytes each has of its own: 24 for CR, MSR and PF, 16 for BREAKPOINT and CPUID, 8 for DESCRIPTOR and SINGLESTEP
 abbrev pub ownLength : ℕ → ℕ
-ownLength event = cond (among event (5 ∷ 9 ∷ [])) 24 (cond (among event (4 ∷ 14 ∷ [])) 16 (cond (among event (8 ∷ 11 ∷ [])) 8 0))
+ownLength event = cond (among event (5 ∷ 9 ∷ 10 ∷ [])) 24 (cond (among event (4 ∷ 14 ∷ [])) 16 (cond (among event (8 ∷ 11 ∷ [])) 8 0))
 
 -- an event with its own bytes, as an entry is offered one
 abbrev pub Offer : ℕ → List ℕ → Type 0
@@ -98,6 +100,11 @@ RuleCloses st msg guest =
     (headerOf msg ≡ Broken)
     ⊎ ((id : ℕ) × (size : ℕ) × (seq : ℕ) × (headerOf msg ≡ Whole id size seq) × (saidOf st msg guest id seq ≡ Closes))
 
+-- W5, "a continue that needs the guest page where none exists": what tests 2 to 6 say of the message is to take it, and that is what it signals
+abbrev pub NeedsPage : State → List ℕ → List ℕ → Type 0
+NeedsPage st msg guest =
+    (id : ℕ) × (size : ℕ) × (seq : ℕ) × (c : Change) × (headerOf msg ≡ Whole id size seq) × (saidOf st msg guest id seq ≡ Does c) × (lacksPage (signalOf c) ≡ true)
+
 -- ---- "no session": no lent word changes, and the session that is handed back is a closed one; the call has no output and no guest memory
 pub record NoSession (p : Paper) (s : Settings) (vcpuWords pageWords : List ℕ) (r : Told) : Type 0 where
   pub answer : r .answer ≡ p
@@ -125,11 +132,13 @@ pub record ReadyAnswers (st : State) (vcpu : ℕ) (r : Told) : Type 0 where
 
 -- ---- "message 2, 3, then below"
 pub record MessageAnswers (st : State) (msg out guest : List ℕ) (r : Told) : Type 0 where
-  pub numbers : OneOf (0 ∷ 1 ∷ 2 ∷ 3 ∷ []) r
+  pub numbers : OneOf (0 ∷ 1 ∷ 2 ∷ 3 ∷ 12 ∷ []) r
   -- "2 closed | session was closed"
   pub closed : Answers r 2 ↔ Closed st
   -- "3 short out | output below 4,112 (message)"
   pub short : Answers r 3 ↔ (Open st × (length out < leastOut))
+  -- W5: "a continue that needs the guest page where none exists is answer 12"
+  pub noPage : Answers r 12 ↔ (Open st × (leastOut ≤ length out) × NeedsPage st msg guest)
   -- "1 closing | a rule below says "closes" | 0 bytes, session closes"
   pub closing : Answers r 1 ↔ (Open st × (leastOut ≤ length out) × RuleCloses st msg guest)
   pub closes : Answers r 1 → r ≡ toldClosing st out guest
@@ -146,7 +155,7 @@ pub record PastCount (lent : List ℕ) (count : ℕ) (left : List ℕ) : Type 0 
   pub rest : drop count left ≡ drop count lent
 
 pub record BatchAnswers (st : State) (input out signals guest : List ℕ) (b : Batch State) : Type 0 where
-  pub numbers : So (among (b .number) (0 ∷ 1 ∷ 2 ∷ 3 ∷ 11 ∷ []))
+  pub numbers : So (among (b .number) (0 ∷ 1 ∷ 2 ∷ 3 ∷ 11 ∷ 12 ∷ []))
   -- "closed 2"
   pub closed : (b .number ≡ 2) ↔ Closed st
   -- "short output 3"
@@ -154,17 +163,19 @@ pub record BatchAnswers (st : State) (input out signals guest : List ℕ) (b : B
   -- "a list with no place 11"
   pub noPlace : (b .number ≡ 11) ↔ (Open st × (leastOut ≤ length out) × (length signals ≡ 0))
   -- "none": nothing is used, written, listed or handed back, and nothing changes
-  pub refused : 2 ≤ b .number → b ≡ atStart (b .number) st out signals guest
+  pub refused : 2 ≤ b .number → b .number ≢ 12 → b ≡ atStart (b .number) st out signals guest
   pub output : PastCount out (b .count) (b .out)
   -- "A lent list past its count is untouched"
   pub list : PastCount signals (b .listed) (b .signals)
   -- what is used lies inside; one that is not refused and has input uses some, so that a host that calls again with the rest gets on
   pub inside : b .used ≤ length input
-  pub some : b .number < 2 → 0 < length input → 0 < b .used
-  -- "a closing message gives answer 1": the session is then closed; under 0 it is open, and a resume is handed back under 0 alone
+  pub some : (b .number < 2) ⊎ (b .number ≡ 12) → 0 < length input → 0 < b .used
+  -- "a closing message gives answer 1": the session is then closed; under 0 and 12 it is open, and a resume is handed back under these alone
   pub closes : b .number ≡ 1 → Closed (b .state)
-  pub opened : b .number ≡ 0 → Open (b .state)
-  pub resumes : isResume (b .resume) ≡ true → b .number ≡ 0
+  pub opened : (b .number ≡ 0) ⊎ (b .number ≡ 12) → Open (b .state)
+  pub resumes : isResume (b .resume) ≡ true → (b .number ≡ 0) ⊎ (b .number ≡ 12)
+  -- W5: "it ends a batch with that answer": under 12 the resume that lacks its page is the one that is handed back
+  pub noPage : (b .number ≡ 12) ↔ (lacksPage (b .resume) ≡ true)
   -- it ends for one of W3's reasons
   pub ends : goesOn input b ≡ false
 

@@ -27,7 +27,7 @@ pub record OnSession (st : State) (g : Given) (r : Told) : Type 0 where
   pub vcpus : r .state .vcpus ≡ st .vcpus
   pub pages : r .state .pages ≡ st .pages
 
--- to an entry the session, the vCPU words and the output: the page words are as they were
+-- to an entry the session, the vCPU words and the output, and the page words to be read: they are as they were
 pub record OnVcpus (st : State) (g : Given) (r : Told) : Type 0 where
   pub done : g .done ≡ given r .done
   pub vcpus : g .vcpus ≡ given r .vcpus
@@ -50,7 +50,7 @@ pub record Exported : Type 0 where
   pub batch : (st : State) (input out signals guest : List ℕ)
       → batchGiven (st .session) (st .vcpus) (st .pages) input out signals guest ≡ givenBatch (batchOf st input out signals guest)
   pub enter : (st : State) (vcpu : ℕ) (block : List ℕ) (event : ℕ) (own out : List ℕ) → st .session .settings .vcpus ≤ 65535
-      → OnVcpus st (enterGiven (st .session) (st .vcpus) vcpu block event own out) (stepOf st (enter vcpu block event own out))
+      → OnVcpus st (enterGiven (st .session) (st .vcpus) (st .pages) vcpu block event own out) (stepOf st (enter vcpu block event own out))
   pub writeImage : (st : State) (out : List ℕ) → OnOutput st (writeGiven (st .session) (st .vcpus) (st .pages) out) (stepOf st (writeImage out))
   -- the length that an output must have
   pub imageSize : (st : State) → sizeGiven (st .session) (st .vcpus) (st .pages) ≡ imageLength st

@@ -7,6 +7,7 @@ pub mod Exported
 pub mod Carried
 pub mod Pauses
 pub mod Events
+pub mod Faults
 pub mod ExecuteOnly
 pub mod Msrs
 pub mod Batches

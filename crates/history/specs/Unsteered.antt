@@ -12,6 +12,7 @@ use Rattle.wire.specs.declared.Header.{Header}
 use Rattle.wire.specs.declared.Header.the-variants.{Whole, Broken}
 use Rattle.kvmi.specs.Answer.{Paper}
 use Rattle.kvmi.specs.Event.{crNamed, msrNamed}
+use Rattle.kvmi.specs.Feed.{PF, keptOf, viewNamed}
 use Rattle.kvmi.specs.Call.{Call, message, ready, enter, writeImage}
 use Rattle.session.specs.State.{State}
 use Rattle.session.specs.Calls.{Told}
@@ -37,14 +38,16 @@ ownBytes (writeImage out) r = written r
 
 -- ---- two runs
 -- calls that agree but for what the guest has a part in: the bytes of guest memory, a vCPU's registers, an offered event's own bytes, and what stands
--- in the output before the call, where an earlier read may have left the guest's bytes; all lengths agree, and so do the number of an offered event and
--- the register that the bytes of CR (5) and MSR (9) name, by which its switches are found
+-- in the output before the call, where an earlier read may have left the guest's bytes; all lengths agree, and so do the number of an offered event,
+-- the register that the bytes of CR (5) and MSR (9) name, by which its switches are found, and of a page fault (10) its view, addresses and access, by which
+-- its page is found and its reply's bytes are chosen
 pub data Alike : Call → Call → Type 0 where
   messages : (msg out out′ guest guest′ : List ℕ) → length out ≡ length out′ → length guest ≡ length guest′
       → Alike (message msg out guest) (message msg out′ guest′)
   readies : (vcpu : ℕ) → Alike (ready vcpu) (ready vcpu)
   enters : (vcpu : ℕ) (block block′ : List ℕ) (event : ℕ) (own own′ out out′ : List ℕ) → length block ≡ length block′ → length own ≡ length own′
-      → (event ≡ 5 → crNamed own ≡ crNamed own′) → (event ≡ 9 → msrNamed own ≡ msrNamed own′) → length out ≡ length out′
+      → (event ≡ 5 → crNamed own ≡ crNamed own′) → (event ≡ 9 → msrNamed own ≡ msrNamed own′)
+      → (event ≡ PF → (keptOf event own ≡ keptOf event own′) × (viewNamed own ≡ viewNamed own′)) → length out ≡ length out′
       → Alike (enter vcpu block event own out) (enter vcpu block′ event own′ out′)
   writes : (out out′ : List ℕ) → length out ≡ length out′ → Alike (writeImage out) (writeImage out′)
 
