@@ -6,13 +6,13 @@
 use crate::message::LEAST_OUTPUT;
 use crate::session::Session;
 use crate::wire::{u16_at, HEADER};
-use crate::{Answer, Signal};
+use crate::{Answer, Feed, Signal};
 
 /// What became of a batch.
 #[derive(Clone, Copy, Debug, PartialEq, Eq)]
 pub struct Batch {
-    /// 0 or 1, or a refusal: 2, 3 or 11. Answer 0 has the count and the resume
-    /// that stand below, too.
+    /// 0, 1 or 12, or a refusal: 2, 3 or 11. Answer 0 has the count, the resume
+    /// and the feed that stand below, too, and answer 12 the resume.
     pub answer: Answer,
     /// "it says how many input bytes it used"
     pub used: usize,
@@ -23,12 +23,15 @@ pub struct Batch {
     pub listed: usize,
     /// "A resume is handed back beside the list": that, or none.
     pub resume: Signal,
+    /// Bytes for the instruction that the resume continues; of the supplied
+    /// ones the place is counted from the input's start.
+    pub feed: Feed,
 }
 
 impl Batch {
     /// A refusal leaves everything as it was.
     fn refused(answer: Answer) -> Batch {
-        Batch { answer, used: 0, count: 0, listed: 0, resume: Signal::None }
+        Batch { answer, used: 0, count: 0, listed: 0, resume: Signal::None, feed: Feed::None }
     }
 }
 
@@ -52,21 +55,29 @@ impl Session {
         }
 
         let (mut used, mut count, mut listed) = (0, 0, 0);
-        let mut resume = Signal::None;
+        let (mut resume, mut feed) = (Signal::None, Feed::None);
         // "Else it goes on unless a message closes or, before one, under 4,112
         // output bytes or no list place remain".
         while used < input.len() && out.len() - count >= LEAST_OUTPUT && listed < signals.len() {
-            let message = first(&input[used..]);
+            let start = used;
+            let message = first(&input[start..]);
             used += message.len();
             // "Outputs, signals, session and guest memory must equal the used
             // messages taken singly".
             let (written, signal) = match self.message(message, &mut out[count..], guest) {
-                Answer::Handled { count, signal } => (count, signal),
+                Answer::Handled { count, signal, feed: fed } => {
+                    feed = behind(start, fed);
+                    (count, signal)
+                }
+                // "it ends a batch with that answer, itself used"
+                answer @ Answer::NoPage { signal: resume } => {
+                    return Batch { answer, used, count, listed, resume, feed: Feed::None };
+                }
                 // "a closing message gives answer 1, counting the bytes and
                 // signals before it"; "bytes after a closing message count as
                 // unused", so that its own are used. No refusal comes here: the
                 // session is open, and the room was tested.
-                closing => return Batch { answer: closing, used, count, listed, resume },
+                closing => return Batch { answer: closing, used, count, listed, resume, feed },
             };
             count += written;
             let code = match signal {
@@ -83,7 +94,15 @@ impl Session {
             signals[listed] = code;
             listed += 1;
         }
-        Batch { answer: Answer::Handled { count, signal: resume }, used, count, listed, resume }
+        Batch { answer: Answer::Handled { count, signal: resume, feed }, used, count, listed, resume, feed }
+    }
+}
+
+/// What a message that begins at this place of the input is fed from.
+fn behind(start: usize, feed: Feed) -> Feed {
+    match feed {
+        Feed::Supplied { at, length } => Feed::Supplied { at: start + at, length },
+        other => other,
     }
 }
 

@@ -5,6 +5,7 @@
 //! size u16, vcpu u16, event u8, padding[3], arch. Document 02, W1: "The bytes
 //! after the first 544 are lent beside the state block and copied."
 
+use crate::fault;
 use crate::wire::{event, id, put_header, Header, HEADER};
 
 /// Bytes of a lent register block.
@@ -13,7 +14,7 @@ pub(crate) const STATE: usize = 536;
 /// Bytes of `struct kvmi_event`: its own size field.
 const COMMON: u16 = 544;
 
-/// Bytes of the longest event, CR's or MSR's: "entry output below 576 is
+/// Bytes of the longest event, CR's, MSR's or PF's: "entry output below 576 is
 /// answer 3".
 pub(crate) const LONGEST: usize = OWN_AT + 24;
 
@@ -42,6 +43,8 @@ pub(crate) fn offered(number: u32) -> Option<(u8, usize)> {
         event::DESCRIPTOR => 8,
         // msr u32, padding u32, old_value u64, new_value u64.
         event::MSR => 24,
+        // Document 02, W5: "event data 568".
+        event::PF => fault::EVENT,
         // failed u8, padding[7]: "The singlestep block goes with the event."
         event::SINGLESTEP => 8,
         // function u32, index u32, insn_length u8, padding1[3], padding2 u32.
@@ -55,6 +58,15 @@ pub(crate) fn offered(number: u32) -> Option<(u8, usize)> {
 /// and MSR, the new value last, and 16 otherwise".
 pub(crate) fn has_new_value(event: u8) -> bool {
     matches!(event, event::CR | event::MSR)
+}
+
+/// Data bytes of the reply to an event.
+pub(crate) fn reply_size(event: u8) -> usize {
+    match event {
+        event::PF => fault::REPLY,
+        _ if has_new_value(event) => 24,
+        _ => 16,
+    }
 }
 
 /// Writes all of an event that comes before its state block.
@@ -93,8 +105,9 @@ pub(crate) fn put_cmd_error(out: &mut [u8], seq: u32, error: i32, about: &Header
 
 #[cfg(test)]
 mod tests {
+    use crate::fault::Fault;
     use crate::session::Awaited;
-    use crate::{Action, Answer, Session, Settings, Signal};
+    use crate::{Action, Answer, Feed, Session, Settings, Signal};
 
     fn session() -> Session {
         let settings = Settings {
@@ -118,7 +131,8 @@ mod tests {
 
     /// A message of one byte's worth of vCPU, eight bytes more and some behind.
     fn message(id: u8, seq: u32, vcpu: u8, rest: [u8; 8], more: &[u8]) -> Vec<u8> {
-        let mut message = vec![id, 0, 16 + more.len() as u8, 0];
+        let mut message = vec![id, 0];
+        message.extend((16 + more.len() as u16).to_le_bytes());
         message.extend(seq.to_le_bytes());
         message.extend([vcpu, 0, 0, 0, 0, 0, 0, 0]);
         message.extend(rest);
@@ -134,10 +148,9 @@ mod tests {
         let mut out = vec![0; 4112];
         for vcpu in 0..2 {
             let pause = message(9, 0, vcpu, [0; 8], &[]);
-            assert_eq!(
-                session.message(&pause, &mut out, &mut []),
-                Answer::Handled { count: 16, signal: Signal::Kick { vcpu: vcpu.into(), wait: false } }
-            );
+            let signal = Signal::Kick { vcpu: vcpu.into(), wait: false };
+            let answer = Answer::Handled { count: 16, signal, feed: Feed::None };
+            assert_eq!(session.message(&pause, &mut out, &mut []), answer);
         }
         assert_eq!(session.enter(1, &[3; 536], 0, &[], &mut out), Answer::handled(552));
         assert_eq!(out[..8], [17, 0, 0x20, 2, 0xff, 0xff, 0xff, 0xff]);
@@ -147,7 +160,7 @@ mod tests {
 
         let mut reply = message(16, u32::MAX, 1, [0, 2, 0, 0, 0, 0, 0, 0], &[]);
         assert_eq!(session.message(&reply, &mut out, &mut []), Answer::handled(0));
-        assert_eq!(session.awaited[..2], [Some(Awaited { event: 2, seq: 0 }), None]);
+        assert_eq!(session.awaited[..2], [Some(Awaited { event: 2, seq: 0, fault: None }), None]);
         // vCPU 0 awaits seq 0, not 4,294,967,295.
         reply[8] = 0;
         assert_eq!(session.message(&reply, &mut out, &mut []), Answer::Closing);
@@ -158,10 +171,11 @@ mod tests {
     /// The same with each event that is offered, and its own bytes.
     #[test]
     fn seq_wraps_with_offered_events() {
-        for (event, own) in [(3, 0), (4, 16), (5, 24), (7, 0), (8, 8), (9, 24), (11, 8), (12, 0), (14, 16)] {
+        for (event, own) in [(3, 0), (4, 16), (5, 24), (7, 0), (8, 8), (9, 24), (10, 24), (11, 8), (12, 0), (14, 16)] {
             let mut session = session();
             let mut out = vec![0; 4112];
             session.standing.vm_events = 1 << 12;
+            session.standing.pages.set(0, 0, 1);
             for vcpu in &mut session.standing.vcpus {
                 vcpu.events = !(1 << 12);
                 vcpu.crs = 1;
@@ -172,14 +186,18 @@ mod tests {
                 assert_eq!(session.enter(vcpu, &[3; 536], event.into(), &own, &mut out), Answer::handled(552 + own.len()));
                 assert_eq!(out[4..8], seq.to_le_bytes());
                 assert_eq!(session.next_seq, next);
-                assert_eq!(session.awaited[usize::from(vcpu)], Some(Awaited { event, seq }));
+                let fault = (event == 10).then_some(Fault { gva: 0, gpa: 0, access: 0 });
+                assert_eq!(session.awaited[usize::from(vcpu)], Some(Awaited { event, seq, fault }));
             }
-            let more: &[u8] = if matches!(event, 5 | 9) { &[0xFF; 8] } else { &[] };
-            let value = if matches!(event, 5 | 9) { u64::MAX } else { 0 };
+            let (more, value): (&[u8], u64) = match event {
+                5 | 9 => (&[0xFF; 8], u64::MAX),
+                10 => (&[0; 272], 0),
+                _ => (&[], 0),
+            };
             for (vcpu, seq) in [(1, u32::MAX), (0, 0)] {
                 let reply = message(16, seq, vcpu, [0, event, 0, 0, 0, 0, 0, 0], more);
                 let signal = Signal::Resume { vcpu: vcpu.into(), action: Action::Continue, value };
-                assert_eq!(session.message(&reply, &mut out, &mut []), Answer::Handled { count: 0, signal });
+                assert_eq!(session.message(&reply, &mut out, &mut []), Answer::Handled { count: 0, signal, feed: Feed::None });
             }
             assert_eq!(session.awaited, [None; 16]);
         }

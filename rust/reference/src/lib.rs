@@ -3,10 +3,10 @@
 //! kvmi.rst (API version 1) gives the layouts; document 01 gives the numbers,
 //! the order of the tests, the host's answers and the table image, and decides
 //! where kvmi.rst is silent or contradicts itself. Document 02 changes them: of
-//! its requests W1, the other events, W2, execute-only pages, and W3, several
-//! messages in one write, are built. Comments quote or name the sentence
-//! that a rule stands for; `NOTES.md` lists the readings of sentences that are
-//! open.
+//! its requests W1, the other events, W2, execute-only pages, W3, several
+//! messages in one write, and W5, page faults, are built; W4 changes no answer.
+//! Comments quote or name the sentence that a rule stands for; `NOTES.md` lists
+//! the readings of sentences that are open.
 //!
 //! * [`Session::message`] takes one message of the tool, and
 //!   [`Session::batch`] several of them,
@@ -20,6 +20,7 @@
 
 mod batch;
 mod event;
+mod fault;
 mod image;
 pub mod list;
 mod lookup;
@@ -108,7 +109,7 @@ pub enum Signal {
         vcpu: u16,
     },
     /// Another reply to an event that an entry offered: "resume(vCPU, action,
-    /// new value or 0)". The value is CR's or MSR's.
+    /// new value or 0)". The value is CR's or MSR's, or PF's rep flag.
     Resume {
         vcpu: u16,
         action: Action,
@@ -124,12 +125,26 @@ pub enum Action {
     Retry,
 }
 
-/// Document 01, "Host answers", and document 02, W3, "a list with no place 11";
-/// the number of each is named beside it.
+/// Document 02, W5: "the host wants the bytes to feed the instruction", and "It
+/// must be a part of one of the two buffers."
+#[derive(Clone, Copy, Debug, PartialEq, Eq)]
+pub enum Feed {
+    /// None: only a read that is continued wants bytes.
+    None,
+    /// "the supplied data from gva to its end": this part of the message, its
+    /// header counted; of a batch, of the input.
+    Supplied { at: usize, length: usize },
+    /// "the page's bytes from gpa to the page end": this part of guest memory.
+    Page { at: usize, length: usize },
+}
+
+/// Document 01, "Host answers", and document 02: W3, "a list with no place 11",
+/// and W5, "where none exists is answer 12". The number of each is named beside
+/// it.
 #[derive(Clone, Copy, Debug, PartialEq, Eq)]
 pub enum Answer {
     /// 0: handled; so many bytes were written.
-    Handled { count: usize, signal: Signal },
+    Handled { count: usize, signal: Signal, feed: Feed },
     /// 1: this call closed the session.
     Closing,
     /// 2: the session was closed before.
@@ -153,6 +168,9 @@ pub enum Answer {
     Busy,
     /// 11: the lent list of signals has no place.
     NoPlace,
+    /// 12: as 0, with no byte written, but the guest page does not exist that
+    /// was to feed the instruction.
+    NoPage { signal: Signal },
     /// 14: the CR switch of a list has no such CR, or the record is not ready.
     NotApplicable,
 }
@@ -173,12 +191,13 @@ impl Answer {
             Answer::Forbidden { .. } => 9,
             Answer::Busy => 10,
             Answer::NoPlace => 11,
+            Answer::NoPage { .. } => 12,
             Answer::NotApplicable => 14,
         }
     }
 
     /// Handled, with nothing asked of the host.
     fn handled(count: usize) -> Answer {
-        Answer::Handled { count, signal: Signal::None }
+        Answer::Handled { count, signal: Signal::None, feed: Feed::None }
     }
 }

@@ -2,18 +2,16 @@
 //! first"; the layouts are those of kvmi.rst, "Commands".
 
 use crate::event;
-use crate::session::{Awaited, Replies, Session};
-use crate::standing::{cr_bit, Msr, PAUSE_LIMIT};
+use crate::fault::{self, Context};
+use crate::session::{Replies, Session};
+use crate::standing::{cr_bit, page_exists, Msr, PAGE, PAUSE_LIMIT};
 use crate::wire::error::*;
 use crate::wire::event as events;
 use crate::wire::{id, is_zero, put_reply, u16_at, u32_at, u64_at, Header, REPLY};
-use crate::{Action, Answer, Signal};
+use crate::{Action, Answer, Feed, Signal};
 
 /// Answer 3: "output below 4,112 (message)".
 pub(crate) const LEAST_OUTPUT: usize = REPLY + PAGE as usize;
-
-/// "a page (4,096 bytes)".
-const PAGE: u64 = 4096;
 
 /// "Version is 1".
 const VERSION: u32 = 1;
@@ -28,6 +26,9 @@ struct Done {
     /// Bytes of reply data, already in their place in the output.
     data: usize,
     signal: Signal,
+    /// Bytes for the instruction; none where "a continue [...] needs the guest
+    /// page where none exists".
+    feed: Option<Feed>,
 }
 
 impl Done {
@@ -35,7 +36,11 @@ impl Done {
     const PLAIN: Done = Done::with_data(0);
 
     const fn with_data(data: usize) -> Done {
-        Done { data, signal: Signal::None }
+        Done { data, ..Done::with_signal(Signal::None) }
+    }
+
+    const fn with_signal(signal: Signal) -> Done {
+        Done { data: 0, signal, feed: Some(Feed::None) }
     }
 }
 
@@ -85,7 +90,9 @@ impl Session {
                 }
                 Replies::Off { tell_errors: false } => 0,
             }),
-            Ok(Done { data, signal }) => Answer::Handled {
+            // "answer 12 and hands back no bytes, all else as under answer 0".
+            Ok(Done { signal, feed: None, .. }) => Answer::NoPage { signal },
+            Ok(Done { data, signal, feed: Some(feed) }) => Answer::Handled {
                 count: match mode {
                     // The table: EVENT_REPLY has "no reply".
                     _ if header.id == id::EVENT_REPLY => 0,
@@ -93,6 +100,7 @@ impl Session {
                     Replies::Off { .. } => 0,
                 },
                 signal,
+                feed,
             },
         }
     }
@@ -147,7 +155,7 @@ impl Session {
             id::VM_SET_PAGE_ACCESS => Ok(self.set_page_access(data)?),
             id::VCPU_CONTROL_SINGLESTEP => Ok(self.control_singlestep(data)?),
             id::VM_CONTROL_CMD_RESPONSE => self.control_cmd_response(data, mode),
-            id::EVENT_REPLY => self.event_reply(header.seq, data),
+            id::EVENT_REPLY => self.event_reply(header.seq, data, guest),
             // Test 2 let no other id pass.
             _ => Err(Refusal::Error(ENOSYS)),
         }
@@ -230,7 +238,7 @@ impl Session {
         // "-16 EBUSY: [...] message 9 with 8 pauses queued"
         ensure(record.pauses < PAUSE_LIMIT, EBUSY)?;
         record.pauses += 1;
-        Ok(Done { data: 0, signal: Signal::Kick { vcpu, wait } })
+        Ok(Done::with_signal(Signal::Kick { vcpu, wait }))
     }
 
     /// kvmi.rst, "KVMI_VCPU_CONTROL_EVENTS": the vCPU header, event_id u16,
@@ -351,41 +359,58 @@ impl Session {
 
     /// kvmi.rst, "Events": the vCPU header, action u8, event u8, padding1 u16,
     /// padding2 u32; `struct kvmi_event_cr_reply`, `struct
-    /// kvmi_event_msr_reply`: new_val u64.
+    /// kvmi_event_msr_reply`: new_val u64; `struct kvmi_event_pf_reply`.
     ///
     /// "An EVENT_REPLY closes unless padding is zero, the vCPU awaits one, seq
     /// and event match, and the action is 0 continue or 2 crash (1 is retry)."
-    fn event_reply(&mut self, seq: u32, data: &[u8]) -> Result<Done, Refusal> {
-        let (vcpu, event) = (u16_at(data, 0), data[9]);
-        let padding_is_zero = is_zero(&data[2..8]) && is_zero(&data[10..16]);
+    fn event_reply(&mut self, seq: u32, data: &[u8], guest: &[u8]) -> Result<Done, Refusal> {
+        let (vcpu, action, event) = (u16_at(data, 0), data[8], data[9]);
+        open_if(is_zero(&data[2..8]) && is_zero(&data[10..16]))?;
+        // A vCPU not below the count awaits nothing.
+        let record = self.awaited.get_mut(usize::from(vcpu)).ok_or(Refusal::Closes)?;
+        let awaited = record.ok_or(Refusal::Closes)?;
+        open_if(awaited.event == event && awaited.seq == seq)?;
         // Document 02, W1: "Replies carry 24 data bytes for CR and MSR, the new
-        // value last, and 16 otherwise."
-        let value = match data.len() {
-            24 if event::has_new_value(event) => u64_at(data, 16),
-            16 if !event::has_new_value(event) => 0,
-            _ => return Err(Refusal::Closes),
+        // value last, and 16 otherwise"; W5: "take its reply (288 data bytes)".
+        open_if(data.len() == event::reply_size(event))?;
+        let context = match awaited.fault {
+            Some(_) => Some(Context::of(data).ok_or(Refusal::Closes)?),
+            None => None,
         };
-        let signal = match (data[8], event) {
+        let value = match &context {
+            // "A resume's value is the rep flag".
+            Some(context) => context.rep,
+            None if event::has_new_value(event) => u64_at(data, 16),
+            None => 0,
+        };
+        let signal = match (action, event) {
             // "Such a continue or retry, unlike a pause's, is signalled as
             // resume(vCPU, action, new value or 0)."
             (0, events::PAUSE_VCPU) => Signal::None,
             (0, _) => Signal::Resume { vcpu, action: Action::Continue, value },
-            // "Retry is taken for BREAKPOINT and DESCRIPTOR only."
-            (1, events::BREAKPOINT | events::DESCRIPTOR) => Signal::Resume { vcpu, action: Action::Retry, value },
+            // "Retry is taken for BREAKPOINT and DESCRIPTOR only." Of PF: "All
+            // three actions are valid."
+            (1, events::BREAKPOINT | events::DESCRIPTOR | events::PF) => Signal::Resume { vcpu, action: Action::Retry, value },
             (2, _) => Signal::Crash { vcpu },
             _ => return Err(Refusal::Closes),
         };
-        // A vCPU not below the count awaits nothing.
-        let awaited = self.awaited.get_mut(usize::from(vcpu));
-        match awaited {
-            Some(awaited) if padding_is_zero && *awaited == Some(Awaited { event, seq }) => {
-                // "Once taken, it is awaited no more. A crash is signalled; the
-                // session stays open."
-                *awaited = None;
-                Ok(Done { data: 0, signal })
-            }
-            _ => Err(Refusal::Closes),
-        }
+        // "Once taken, it is awaited no more. A crash is signalled; the session
+        // stays open."
+        *record = None;
+        let feed = match (action, awaited.fault, context) {
+            (0, Some(fault), Some(context)) => context.feed(fault, guest),
+            _ => Some(Feed::None),
+        };
+        Ok(Done { data: 0, signal, feed })
+    }
+}
+
+/// A rule says "closes unless".
+fn open_if(holds: bool) -> Result<(), Refusal> {
+    if holds {
+        Ok(())
+    } else {
+        Err(Refusal::Closes)
     }
 }
 
@@ -401,8 +426,8 @@ fn size_fits(id: u16, data: &[u8]) -> bool {
         id::VM_WRITE_PHYSICAL => size >= 16 && u64_at(data, 8) == (size - 16) as u64,
         // "Message 13 closes only below 8 bytes"
         id::VM_SET_PAGE_ACCESS => size >= ACCESS_HEAD,
-        // Which of the two, its event decides.
-        id::EVENT_REPLY => size == 16 || size == 24,
+        // Which of the three, its event decides.
+        id::EVENT_REPLY => size == 16 || size == 24 || size == fault::REPLY,
         _ => size == 16,
     }
 }
@@ -428,9 +453,8 @@ fn physical(data: &[u8], guest: &[u8]) -> Result<(usize, usize), i32> {
     // "physical size 0, or (gpa mod 4096) + size above 4096", with no sum that
     // could wrap.
     valid(size != 0 && size <= PAGE - gpa % PAGE)?;
-    // "-2 ENOENT: the physical page does not exist": a page "exists if it lies
-    // wholly inside".
-    ensure(gpa / PAGE < guest.len() as u64 / PAGE, ENOENT)?;
+    // "-2 ENOENT: the physical page does not exist".
+    ensure(page_exists(gpa, guest), ENOENT)?;
     Ok((gpa as usize, size as usize))
 }
 

@@ -1,8 +1,9 @@
 //! The session, its closing and the host's calls.
 
 use crate::event::{self, LONGEST, STATE};
+use crate::fault::{self, Fault};
 use crate::image;
-use crate::standing::Standing;
+use crate::standing::{Standing, PAGE, RWX};
 use crate::wire::event as events;
 use crate::wire::{u16_at, u32_at};
 use crate::{Answer, Settings};
@@ -26,6 +27,8 @@ pub struct Session {
 pub(crate) struct Awaited {
     pub event: u8,
     pub seq: u32,
+    /// Of a page fault, what its reply is taken with.
+    pub fault: Option<Fault>,
 }
 
 /// The reply mode that message 15 sets.
@@ -130,6 +133,12 @@ impl Session {
             events::CREATE_VCPU => self.vm_event(number),
             events::CR => self.vcpu_event(vcpu, number) && self.cr(vcpu, u16_at(own, 0).into()),
             events::MSR => self.vcpu_event(vcpu, number) && self.msr(vcpu, u32_at(own, 0)),
+            // W5: "a PF is sent exactly for a page standing below rwx in the
+            // view its bytes name, with the PF switch on".
+            events::PF => {
+                let page = Fault::of(own).gpa / PAGE;
+                self.vcpu_event(vcpu, number) && self.access(fault::view(own).into(), page) != RWX
+            }
             _ => self.vcpu_event(vcpu, number),
         }
     }
@@ -137,7 +146,8 @@ impl Session {
     /// Writes an event, whose reply is awaited from now on.
     fn send(&mut self, vcpu: u16, event: u8, block: &[u8], own: &[u8], out: &mut [u8]) -> Answer {
         let seq = self.take_seq();
-        self.awaited[usize::from(vcpu)] = Some(Awaited { event, seq });
+        let fault = (event == events::PF).then(|| Fault::of(own));
+        self.awaited[usize::from(vcpu)] = Some(Awaited { event, seq, fault });
         Answer::handled(event::put(out, seq, vcpu, event, block, own))
     }
 

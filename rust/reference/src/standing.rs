@@ -13,7 +13,16 @@ pub(crate) const PAUSE_LIMIT: u8 = 8;
 /// Document 01: "1,024 pages (all views together)".
 pub(crate) const PAGE_LIMIT: usize = 1024;
 
+/// "a page (4,096 bytes)".
+pub(crate) const PAGE: u64 = 4096;
+
+/// "a page (4,096 bytes) exists if it lies wholly inside" guest memory.
+pub(crate) fn page_exists(gpa: u64, guest: &[u8]) -> bool {
+    gpa / PAGE < guest.len() as u64 / PAGE
+}
+
 /// Access bits: "R 1, W 2, X 4".
+pub(crate) const R: u8 = 1;
 pub(crate) const RWX: u8 = 7;
 
 /// X without R.

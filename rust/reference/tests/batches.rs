@@ -3,7 +3,7 @@
 mod common;
 
 use common::*;
-use reference::{Action, Answer, Batch, Settings, Signal};
+use reference::{Action, Answer, Batch, Feed, Settings, Signal};
 
 /// What a place of the list holds where nothing was listed.
 const UNLISTED: u32 = 0xA5A5_A5A5;
@@ -16,6 +16,7 @@ struct Result {
     bytes: Vec<u8>,
     signals: Vec<u32>,
     resume: Signal,
+    feed: Feed,
 }
 
 /// All that the session and its guest hold.
@@ -30,43 +31,57 @@ fn batch_in(bench: &mut Bench, input: &[u8], room: usize, places: usize) -> Resu
     let mut single = bench.clone();
     let before = all(bench);
     let (mut out, mut list) = (vec![UNTOUCHED; room], vec![UNLISTED; places]);
-    let Batch { answer, used, count, listed, resume } = bench.session.batch(input, &mut out, &mut list, &mut bench.guest);
+    let Batch { answer, used, count, listed, resume, feed } = bench.session.batch(input, &mut out, &mut list, &mut bench.guest);
     assert!(out[count..].iter().all(|&byte| byte == UNTOUCHED));
     assert!(list[listed..].iter().all(|&place| place == UNLISTED));
     match answer {
-        Answer::Handled { .. } => assert_eq!(answer, Answer::Handled { count, signal: resume }),
-        Answer::Closing => assert!(resume == Signal::None && bench.session.is_closed()),
+        Answer::Handled { .. } => assert_eq!(answer, Answer::Handled { count, signal: resume, feed }),
+        Answer::NoPage { .. } => {
+            assert_eq!((answer, feed), (Answer::NoPage { signal: resume }, Feed::None));
+            assert!(matches!(resume, Signal::Resume { action: Action::Continue, .. }));
+        }
+        Answer::Closing => assert!(resume == Signal::None && feed == Feed::None && bench.session.is_closed()),
         _ => {
-            assert_eq!((used, count, listed, resume), (0, 0, 0, Signal::None));
+            assert_eq!((used, count, listed, resume, feed), (0, 0, 0, Signal::None, Feed::None));
             assert!(all(bench) == before);
         }
     }
     out.truncate(count);
     list.truncate(listed);
 
-    let (mut at, mut bytes, mut signals, mut last) = (0, Vec::new(), Vec::new(), Signal::None);
+    let (mut at, mut bytes, mut signals, mut last) = (0, Vec::new(), Vec::new(), (Signal::None, Feed::None));
+    let mut number = 0;
     while at < used {
-        assert_eq!(last, Signal::None, "a resume ends the batch");
+        assert_eq!(last, (Signal::None, Feed::None), "a resume ends the batch");
         assert!(!single.session.is_closed());
         let end = match input.get(at + 2..at + 8) {
             Some(rest) => (at + 8 + usize::from(u16::from_le_bytes([rest[0], rest[1]]))).min(input.len()),
             None => input.len(),
         };
         let (answer, written) = single.send(&input[at..end]);
-        at = end;
         bytes.extend(written);
+        number = answer.number();
         match answer {
             Answer::Handled { signal: Signal::Kick { vcpu, wait }, .. } => {
                 signals.push(256 + 2 * u32::from(vcpu) + u32::from(wait))
             }
             Answer::Handled { signal: Signal::Crash { vcpu }, .. } => signals.push(512 + u32::from(vcpu)),
-            Answer::Handled { signal, .. } => last = signal,
+            // What is supplied is a part of the message, and so of the input.
+            Answer::Handled { signal, feed: Feed::Supplied { at: part, length }, .. } => {
+                last = (signal, Feed::Supplied { at: at + part, length })
+            }
+            Answer::Handled { signal, feed, .. } => last = (signal, feed),
+            Answer::NoPage { signal } => last = (signal, Feed::None),
             answer => assert_eq!(answer, Answer::Closing),
         }
+        at = end;
     }
-    assert_eq!((at, &bytes, &signals, last), (used, &out, &list, resume));
+    if matches!(answer.number(), 0 | 1 | 12) {
+        assert_eq!(answer.number(), number);
+    }
+    assert_eq!((at, &bytes, &signals, last), (used, &out, &list, (resume, feed)));
     assert!(all(&single) == all(bench));
-    Result { number: answer.number(), used, bytes: out, signals: list, resume }
+    Result { number: answer.number(), used, bytes: out, signals: list, resume, feed }
 }
 
 /// A batch with room for all of it.
@@ -152,7 +167,7 @@ fn refusals() {
 fn an_empty_batch_does_nothing() {
     let mut bench = bench();
     let before = all(&bench);
-    let nothing = Result { number: 0, used: 0, bytes: vec![], signals: vec![], resume: Signal::None };
+    let nothing = Result { number: 0, used: 0, bytes: vec![], signals: vec![], resume: Signal::None, feed: Feed::None };
     assert_eq!(batch_in(&mut bench, &[], 4112, 1), nothing);
     assert!(all(&bench) == before);
 }
@@ -409,4 +424,99 @@ fn the_rest_goes_on() {
         assert!((&bytes, &signals) == (&whole.bytes, &whole.signals));
         assert!(all(&bench) == all(&all_at_once));
     }
+}
+
+/// vCPU 1 awaits the reply to a read of this gpa at gva 0x104, with seq 0.
+fn faulted(gpa: u64) -> Bench {
+    let mut bench = bench();
+    bench.send(&page_access(0, &[(gpa, 0)]));
+    offered(&mut bench, 1, 10, &fault(0x104, gpa, 1, 0), 0);
+    bench
+}
+
+/// W5: the bytes for an instruction are a part of the input, or of guest memory
+/// as the messages before have left it.
+#[test]
+fn bytes_for_an_instruction() {
+    let resume = Signal::Resume { vcpu: 1, action: Action::Continue, value: 1 };
+    let supplying = Context { address: 0x100, size: 16, rep: 1 };
+    let missing = Context { address: 0x100, size: 4, rep: 1 };
+    let before = [pause(0, 1), write_physical(0x1FFE, &[0xC1, 0xC2]), version()];
+    let start = before.iter().map(Vec::len).sum::<usize>();
+    for count in [0, 3] {
+        let (start, written, listed): (usize, usize, &[u32]) = if count == 0 { (0, 0, &[]) } else { (start, 64, &[257]) };
+        for behind in [vec![], version(), vec![0; 3]] {
+            let input = |context| [&before[..count].concat()[..], &fault_reply(0, 1, 0, context), &behind].concat();
+            let used = start + 296;
+
+            let (mut bench, input, feed) = (faulted(0x1FFE), input(supplying), input(missing));
+            let result = batch_in(&mut bench, &input, 65_536, 9);
+            assert_eq!((short(&result), result.resume), ((0, used, written, listed), resume));
+            assert_eq!(result.feed, Feed::Supplied { at: start + 44, length: 12 });
+            assert!(input[start + 44..][..12].iter().copied().eq((4..16).map(supplied)));
+
+            let mut bench = faulted(0x1FFE);
+            let result = batch_in(&mut bench, &feed, 65_536, 9);
+            assert_eq!((short(&result), result.resume), ((0, used, written, listed), resume));
+            assert_eq!(result.feed, Feed::Page { at: 0x1FFE, length: 2 });
+            let expected = if count == 0 { [0, 0] } else { [0xC1, 0xC2] };
+            assert_eq!(bench.guest[0x1FFE..0x2000], expected);
+        }
+    }
+}
+
+/// W5: answer 12 "ends a batch with that answer, itself used".
+#[test]
+fn no_page_ends_the_batch() {
+    let resume = Signal::Resume { vcpu: 1, action: Action::Continue, value: 1 };
+    let reply = fault_reply(0, 1, 0, Context { address: 0x100, size: 4, rep: 1 });
+    for gpa in [0x4000, 1 << 40, u64::MAX] {
+        // A closing message behind it is not used.
+        for behind in [vec![], version(), vec![0; 3], msg(16, 0, &[])] {
+            let result = batch_in(&mut faulted(gpa), &[&reply[..], &behind].concat(), 4112, 1);
+            assert_eq!((short(&result), result.resume, result.feed), ((12, 296, 0, &[][..]), resume, Feed::None));
+
+            let mut bench = faulted(gpa);
+            let before = [pause(0, 0), version(), pause(1, 1)];
+            let result = batch_in(&mut bench, &[&before.concat()[..], &reply, &behind].concat(), 65_536, 3);
+            assert_eq!((short(&result), result.resume), ((12, 56 + 296, 64, &[256, 259][..]), resume));
+            assert_eq!((bench.session.awaited(1), bench.session.is_closed()), (None, false));
+            // The rest is for the next call.
+            assert_eq!(short(&batch(&mut bench, &[version()])), (0, 8, 32, &[][..]));
+        }
+        // With no room for it, it is not looked at.
+        let mut bench = faulted(gpa);
+        let input = [pause(0, 0), reply.clone()].concat();
+        assert_eq!(short(&batch_in(&mut bench, &input, 65_536, 1)), (0, 24, 16, &[256][..]));
+        assert_eq!(bench.session.awaited(1), Some(10));
+        assert_eq!(short(&batch_in(&mut bench, &input[24..], 65_536, 1)), (12, 296, 0, &[][..]));
+    }
+}
+
+/// The other replies to faults: a retry resumes without bytes, a crash goes on,
+/// and what closes closes.
+#[test]
+fn other_replies_to_faults() {
+    for gpa in [0x1000, 0x4000] {
+        let context = Context { address: 0x104, size: 1, rep: 0 };
+        let reply = |action, context| fault_reply(0, 1, action, context);
+        let result = batch(&mut faulted(gpa), &[version(), reply(1, context), version()]);
+        let resume = Signal::Resume { vcpu: 1, action: Action::Retry, value: 0 };
+        assert_eq!((short(&result), result.resume, result.feed), ((0, 304, 32, &[][..]), resume, Feed::None));
+        let result = batch(&mut faulted(gpa), &[version(), reply(2, context), version()]);
+        assert_eq!((short(&result), result.resume, result.feed), ((0, 312, 64, &[513][..]), Signal::None, Feed::None));
+        for wrong in [Context { size: 257, ..context }, Context { rep: 2, ..context }] {
+            for action in [0, 1, 2] {
+                let result = batch(&mut faulted(gpa), &[version(), reply(action, wrong), version()]);
+                assert_eq!((short(&result), result.feed), ((1, 304, 32, &[][..]), Feed::None));
+            }
+        }
+    }
+    // A fault whose page is forgotten in the same batch is answered all the same.
+    let result = batch(&mut faulted(0x1800), &[page_access(0, &[(0x1000, 7)]), vcpu_event(1, 10, 0), reply_to_read()]);
+    assert_eq!((result.number, result.feed), (0, Feed::Page { at: 0x1800, length: 0x800 }));
+}
+
+fn reply_to_read() -> Vec<u8> {
+    fault_reply(0, 1, 0, NO_CONTEXT)
 }

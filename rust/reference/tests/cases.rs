@@ -3,7 +3,7 @@
 mod common;
 
 use common::*;
-use reference::{Answer, Signal};
+use reference::Signal;
 
 #[test]
 fn p1_fresh_image() {
@@ -58,7 +58,7 @@ fn p9_p10_eighth_and_ninth_pause() {
     for _ in 0..8 {
         let (answer, reply) = bench.send(&pause(1, 1));
         let signal = Signal::Kick { vcpu: 1, wait: true };
-        assert_eq!(answer, Answer::Handled { count: 16, signal });
+        assert_eq!(answer, with_signal(16, signal));
         assert_eq!(reply, hex("0900080000000000 0000000000000000"));
     }
     let before = bench.image();

@@ -1,5 +1,6 @@
 //! Document 01, "Events", and document 02, W1: the entry of a vCPU, the events
-//! that it is offered, and the event replies.
+//! that it is offered, and the event replies. What page faults have of their
+//! own is in `faults.rs`.
 
 mod common;
 
@@ -21,25 +22,27 @@ fn block() -> Vec<u8> {
 
 /// The events that an entry offers: number, own bytes, and how the event
 /// begins on vCPU 1 with seq 0.
-const EVENTS: [(u32, usize, &str); 9] = [
+const EVENTS: [(u32, usize, &str); 10] = [
     (3, 0, "1100200200000000 2002010003000000"),
     (4, 16, "1100300200000000 2002010004000000"),
     (5, 24, "1100380200000000 2002010005000000"),
     (7, 0, "1100200200000000 2002010007000000"),
     (8, 8, "1100280200000000 2002010008000000"),
     (9, 24, "1100380200000000 2002010009000000"),
+    (10, 24, "1100380200000000 200201000A000000"),
     (11, 8, "1100280200000000 200201000B000000"),
     (12, 0, "1100200200000000 200201000C000000"),
     (14, 16, "1100300200000000 200201000E000000"),
 ];
 
 /// What switches an event on for vCPU 1: that of CR for CR3, that of MSR for
-/// 0xC0000080.
+/// 0xC0000080, that of PF for page 5.
 fn switches(event: u32, enable: u8) -> Vec<Vec<u8>> {
     match event {
         12 => vec![vm_event(12, enable)],
         5 => vec![vcpu_event(1, 5, enable), control_cr(1, 3, enable)],
         9 => vec![vcpu_event(1, 9, enable), control_msr(1, 0xC000_0080, enable)],
+        10 => vec![vcpu_event(1, 10, enable), page_access(0, &[(5 << 12, if enable == 1 { 4 } else { 7 })])],
         _ => vec![vcpu_event(1, event as u16, enable)],
     }
 }
@@ -53,12 +56,14 @@ fn switched_on(event: u32) -> Bench {
     bench
 }
 
-/// Own bytes for an event, none of them zero but in the register's number.
+/// Own bytes for an event, none of them zero but in the number of the register
+/// or of the page and its view. No fault is a read.
 fn own(event: u32, size: usize) -> Vec<u8> {
     let mut own: Vec<u8> = (0..size).map(|at| 0xF0 - at as u8).collect();
     match event {
         5 => own[..2].copy_from_slice(&[3, 0]),
         9 => own[..4].copy_from_slice(&[0x80, 0, 0, 0xC0]),
+        10 if size == 24 => own.copy_from_slice(&fault(0xF1F2_F3F4, 0x5F00, 0xFE, 0)),
         _ => {}
     }
     own
@@ -68,13 +73,18 @@ fn own(event: u32, size: usize) -> Vec<u8> {
 fn reply(seq: u32, action: u8, event: u32, value: u64) -> Vec<u8> {
     match event {
         5 | 9 => value_reply(seq, 1, action, event as u8, value),
+        10 => fault_reply(seq, 1, action, Context { rep: value as u8 & 1, ..NO_CONTEXT }),
         _ => event_reply(seq, 1, action, event as u8),
     }
 }
 
 /// The signal of a reply that is taken.
 fn signalled(event: u32, action: u8, value: u64) -> Signal {
-    let value = if matches!(event, 5 | 9) { value } else { 0 };
+    let value = match event {
+        5 | 9 => value,
+        10 => value & 1,
+        _ => 0,
+    };
     match (action, event) {
         (0, 2) => Signal::None,
         (0, _) => Signal::Resume { vcpu: 1, action: Action::Continue, value },
@@ -108,7 +118,7 @@ fn entry_writes_the_pause_event() {
     assert_eq!(event[16..], [0; 536]);
     let (answer, bytes) = bench.send(&event_reply(1, 1, 2, 2));
     let signal = Signal::Crash { vcpu: 1 };
-    assert_eq!(answer, Answer::Handled { count: 0, signal });
+    assert_eq!(answer, with_signal(0, signal));
     assert!(bytes.is_empty());
     assert!(!bench.session.is_closed());
     assert_eq!(bench.enter(1, &block()), (handled(0), vec![]));
@@ -229,7 +239,7 @@ fn two_vcpus_await() {
     assert!(bench.closes(&event_reply(0, 0, 0, 2)));
     let (answer, _) = bench.send(&event_reply(1, 0, 2, 2));
     let signal = Signal::Crash { vcpu: 0 };
-    assert_eq!(answer, Answer::Handled { count: 0, signal });
+    assert_eq!(answer, with_signal(0, signal));
     assert_eq!(bench.session.write_image(&mut [0; 99]), Answer::Busy);
     assert_eq!(bench.send(&event_reply(0, 1, 0, 2)).0, handled(0));
     assert_eq!(bench.image().len(), 34);
@@ -258,7 +268,7 @@ fn entry_writes_each_event() {
         assert_eq!(bench.enter(0, &block()), (handled(0), vec![]));
 
         let (answer, bytes) = bench.send(&reply(0, 0, event, 7));
-        assert_eq!(answer, Answer::Handled { count: 0, signal: signalled(event, 0, 7) });
+        assert_eq!(answer, with_signal(0, signalled(event, 0, 7)));
         assert!(bytes.is_empty());
         assert_eq!(bench.session.awaited(1), None);
         assert_eq!(bench.image(), image);
@@ -287,7 +297,7 @@ fn a_whole_event() {
     assert_eq!(bytes, expected);
     let (answer, _) = bench.send(&hex("1000 1800 00000000  0000 000000000000  00 05 000000000000  A106000000000080"));
     let signal = Signal::Resume { vcpu: 0, action: Action::Continue, value: 0x8000_0000_0000_06A1 };
-    assert_eq!(answer, Answer::Handled { count: 0, signal });
+    assert_eq!(answer, with_signal(0, signal));
 }
 
 /// "a switched-off event is passed over and a queued pause goes instead"
@@ -299,7 +309,7 @@ fn switched_off_events_are_passed_over() {
         // another vCPU.
         let mut bench = Bench::new(Settings { vcpus: 3, ..settings() });
         for vcpu in 0..3 {
-            for (other, _, _) in EVENTS.into_iter().chain([(10, 0, "")]) {
+            for (other, _, _) in EVENTS {
                 if other != 12 && (other, vcpu) != (event, 1) {
                     bench.ok(&vcpu_event(vcpu, other as u16, 1));
                 }
@@ -456,7 +466,8 @@ fn the_register_that_the_bytes_name() {
     }
 }
 
-/// "Retry is taken for BREAKPOINT and DESCRIPTOR only", and the signals.
+/// "Retry is taken for BREAKPOINT and DESCRIPTOR only", of PF "All three actions
+/// are valid", and the signals.
 #[test]
 fn each_action_of_each_event() {
     for (event, size, _) in EVENTS.into_iter().chain([(2, 0, "")]) {
@@ -466,12 +477,12 @@ fn each_action_of_each_event() {
         for action in 0..=255 {
             for value in [0, 1, u64::MAX, 0x0123_4567_89AB_CDEF] {
                 let message = reply(0, action, event, value);
-                let taken = matches!(action, 0 | 2) || action == 1 && matches!(event, 4 | 8);
+                let taken = matches!(action, 0 | 2) || action == 1 && matches!(event, 4 | 8 | 10);
                 assert_eq!(bench.closes(&message), !taken, "action {action} of event {event}");
                 if taken {
                     let signal = signalled(event, action, value);
                     let (answer, bytes) = bench.clone().send(&message);
-                    assert_eq!((answer, bytes), (Answer::Handled { count: 0, signal }, vec![]));
+                    assert_eq!((answer, bytes), (with_signal(0, signal), vec![]));
                 }
             }
         }
@@ -479,16 +490,20 @@ fn each_action_of_each_event() {
 }
 
 /// "Replies carry 24 data bytes for CR and MSR, the new value last, and 16
-/// otherwise." "a wrong reply closes"
+/// otherwise", but for PF 288. "a wrong reply closes"
 #[test]
 fn each_reply_size_of_each_event() {
     for (event, size, _) in EVENTS.into_iter().chain([(2, 0, "")]) {
         let mut bench = if event == 2 { paused(1) } else { switched_on(event) };
         let offered = if event == 2 { 0 } else { event };
         bench.offer(1, &block(), offered, &own(event, size));
-        let right = if matches!(event, 5 | 9) { 24 } else { 16 };
+        let right = match event {
+            5 | 9 => 24,
+            10 => 288,
+            _ => 16,
+        };
         for action in [0, 2] {
-            for length in (0..=48).chain([256 + 16, 256 + 24, 288]) {
+            for length in (0..=48).chain([256 + 16, 256 + 24, 287, 288, 289, 512 + 32]) {
                 let mut data = event_reply(0, 1, action, event as u8)[8..].to_vec();
                 data.resize(length, 0);
                 assert_eq!(bench.closes(&msg(16, 0, &data)), length != right, "{length} bytes to event {event}");
@@ -496,7 +511,9 @@ fn each_reply_size_of_each_event() {
         }
         // The size is that of the awaited event, and its number has to match.
         for other in 0..=255 {
-            for data in [event_reply(0, 1, 0, other), value_reply(0, 1, 0, other, 5)] {
+            let mut long = fault_reply(0, 1, 0, NO_CONTEXT);
+            long[17] = other;
+            for data in [event_reply(0, 1, 0, other), value_reply(0, 1, 0, other, 5), long] {
                 let fits = u32::from(other) == event && data.len() == 8 + right;
                 assert_eq!(bench.closes(&data), !fits);
             }
@@ -527,7 +544,7 @@ fn switched_off_while_awaited() {
             bench.ok(&message);
         }
         assert_eq!(bench.session.awaited(1), Some(event as u8));
-        assert_eq!(bench.send(&reply(0, 0, event, 3)).0, Answer::Handled { count: 0, signal: signalled(event, 0, 3) });
+        assert_eq!(bench.send(&reply(0, 0, event, 3)).0, with_signal(0, signalled(event, 0, 3)));
         assert_eq!(bench.offer(1, &block(), event, &own(event, size)), (handled(0), vec![]));
     }
 }
@@ -546,7 +563,7 @@ fn create_vcpu_of_an_unready_vcpu() {
     assert_eq!(bench.session.write_image(&mut [0; 99]), Answer::Busy);
     assert_eq!(bench.enter(1, &block()), (Answer::Waiting, vec![]));
     let signal = Signal::Resume { vcpu: 1, action: Action::Continue, value: 0 };
-    assert_eq!(bench.send(&event_reply(0, 1, 0, 12)).0, Answer::Handled { count: 0, signal });
+    assert_eq!(bench.send(&event_reply(0, 1, 0, 12)).0, with_signal(0, signal));
     assert_eq!(bench.image(), image);
     // The others have no switch on.
     for (event, size, _) in EVENTS {
@@ -557,7 +574,7 @@ fn create_vcpu_of_an_unready_vcpu() {
     bench.offer(1, &block(), 12, &[]);
     assert_eq!(bench.session.ready(1), handled(0));
     let signal = Signal::Crash { vcpu: 1 };
-    assert_eq!(bench.send(&event_reply(1, 1, 2, 12)).0, Answer::Handled { count: 0, signal });
+    assert_eq!(bench.send(&event_reply(1, 1, 2, 12)).0, with_signal(0, signal));
 }
 
 /// SINGLESTEP has the switch of message 10 alone, and the vCPU's own state is
@@ -587,7 +604,7 @@ fn events_with_replies_off() {
     assert_eq!(bytes[4..8], [2, 0, 0, 0]);
     let (answer, bytes) = bench.send(&value_reply(1, 1, 0, 9, 0xFEED));
     let signal = Signal::Resume { vcpu: 1, action: Action::Continue, value: 0xFEED };
-    assert_eq!((answer, bytes), (Answer::Handled { count: 0, signal }, vec![]));
+    assert_eq!((answer, bytes), (with_signal(0, signal), vec![]));
     let (_, bytes) = bench.enter(1, &block());
     assert_eq!(bytes[4..8], [3, 0, 0, 0]);
 }

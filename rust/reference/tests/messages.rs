@@ -329,7 +329,7 @@ fn message_9() {
     for (vcpu, wait) in [(0, false), (1, true), (1, false)] {
         let (answer, _) = bench.send(&pause(vcpu, u8::from(wait)));
         let signal = Signal::Kick { vcpu, wait };
-        assert_eq!(answer, Answer::Handled { count: 16, signal });
+        assert_eq!(answer, with_signal(16, signal));
     }
     assert_eq!(bench.image()[8..28], hex("56430000010000000100 56430100010000000200"));
     // Test 5: event 2 not allowed closes before any error, and after test 4's

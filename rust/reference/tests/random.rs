@@ -4,7 +4,7 @@
 mod common;
 
 use common::*;
-use reference::{Action, Answer, Session, Settings, Signal};
+use reference::{Action, Answer, Feed, Session, Settings, Signal};
 use std::collections::{BTreeMap, BTreeSet};
 
 /// xorshift64*.
@@ -88,6 +88,10 @@ impl Book {
             (12, _) => self.vm_events.contains(&12),
             (5, [low, high, ..]) => is_on && self.crs.contains(&(vcpu, u32::from_le_bytes([*low, *high, 0, 0]))),
             (9, [a, b, c, d, ..]) => is_on && self.msrs.contains(&(vcpu, u32::from_le_bytes([*a, *b, *c, *d]))),
+            (10, own) if own.len() == 24 => {
+                let page = u64::from_le_bytes(own[8..16].try_into().unwrap()) >> 12;
+                is_on && self.pages.contains_key(&(u16::from_le_bytes([own[18], own[19]]), page))
+            }
             _ => is_on,
         }
     }
@@ -146,11 +150,12 @@ fn random_settings(random: &mut Random) -> Settings {
 }
 
 /// The numbers that an entry takes, and how many own bytes each has.
-const OFFERED: [(u32, usize); 10] = [(0, 0), (3, 0), (4, 16), (5, 24), (7, 0), (8, 8), (9, 24), (11, 8), (12, 0), (14, 16)];
+const OFFERED: [(u32, usize); 11] =
+    [(0, 0), (3, 0), (4, 16), (5, 24), (7, 0), (8, 8), (9, 24), (10, 24), (11, 8), (12, 0), (14, 16)];
 
 /// An event to be offered, mostly with as many bytes as it has.
 fn random_event(random: &mut Random, book: &Book) -> (u32, Vec<u8>) {
-    let (mut event, mut size) = random.pick(&OFFERED);
+    let (mut event, mut size) = if random.once_in(4) { (10, 24) } else { random.pick(&OFFERED) };
     match random.below(40) {
         0 => event = random.below(300) as u32,
         1 => event = random.next() as u32,
@@ -168,17 +173,86 @@ fn random_event(random: &mut Random, book: &Book) -> (u32, Vec<u8>) {
     match (event, &mut own[..]) {
         (5, [low, high, ..]) => [*low, *high] = u16::to_le_bytes(cr),
         (9, [a, b, c, d, ..]) => [*a, *b, *c, *d] = msr.to_le_bytes(),
+        (10, own) if own.len() == 24 => own.copy_from_slice(&random_fault(random, book)),
         _ => {}
     }
     (event, own)
 }
 
-/// A reply that the awaited event takes, and its signal.
-fn fitting_reply(random: &mut Random, vcpu: u16, seq: u32, event: u8) -> (Vec<u8>, Signal) {
-    let actions: &[u8] = if matches!(event, 4 | 8) { &[0, 1, 2] } else { &[0, 2] };
+/// A page fault, mostly of a page that is below rwx in the view named.
+fn random_fault(random: &mut Random, book: &Book) -> Vec<u8> {
+    // Half of the time one that is the guest's.
+    let guests = random.once_in(2) && book.pages.keys().any(|(_, page)| *page < 4);
+    let pages: Vec<(u16, u64)> = book.pages.keys().copied().filter(|(_, page)| !guests || *page < 4).collect();
+    let (view, page) = match pages[..] {
+        [] => (random.below(3) as u16, random.below(2000)),
+        _ => random.pick(&pages),
+    };
+    let (view, page) = match random.below(12) {
+        0 => (view ^ 1 << random.below(16), page),
+        1 => (view, page ^ 1 << random.below(52)),
+        _ => (view, page),
+    };
+    let gva = match random.below(3) {
+        0 => random.pick(&[0, 1, u64::MAX, u64::MAX - 1, u64::MAX - 100]),
+        _ => random.next(),
+    };
+    fault(gva, page << 12 | random.below(4096), random.pick(&[1, 1, 1, 3, 5, 7, 2, 4, 0]), view)
+}
+
+/// A reply that a page fault takes, and what it is fed if it continues: none
+/// where the page is lacking.
+fn fitting_context(random: &mut Random, own: &[u8], guest: usize) -> (Context, Option<Feed>) {
+    let number = |at: usize| u128::from(u64::from_le_bytes(own[at..at + 8].try_into().unwrap()));
+    let (gva, gpa, access) = (number(0), number(8), own[16]);
+    let size = random.pick(&[0, 1, 2, 16, 255, 256]);
+    // Mostly near the gva, or so that it would be there if sums wrapped.
+    let near = (gva as u64).wrapping_sub(random.pick(&[0, 1, u64::from(size).wrapping_sub(1), u64::from(size)]));
+    let address = if random.once_in(4) { random.next() } else { near.wrapping_sub(random.below(3)) };
+    let start = u128::from(address);
+    let page = gpa / 4096 * 4096;
+    let feed = if access & 1 == 0 {
+        Some(Feed::None)
+    } else if gva + 1 < 1 << 64 && start <= gva && gva < start + u128::from(size) {
+        let before = (gva - start) as usize;
+        Some(Feed::Supplied { at: 40 + before, length: size as usize - before })
+    } else if page + 4096 <= guest as u128 {
+        Some(Feed::Page { at: gpa as usize, length: (page + 4096 - gpa) as usize })
+    } else {
+        None
+    };
+    (Context { address, size, rep: random.below(2) as u8 }, feed)
+}
+
+/// An event that a vCPU awaits the reply to.
+#[derive(Clone)]
+struct Awaited {
+    vcpu: u16,
+    seq: u32,
+    event: u8,
+    own: Vec<u8>,
+}
+
+/// A reply that the awaited event takes, its signal, and what the instruction is
+/// fed: none where the page is lacking.
+fn fitting_reply(random: &mut Random, awaited: &Awaited, guest: usize) -> (Vec<u8>, Signal, Option<Feed>) {
+    let Awaited { vcpu, seq, event, ref own } = *awaited;
+    let actions: &[u8] = match event {
+        4 | 8 => &[0, 1, 2],
+        10 => &[0, 0, 0, 1, 2],
+        _ => &[0, 2],
+    };
     let (action, value) = (random.pick(actions), random.next());
+    let mut feed = Some(Feed::None);
     let (message, value) = match event {
         5 | 9 => (value_reply(seq, vcpu, action, event, value), value),
+        10 => {
+            let (context, fed) = fitting_context(random, own, guest);
+            if action == 0 {
+                feed = fed;
+            }
+            (fault_reply(seq, vcpu, action, context), context.rep.into())
+        }
         _ => (event_reply(seq, vcpu, action, event), 0),
     };
     let signal = match (action, event) {
@@ -187,7 +261,7 @@ fn fitting_reply(random: &mut Random, vcpu: u16, seq: u32, event: u8) -> (Vec<u8
         (0, _) => Signal::Resume { vcpu, action: Action::Continue, value },
         _ => Signal::Resume { vcpu, action: Action::Retry, value },
     };
-    (message, signal)
+    (message, signal, feed)
 }
 
 /// A message that mostly is well formed.
@@ -222,13 +296,15 @@ fn random_message(random: &mut Random, settings: &Settings, seq: u32) -> Vec<u8>
             let end = if random.once_in(3) { 600 } else { 4 };
             let count = random.below(end);
             let top = random.pick(&[0, 0, 0, 1 << 50, u64::MAX << 23]);
+            // Some of them are the guest's.
+            let end = if random.once_in(3) { 8 } else { 2000 };
             // Of a host without execute-only pages they are asked half of the
             // time.
             let accesses: &[u8] = match settings.execute_only || random.once_in(2) {
                 true => &[0, 1, 3, 4, 5, 7],
                 false => &[0, 1, 3, 5, 7],
             };
-            let entries: Vec<_> = (0..count).map(|_| (top | random.below(2000 << 12), random.pick(accesses))).collect();
+            let entries: Vec<_> = (0..count).map(|_| (top | random.below(end << 12), random.pick(accesses))).collect();
             page_access(random.below(u64::from(settings.views)) as u16, &entries)
         }
         15 => singlestep(vcpu, flag),
@@ -248,13 +324,16 @@ fn lists_of_calls_against_a_book() {
     let (mut images, mut closings, mut passed_over, mut events) = (0, 0, 0, [0; 15]);
     // Messages and images refused for access 4 alone.
     let (mut messages_lacking, mut images_lacking) = (0, 0);
-    for _ in 0..120 {
+    // Page faults by what they are fed: nothing, supplied data, a page, or no
+    // page there.
+    let mut fed = [0; 4];
+    for _ in 0..200 {
         let settings = random_settings(&mut random);
         let vcpus = settings.vcpus as u16;
         let mut bench = Bench::unready(settings.clone());
         let mut book = Book::default();
-        // For each vCPU that waits, the event's seq and number.
-        let mut awaited: BTreeMap<u16, (u32, u8)> = BTreeMap::new();
+        // For each vCPU that waits, the event.
+        let mut awaited: BTreeMap<u16, Awaited> = BTreeMap::new();
         let mut next_seq = 0;
         // (replies on, flag)
         let mut mode = (true, false);
@@ -265,6 +344,7 @@ fn lists_of_calls_against_a_book() {
                 book.ready.insert(vcpu);
                 let mut messages: Vec<_> = (3..15).map(|event| vcpu_event(vcpu, event, 1)).collect();
                 messages.extend([control_cr(vcpu, 3, 1), control_msr(vcpu, 0x1FFF, 1), vm_event(12, 1)]);
+                messages.push(page_access(settings.views as u16 - 1, &[(0x2000, 0), (0x4000, 1), (1 << 40, 3)]));
                 for message in messages {
                     if bench.error(&message) == 0 {
                         book.acted(&message);
@@ -312,7 +392,7 @@ fn lists_of_calls_against_a_book() {
                         if !on {
                             *pauses -= 1;
                         }
-                        awaited.insert(vcpu, (next_seq, event));
+                        awaited.insert(vcpu, Awaited { vcpu, seq: next_seq, event, own });
                         next_seq += 1;
                         events[usize::from(event)] += 1;
                     }
@@ -331,12 +411,20 @@ fn lists_of_calls_against_a_book() {
                 }
                 _ => {
                     // Mostly an event reply that fits.
-                    let fit = awaited.iter().next().map(|(&vcpu, &(seq, event))| (vcpu, seq, event));
+                    let fit = awaited.values().next().cloned();
                     let mut message = random_message(&mut random, &settings, next_seq);
-                    let mut expected = Signal::None;
+                    let (mut expected, mut feed) = (Signal::None, Some(Feed::None));
                     if message.first() == Some(&16) || fit.is_some() && random.once_in(4) {
-                        let Some((vcpu, seq, event)) = fit else { continue };
-                        (message, expected) = fitting_reply(&mut random, vcpu, seq, event);
+                        let Some(fit) = &fit else { continue };
+                        (message, expected, feed) = fitting_reply(&mut random, fit, bench.guest.len());
+                        if fit.event == 10 {
+                            fed[match feed {
+                                Some(Feed::None) => 0,
+                                Some(Feed::Supplied { .. }) => 1,
+                                Some(Feed::Page { .. }) => 2,
+                                None => 3,
+                            }] += 1;
+                        }
                     }
                     // Most of those that close are left out, so that lists get
                     // long.
@@ -345,12 +433,17 @@ fn lists_of_calls_against_a_book() {
                     }
                     let guest = bench.guest.clone();
                     let (answer, bytes) = bench.send(&message);
-                    let Answer::Handled { signal, .. } = answer else {
-                        assert_eq!(answer, Answer::Closing);
-                        assert!(bench.guest == guest);
-                        closings += 1;
-                        break;
+                    let (signal, found) = match answer {
+                        Answer::Handled { signal, feed, .. } => (signal, Some(feed)),
+                        Answer::NoPage { signal } => (signal, None),
+                        _ => {
+                            assert_eq!(answer, Answer::Closing);
+                            assert!(bench.guest == guest);
+                            closings += 1;
+                            break;
+                        }
                     };
+                    assert_eq!(found, feed);
                     let id = u16::from_le_bytes([message[0], message[1]]);
                     let succeeds = succeeded(&book, &settings, &message);
                     let with_the_flag = Settings { execute_only: true, ..settings.clone() };
@@ -364,7 +457,7 @@ fn lists_of_calls_against_a_book() {
                     };
                     if id == 16 {
                         assert!(bytes.is_empty());
-                        awaited.remove(&fit.unwrap().0);
+                        awaited.remove(&fit.unwrap().vcpu);
                     } else if own {
                         let error = i32::from_le_bytes(bytes[8..12].try_into().unwrap());
                         assert_eq!(error == 0, succeeds, "{message:?}");
@@ -428,8 +521,9 @@ fn lists_of_calls_against_a_book() {
     assert!(images > 1000 && closings > 20 && passed_over > 100, "{images} {closings} {passed_over}");
     assert!(messages_lacking > 50 && images_lacking > 100, "{messages_lacking} {images_lacking}");
     for (event, seen) in events.iter().enumerate() {
-        assert_eq!(*seen > 10, matches!(event, 2..=5 | 7..=9 | 11..=14), "event {event} of {events:?}");
+        assert_eq!(*seen > 10, matches!(event, 2..=5 | 7..=14), "event {event} of {events:?}");
     }
+    assert!(fed.iter().all(|seen| *seen > 10), "{fed:?}");
 }
 
 /// Whether message 13 would pass all but the page limit.

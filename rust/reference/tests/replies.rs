@@ -3,7 +3,7 @@
 mod common;
 
 use common::*;
-use reference::{Answer, Settings, Signal};
+use reference::{Settings, Signal};
 
 /// A command error's bytes, from document 01's "Events" and kvmi.rst's
 /// "KVMI_EVENT_CMD_ERROR".
@@ -167,7 +167,7 @@ fn deeds_with_replies_off() {
     let mut bench = off(0);
     let signal = Signal::Kick { vcpu: 1, wait: true };
     let (answer, _) = bench.send(&pause(1, 1));
-    assert_eq!(answer, Answer::Handled { count: 0, signal });
+    assert_eq!(answer, with_signal(0, signal));
     for message in [
         vm_event(12, 1),
         vcpu_event(1, 3, 1),

@@ -1,7 +1,7 @@
 //! Builders and a bench for the tests.
 #![allow(dead_code)]
 
-use reference::{Answer, Session, Settings, Signal};
+use reference::{Answer, Feed, Session, Settings, Signal};
 
 pub const EPERM: i32 = -1;
 pub const ENOENT: i32 = -2;
@@ -16,7 +16,12 @@ pub const ENOSYS: i32 = -1000;
 pub const UNTOUCHED: u8 = 0xA5;
 
 pub const fn handled(count: usize) -> Answer {
-    Answer::Handled { count, signal: Signal::None }
+    with_signal(count, Signal::None)
+}
+
+/// Answer 0 with no bytes for an instruction.
+pub const fn with_signal(count: usize, signal: Signal) -> Answer {
+    Answer::Handled { count, signal, feed: Feed::None }
 }
 
 /// The runner's settings: 2 vCPUs, 1 view, all allowed, all five features 1,
@@ -150,6 +155,40 @@ pub fn event_reply(seq: u32, vcpu: u16, action: u8, event: u8) -> Vec<u8> {
 /// A reply to CR or MSR, with the new value.
 pub fn value_reply(seq: u32, vcpu: u16, action: u8, event: u8, value: u64) -> Vec<u8> {
     let data = [&event_reply(seq, vcpu, action, event)[8..], &value.to_le_bytes()].concat();
+    msg(16, seq, &data)
+}
+
+/// The own bytes of a page fault, with padding that is not zero.
+pub fn fault(gva: u64, gpa: u64, access: u8, view: u16) -> Vec<u8> {
+    let mut own = [gva.to_le_bytes(), gpa.to_le_bytes()].concat();
+    own.extend([access, 0xE1]);
+    own.extend(view.to_le_bytes());
+    own.extend([0xE2; 4]);
+    own
+}
+
+/// What a reply to a page fault says beside its action.
+#[derive(Clone, Copy)]
+pub struct Context {
+    pub address: u64,
+    pub size: u32,
+    pub rep: u8,
+}
+
+pub const NO_CONTEXT: Context = Context { address: 0, size: 0, rep: 0 };
+
+/// The byte of the supplied data at a place.
+pub fn supplied(at: usize) -> u8 {
+    (at * 5 + 3) as u8
+}
+
+/// A reply to a page fault; the supplied data are all there, whatever the size.
+pub fn fault_reply(seq: u32, vcpu: u16, action: u8, context: Context) -> Vec<u8> {
+    let mut data = event_reply(seq, vcpu, action, 10)[8..].to_vec();
+    data.extend(context.address.to_le_bytes());
+    data.extend(context.size.to_le_bytes());
+    data.extend([0, context.rep, 0, 0]);
+    data.extend((0..256).map(supplied));
     msg(16, seq, &data)
 }
 
