@@ -2,7 +2,7 @@
 
 use crate::guide::Guide;
 use crate::message::{damage, message};
-use crate::{Answer, Batch, Call, Random, Signal, BATCH_ROOM, LIST_ROOM};
+use crate::{handled, Answer, Batch, Call, Random, BATCH_ROOM, LIST_ROOM};
 
 /// How many bytes the first message of these has: as its size field says, or all of them where it is not whole.
 fn cut(bytes: &[u8]) -> usize {
@@ -106,7 +106,7 @@ impl Guide {
 
     /// A batch with output, list and guest memory. Little room is often just that of some replies, or a byte less; and the list may
     /// be full with one of the pauses, or with the last.
-    fn write(&self, random: &mut Random, bytes: Vec<u8>) -> Call {
+    pub(crate) fn write(&self, random: &mut Random, bytes: Vec<u8>) -> Call {
         let out = match random.below(40) {
             0 => random.pick(&[0, 1, 16, 568, 4096, 4110, 4111]),
             1..4 => 4112,
@@ -132,10 +132,9 @@ impl Guide {
 
     /// Takes note of a message of a batch, as far as the next ones depend on it.
     fn foresee(&mut self, message: &[u8]) {
-        if let [id @ (12 | 15 | 16), 0, ..] = message {
+        if let [id @ (12 | 13 | 15 | 16), 0, ..] = message {
             if self.command_allowed((*id).into()) {
-                let handled = Answer::Handled { count: 0, signal: Signal::None };
-                self.saw(&Call::message(message.to_vec()), handled, &[]);
+                self.saw(&Call::message(message.to_vec()), handled(0), &[]);
             }
         }
     }
@@ -143,7 +142,9 @@ impl Guide {
     /// Takes note of what became of a batch.
     pub fn saw_batch(&mut self, bytes: &[u8], batch: &Batch) {
         match batch.answer {
-            Answer::Handled { .. } => messages(&bytes[..batch.used]).for_each(|message| self.foresee(message)),
+            Answer::Handled { .. } | Answer::NoPage { .. } => {
+                messages(&bytes[..batch.used]).for_each(|message| self.foresee(message));
+            }
             Answer::Closing => {
                 self.closed = true;
                 self.awaited.clear();

@@ -2,7 +2,7 @@
 
 use crate::batch::{is_whole, messages};
 use crate::run::Taken;
-use crate::{told_error, Answer, Batch, Call, Signal, BATCH_ROOM, LIST_ROOM};
+use crate::{handled, told_error, Answer, Batch, Call, Signal, BATCH_ROOM, LIST_ROOM};
 
 /// How a batch can end, each told by what is left.
 const ENDS: [&str; 18] = [
@@ -174,7 +174,7 @@ impl BatchCounts {
             seqs.windows(2).any(|pair| pair[1] == pair[0].wrapping_add(1)),
             batch.answer.number() == 0 && modes.windows(2).any(|pair| pair == [0, 1]),
             before.iter().any(|one| matches!(one.answer, Answer::Handled { signal: Signal::Crash { .. }, .. })),
-            before.iter().filter(is_pause).any(|one| one.answer == Answer::Handled { count: 0, signal: Signal::None }),
+            before.iter().filter(is_pause).any(|one| one.answer == handled(0)),
             reads_what_was_written(taken),
             is_exact,
         ];

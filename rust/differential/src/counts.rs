@@ -3,6 +3,7 @@
 use crate::access_counts::AccessCounts;
 use crate::batch_counts::BatchCounts;
 use crate::event_counts::{EventCounts, Stands};
+use crate::fault_counts::FaultCounts;
 use crate::look::LOOKUPS;
 use crate::run::Taken;
 use crate::{Call, Lookup, Told};
@@ -20,8 +21,8 @@ const ANSWERS: [&[usize]; 9] = [
     &[0, 7],
     &[0, 7, 8, 9],
     &[0, 2, 4],
-    &[0, 1, 2, 3],
-    &[0, 1, 2, 3, 11],
+    &[0, 1, 2, 3, 12],
+    &[0, 1, 2, 3, 11, 12],
     &[0, 2, 3, 4, 5, 6],
     &[0, 2, 3, 10],
     &[0, 4],
@@ -117,6 +118,7 @@ pub struct Counts {
     events: EventCounts,
     accesses: AccessCounts,
     batches: BatchCounts,
+    faults: FaultCounts,
     refused: [[u64; 2]; 8],
 }
 
@@ -126,10 +128,11 @@ impl Counts {
         let row = WORDS.iter().position(|word| *word == call.word()).expect("a row for each word");
         self.answers[row][answer.number() as usize] += 1;
         match call {
-            Call::Message { bytes: message, .. } => {
+            Call::Message { bytes: message, guest, .. } => {
                 self.saw_message(message, answer, bytes);
-                if message.starts_with(&[16, 0]) && matches!(answer, Answer::Handled { .. } | Answer::Closing) {
+                if message.starts_with(&[16, 0]) && matches!(answer.number(), 0 | 1 | 12) {
                     self.events.saw_reply(message, answer, stands);
+                    self.faults.saw_reply(message, answer, *guest);
                 }
                 if message.starts_with(&[13, 0]) && answer.number() == 0 {
                     self.accesses.saw_message(message, bytes, stands);
@@ -139,7 +142,12 @@ impl Counts {
                 self.saw_load(image, answer);
                 self.accesses.saw_load(settings, image, answer);
             }
-            Call::Enter { .. } => self.events.saw_entry(call, answer, bytes, stands),
+            Call::Enter { .. } => {
+                self.events.saw_entry(call, answer, bytes, stands);
+                if let Answer::Handled { .. } = answer {
+                    self.faults.saw_entry(call, bytes, stands);
+                }
+            }
             Call::Image { .. } => {
                 self.images_written += 1;
                 self.saw_image(bytes);
@@ -167,8 +175,12 @@ impl Counts {
             Call::Fresh { settings } | Call::Load { settings, keep: true, .. } if answer.number() == 0 => {
                 self.events.forget();
                 self.accesses.begins(settings);
+                self.faults.begins(settings);
             }
-            _ if answer == Answer::Closing => self.events.forget(),
+            _ if answer == Answer::Closing => {
+                self.events.forget();
+                self.faults.forget();
+            }
             _ => {}
         }
     }
@@ -176,8 +188,9 @@ impl Counts {
     /// Takes note of a batch that both sides answered alike, and of the signals listed.
     pub(crate) fn saw_batch(&mut self, call: &Call, batch: &Batch, listed: &[u32]) {
         let Call::Batch { bytes, .. } = call else { return };
-        if let Answer::Handled { .. } = batch.answer {
+        if let Answer::Handled { .. } | Answer::NoPage { .. } = batch.answer {
             self.events.saw_replies(&bytes[..batch.used]);
+            self.faults.saw_replies(&bytes[..batch.used]);
         }
         self.batches.saw(call, batch, listed);
     }
@@ -185,6 +198,7 @@ impl Counts {
     /// Takes note of a batch's messages as they are taken one by one.
     pub(crate) fn saw_taken(&mut self, call: &Call, batch: &Batch, taken: &[Taken]) {
         self.batches.saw_taken(call, batch, taken);
+        self.faults.saw_taken(call, batch, taken);
     }
 
     /// How many batches there were, and how many messages they used.
@@ -230,8 +244,8 @@ impl Counts {
         };
         match answer {
             Answer::Closing => self.closing[id] += 1,
-            Answer::Handled { count, signal } => {
-                let silent = 2 * usize::from(count == 0);
+            Answer::Handled { signal, .. } | Answer::NoPage { signal } => {
+                let silent = 2 * usize::from(bytes.is_empty());
                 self.signals[match signal {
                     Signal::None => 0,
                     Signal::Kick { wait, .. } => 1 + silent + usize::from(wait),
@@ -302,6 +316,7 @@ impl Counts {
         self.events.add(&other.events);
         self.accesses.add(&other.accesses);
         self.batches.add(&other.batches);
+        self.faults.add(&other.faults);
         sum(self.refused.as_flattened_mut(), other.refused.as_flattened());
     }
 
@@ -333,6 +348,7 @@ impl Counts {
         list.extend(self.events.wanted());
         list.extend(self.accesses.wanted());
         list.extend(self.batches.wanted());
+        list.extend(self.faults.wanted());
         for (place, [form, forbidden]) in PLACES.iter().zip(self.refused) {
             list.push((format!("image: bad form at {place}"), form));
             if matches!(*place, "VM" | "VC" | "PA") {

@@ -99,6 +99,13 @@ const ALL_MSRS: u64 = 4096;
 /// Once in so many calls of a session, several messages come in one write.
 const BATCHES: u64 = 120;
 
+/// Once in so many calls of a session, page faults are offered and answered.
+const FAULTS: u64 = 120;
+
+/// One in so many replies to these closes the session, and one in so many at its end.
+const WRONG: u64 = 60;
+const WRONG_AT_END: u64 = 3;
+
 impl<L: Filter, R: Filter> Player<L, R> {
     fn call(&mut self, call: Call) -> Result<Option<Answer>, Mismatch> {
         self.calls.push(call);
@@ -167,6 +174,7 @@ impl<L: Filter, R: Filter> Player<L, R> {
         }
 
         let mut guide = Guide::new(random, &settings);
+        guide.saw_tables(self.calls.last().expect("a session was begun"));
         for call in guide.marks(random) {
             self.guided(&mut guide, call)?;
         }
@@ -177,6 +185,9 @@ impl<L: Filter, R: Filter> Player<L, R> {
             if !guide.closed && random.one_in(BATCHES) {
                 let call = guide.batch(random);
                 self.guided(&mut guide, call)?;
+            }
+            if !guide.closed && random.one_in(FAULTS) {
+                self.faults(random, &mut guide, WRONG)?;
             }
             if guide.closed {
                 break;
@@ -201,6 +212,29 @@ impl<L: Filter, R: Filter> Player<L, R> {
         match self.images.len() {
             KEPT => self.images[random.index(KEPT)] = (settings, image),
             _ => self.images.push((settings, image)),
+        }
+        Ok(())
+    }
+
+    /// Page faults, each offered and then answered, alone or in a batch; once in so many times wrongly.
+    fn faults(&mut self, random: &mut Random, guide: &mut Guide, wrong: u64) -> Result<(), Mismatch> {
+        for _ in 0..1 + random.below(4) {
+            for call in guide.faulted(random) {
+                self.guided(guide, call)?;
+            }
+            // something comes between, now and then
+            if !guide.closed && random.one_in(6) {
+                let call = guide.call(random);
+                self.guided(guide, call)?;
+            }
+            if guide.closed {
+                break;
+            }
+            let call = guide.answered(random, wrong);
+            self.guided(guide, call)?;
+            if guide.closed {
+                break;
+            }
         }
         Ok(())
     }
@@ -231,6 +265,9 @@ impl<L: Filter, R: Filter> Player<L, R> {
             self.call(Call::Image { room: 0 })?;
         }
         let image = self.image(guide)?;
+        if !guide.closed && random.one_in(4) {
+            self.faults(random, guide, WRONG_AT_END)?;
+        }
         if !guide.closed && random.percent(60) {
             if random.percent(90) {
                 for call in guide.staged(random) {

@@ -1,7 +1,8 @@
 //! What a run has seen of events: the entries that offer them, and their replies.
 
 use crate::batch::messages;
-use crate::event::{own_size, register, reply_size, takes_retry, Awaited, OFFERED};
+use crate::event::{own_size, register, reply_size, takes_retry, Awaited, OFFERED, REPLY_SIZES};
+use crate::fault::Context;
 use crate::{Answer, Call, Lookup, Told};
 
 /// What stands in the session of a call, after it.
@@ -17,7 +18,7 @@ const OFFERS: [&str; 5] = [
 ];
 
 /// Numbers that no entry takes; all above the last of them are counted behind it.
-const OTHERS: [u32; 7] = [1, 2, 6, 10, 13, 15, 16];
+const OTHERS: [u32; 6] = [1, 2, 6, 13, 15, 16];
 
 /// What else entries can be about.
 const ENTRIES: [&str; 15] = [
@@ -39,35 +40,41 @@ const ENTRIES: [&str; 15] = [
 ];
 
 /// The events whose replies can be awaited.
-const AWAITED: [u8; 10] = [2, 3, 4, 5, 7, 8, 9, 11, 12, 14];
+const AWAITED: [u8; 11] = [2, 3, 4, 5, 7, 8, 9, 10, 11, 12, 14];
 
 /// What a reply to each of them can do. "Alone": all else in it is right.
-const REPLIES: [&str; 10] = [
+const REPLIES: [&str; 11] = [
     "continue",
     "retry",
     "crash",
-    "closing for a size of 16 or 24 alone",
+    "closing for a size of 16, 24 or 288 alone",
     "closing for another size alone",
     "closing for a retry alone",
     "closing for another action alone",
     "closing for its seq alone",
     "closing for its event alone",
     "closing for padding alone",
+    "closing for its context alone",
 ];
 
 /// How things can stand when a reply is taken.
-const TAKEN: [&str; 4] =
-    ["its event switched off by then", "its register switched off by then", "a vCPU that is not ready", "a new value of 0"];
+const TAKEN: [&str; 5] = [
+    "its event switched off by then",
+    "its register switched off by then",
+    "a vCPU that is not ready",
+    "a new value of 0",
+    "its page at rwx by then",
+];
 
 #[derive(Clone, Default)]
 pub(crate) struct EventCounts {
     /// What each vCPU of the present session awaits.
     awaited: [Option<Awaited>; 16],
-    offers: [[u64; 5]; 9],
-    others: [u64; 8],
+    offers: [[u64; 5]; 10],
+    others: [u64; 7],
     entries: [u64; 15],
-    replies: [[u64; 10]; 10],
-    taken: [u64; 4],
+    replies: [[u64; 11]; 11],
+    taken: [u64; 5],
     /// Closing replies of vCPUs that await none.
     unasked: u64,
 }
@@ -151,7 +158,8 @@ impl EventCounts {
             return;
         };
         let is_taken = matches!(action, 0 | 2) || action == 1 && takes_retry(awaited.event);
-        let (wrong_size, known_size) = (data.len() != reply_size(awaited.event), matches!(data.len(), 16 | 24));
+        let (wrong_size, known_size) = (data.len() != reply_size(awaited.event), REPLY_SIZES.contains(&data.len()));
+        let context = Context::of(data).filter(|_| awaited.event == 10);
         let faults = [
             wrong_size && known_size,
             wrong_size && !known_size,
@@ -160,6 +168,7 @@ impl EventCounts {
             seq != awaited.seq,
             event != awaited.event,
             data[2..8].iter().chain(&data[10..16]).any(|byte| *byte != 0),
+            context.is_some_and(|context| !context.is_taken()),
         ];
         let row = AWAITED.iter().position(|known| *known == awaited.event).expect("an event that is awaited");
         if closes {
@@ -168,7 +177,7 @@ impl EventCounts {
             }
             return;
         }
-        assert_eq!(faults, [false; 7], "both sides took an event reply that is at fault");
+        assert_eq!(faults, [false; 8], "both sides took an event reply that is at fault");
         self.replies[row][usize::from(action)] += 1;
         self.awaited[usize::from(vcpu)] = None;
 
@@ -183,6 +192,9 @@ impl EventCounts {
             awaited.register.is_some() && !is_register_on(stands, vcpu, number, awaited.register),
             !is_on(stands, Lookup::IsReady { vcpu }),
             data.len() == 24 && action == 0 && data[16..24] == [0; 8],
+            awaited.fault.is_some_and(|fault| {
+                stands(Lookup::Access { view: fault.view.into(), page: fault.page() }) == Some(Told::Number(7))
+            }),
         ];
         self.taken.iter_mut().zip(kinds).for_each(|(count, seen)| *count += u64::from(seen));
     }
@@ -219,7 +231,8 @@ impl EventCounts {
             for (column, name) in REPLIES.iter().enumerate() {
                 // a retry is taken, or closes
                 let never = if takes_retry(*event) { 5 } else { 1 };
-                if column != never {
+                // and only that to a page fault has a context
+                if column != never && (column != 10 || *event == 10) {
                     list.push((format!("reply to event {event}: {name}"), counts[column]));
                 }
             }

@@ -2,8 +2,9 @@
 
 use crate::{Lookup, Told};
 use reference::list::Record;
-use reference::{Action, Answer, Batch, Settings, Signal};
+use reference::{Action, Answer, Batch, Feed, Settings, Signal};
 use std::cell::RefCell;
+use std::ops::Range;
 
 /// What can be asked of a filter. `fresh` and `load` begin a session or refuse it.
 pub trait Filter: Sized {
@@ -104,36 +105,54 @@ impl Filter for Proved {
     }
 
     fn message(&mut self, message: &[u8], out: &mut [u8], guest: &mut [u8]) -> (Answer, Option<i32>) {
-        match self.s_mut().message(message, out, guest) {
-            Err(refusal) => (refused(refusal), None),
+        let lent = [message.as_ptr_range(), guest.as_ptr_range()];
+        let (answer, error, fed) = match self.s_mut().message(message, out, guest) {
+            Err(refusal) => return (refused(refusal), None),
             Ok(answer) => {
                 let error = answer.error().map(semblurick::Errno::number);
-                match answer {
-                    semblurick::Answer::Closing => (Answer::Closing, error),
-                    semblurick::Answer::Handled { bytes, signal, .. } => {
-                        (Answer::Handled { count: bytes.len(), signal: signalled(signal) }, error)
-                    }
+                let fed = Fed::new(answer.feed(), lent);
+                let signal = signalled(answer.signal());
+                let number = answer.number();
+                let answer = match answer {
+                    semblurick::Answer::Closing => Answer::Closing,
+                    semblurick::Answer::Handled { bytes, .. } => Answer::Handled { count: bytes.len(), signal, feed: fed.feed },
+                    semblurick::Answer::NoPage { .. } => Answer::NoPage { signal },
                     other => panic!("the reference has no {other}"),
-                }
+                };
+                assert_eq!(number, answer.number());
+                (answer, error, fed)
             }
-        }
+        };
+        fed.check(message, guest);
+        (answer, error)
     }
 
     fn batch(&mut self, input: &[u8], out: &mut [u8], signals: &mut [u32], guest: &mut [u8]) -> Batch {
         let (first, list) = (out.as_ptr(), signals.as_ptr());
-        match self.s_mut().batch(input, out, signals, guest) {
-            Err(refusal) => Batch { answer: refused(refusal), used: 0, count: 0, listed: 0, resume: Signal::None },
+        let lent = [input.as_ptr_range(), guest.as_ptr_range()];
+        let (batch, fed) = match self.s_mut().batch(input, out, signals, guest) {
+            Err(refusal) => {
+                let (resume, feed) = (Signal::None, Feed::None);
+                return Batch { answer: refused(refusal), used: 0, count: 0, listed: 0, resume, feed };
+            }
             Ok(batch) => {
                 assert!(batch.bytes.as_ptr() == first && batch.listed.as_ptr() == list);
                 let (used, count, listed) = (batch.used, batch.bytes.len(), batch.listed.len());
                 let resume = signalled(batch.resume);
-                let answer = match batch.closing {
-                    true => Answer::Closing,
-                    false => Answer::Handled { count, signal: resume },
+                let fed = Fed::new(batch.feed, lent);
+                let feed = fed.feed;
+                let answer = match (batch.closing, batch.no_page) {
+                    (true, false) => Answer::Closing,
+                    (false, true) => Answer::NoPage { signal: resume },
+                    (false, false) => Answer::Handled { count, signal: resume, feed },
+                    (true, true) => panic!("a batch that closes has no resume"),
                 };
-                Batch { answer, used, count, listed, resume }
+                assert_eq!(batch.number(), answer.number());
+                (Batch { answer, used, count, listed, resume, feed }, fed)
             }
-        }
+        };
+        fed.check(input, guest);
+        batch
     }
 
     fn enter(&mut self, vcpu: u32, state: &[u8], event: u32, own: &[u8], out: &mut [u8]) -> Answer {
@@ -215,6 +234,47 @@ impl Filter for Proved {
     }
 }
 
+/// What the wrapper feeds an instruction: as the reference has it, and the bytes as they stood.
+struct Fed {
+    feed: Feed,
+    bytes: Vec<u8>,
+}
+
+impl Fed {
+    /// The place of the wrapper's bytes in the message or in guest memory, which lie here.
+    fn new(feed: semblurick::Feed, [message, guest]: [Range<*const u8>; 2]) -> Fed {
+        let place = |part: &[u8], lent: Range<*const u8>| {
+            let (lent, part) = (lent.start.addr()..lent.end.addr(), part.as_ptr_range());
+            let (start, end) = (part.start.addr(), part.end.addr());
+            assert!(lent.start <= start && start < end && end <= lent.end, "bytes for an instruction that were not lent");
+            (start - lent.start, end - start)
+        };
+        let bytes = feed.bytes().unwrap_or_default().to_vec();
+        let feed = match feed {
+            semblurick::Feed::None => Feed::None,
+            semblurick::Feed::Supplied(part) => {
+                let (at, length) = place(part, message);
+                Feed::Supplied { at, length }
+            }
+            semblurick::Feed::Page(part) => {
+                let (at, length) = place(part, guest);
+                Feed::Page { at, length }
+            }
+            other => panic!("the reference has no {other}"),
+        };
+        Fed { feed, bytes }
+    }
+
+    /// The bytes are those that stand in that place.
+    fn check(&self, message: &[u8], guest: &[u8]) {
+        match self.feed {
+            Feed::None => assert!(self.bytes.is_empty()),
+            Feed::Supplied { at, length } => assert_eq!(self.bytes, message[at..at + length]),
+            Feed::Page { at, length } => assert_eq!(self.bytes, guest[at..at + length]),
+        }
+    }
+}
+
 /// A signal of the wrapper, as the reference has it.
 fn signalled(signal: semblurick::Signal) -> Signal {
     let narrow = |vcpu: u32| u16::try_from(vcpu).expect("a vCPU below 16");
@@ -261,8 +321,9 @@ fn on_list(records: &mut [Record], call: impl FnOnce(&mut [semblurick::Vcpu]) ->
     answer
 }
 
-fn handled(count: usize) -> Answer {
-    Answer::Handled { count, signal: Signal::None }
+/// Answer 0 with nothing asked of the host.
+pub const fn handled(count: usize) -> Answer {
+    Answer::Handled { count, signal: Signal::None, feed: Feed::None }
 }
 
 fn refused(refusal: semblurick::Refusal) -> Answer {

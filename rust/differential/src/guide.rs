@@ -4,6 +4,8 @@
 //! closed one shows little.
 
 use crate::event::{event_reply, Awaited};
+use crate::fault::GUARDED;
+use crate::image::page_starts;
 use crate::message::{damage, message, spoil_padding, unknown, wild};
 use crate::{Answer, Call, Random, Settings, GUEST_ROOM};
 
@@ -36,7 +38,7 @@ impl Taste {
         };
         taste.messages[0] = 3;
         taste.messages[15] = 4;
-        match random.below(10) {
+        match random.below(11) {
             // page access
             0 | 1 => {
                 taste.messages[13] = 80;
@@ -68,6 +70,13 @@ impl Taste {
                 taste.messages[16] = 80;
                 taste.entries = random.pick(&[15, 30, 40]);
             }
+            // page faults
+            9 => {
+                taste.messages[10] = 60;
+                taste.messages[13] = 40;
+                taste.messages[16] = 80;
+                taste.entries = random.pick(&[15, 30, 40]);
+            }
             _ => {}
         }
         taste
@@ -87,6 +96,8 @@ pub struct Guide {
     pub(crate) awaited: Vec<Awaited>,
     /// MSRs that were switched on, each with its vCPU; the last ones.
     pub(crate) msrs: Vec<(u16, u32)>,
+    /// Pages that were guarded, each with its view; the last ones.
+    pub(crate) guarded: Vec<(u16, u64)>,
     /// Whether replies are on.
     pub(crate) replies: bool,
     /// The vCPU that is mostly meant.
@@ -119,6 +130,7 @@ impl Guide {
             taste,
             awaited: Vec::new(),
             msrs: Vec::new(),
+            guarded: Vec::new(),
             replies: true,
             favourite: random.below(settings.vcpus.into()) as u16,
             guest: lent_guest(random),
@@ -129,12 +141,17 @@ impl Guide {
 
     /// Takes note of a call's answer and of the bytes written.
     pub fn saw(&mut self, call: &Call, answer: Answer, bytes: &[u8]) {
-        let Answer::Handled { count, .. } = answer else {
-            if answer == Answer::Closing {
-                self.closed = true;
-                self.awaited.clear();
+        let count = match answer {
+            Answer::Handled { count, .. } => count,
+            // the reply is taken all the same
+            Answer::NoPage { .. } => 0,
+            _ => {
+                if answer == Answer::Closing {
+                    self.closed = true;
+                    self.awaited.clear();
+                }
+                return;
             }
-            return;
         };
         match call {
             Call::Enter { vcpu, own, .. } if count > 0 => self.awaited.push(Awaited::new(*vcpu, own, bytes)),
@@ -150,6 +167,15 @@ impl Guide {
                     }
                     self.msrs.push((u16::from_le_bytes([low, high]), u32::from_le_bytes([a, b, c, d])));
                 }
+                [13, 0, _, _, _, _, _, _, _, _, low, high, _, _, _, _, ref entries @ ..]
+                    if crate::told_error(bytes).is_none() =>
+                {
+                    let view = u16::from_le_bytes([low, high]);
+                    for entry in entries.as_chunks::<16>().0 {
+                        let gpa = u64::from_le_bytes(*entry.first_chunk().expect("16 bytes"));
+                        self.guarded(view, gpa >> 12, entry[8]);
+                    }
+                }
                 [16, 0, _, _, _, _, _, _, low, high, ..] => {
                     let vcpu = u16::from_le_bytes([low, high]);
                     self.awaited.retain(|awaited| awaited.vcpu != vcpu);
@@ -160,8 +186,32 @@ impl Guide {
                 self.settings = settings.clone();
                 self.replies = true;
                 self.awaited.clear();
+                self.saw_tables(call);
             }
             _ => {}
+        }
+    }
+
+    /// Takes note of the pages that are guarded as a session begins.
+    pub fn saw_tables(&mut self, call: &Call) {
+        self.guarded.clear();
+        let Call::Load { image, .. } = call else { return };
+        for start in page_starts(image).into_iter().rev().take(GUARDED) {
+            if let [_, _, low, high, access, _, page @ ..] = &image[start..] {
+                let page = page.first_chunk().map_or(0, |page| u64::from_le_bytes(*page));
+                self.guarded(u16::from_le_bytes([*low, *high]), page, *access);
+            }
+        }
+    }
+
+    /// Takes note of a page's access.
+    fn guarded(&mut self, view: u16, page: u64, access: u8) {
+        self.guarded.retain(|known| *known != (view, page));
+        if access != 7 {
+            if self.guarded.len() == GUARDED {
+                self.guarded.remove(0);
+            }
+            self.guarded.push((view, page));
         }
     }
 

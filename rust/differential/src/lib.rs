@@ -4,8 +4,8 @@
 //! * [`Call`] is one call, with a text form that can be replayed;
 //! * [`Runner`] makes calls on both sides and compares answers, outputs, guest memory and images, and what lookups tell;
 //! * [`look`] has the lookups that are asked between calls;
-//! * [`settings`], [`guide`], [`batch`], [`event`], [`image`] and [`list`] make settings, calls, writes of several messages, entries
-//!   with their events, images and lists of records, good and damaged;
+//! * [`settings`], [`guide`], [`batch`], [`event`], [`fault`], [`image`] and [`list`] make settings, calls, writes of several messages,
+//!   entries with their events, page faults with what feeds their instructions, images and lists of records, good and damaged;
 //! * [`shrink`] makes a failing list of calls short;
 //! * [`drive`] does all this for a seed, and [`Counts`] says what was seen.
 
@@ -19,6 +19,8 @@ mod counts;
 pub mod drive;
 pub mod event;
 mod event_counts;
+pub mod fault;
+mod fault_counts;
 mod filter;
 pub mod guide;
 pub mod image;
@@ -32,9 +34,9 @@ pub mod shrink;
 
 pub use call::{parse, Call, BATCH_ROOM, GUEST_ROOM, LIST_ROOM, OUT_ROOM, STATE_ROOM};
 pub use counts::{Counts, CODES};
-pub use filter::{told_error, Filter, Plain, Proved};
+pub use filter::{handled, told_error, Filter, Plain, Proved};
 pub use look::{Lookup, Told};
 pub use random::Random;
 pub use reference::list::Record;
-pub use reference::{Action, Answer, Batch, Settings, Signal};
+pub use reference::{Action, Answer, Batch, Feed, Settings, Signal};
 pub use run::{run, Mismatch, Runner};

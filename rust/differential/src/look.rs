@@ -4,6 +4,7 @@
 
 use crate::batch::messages;
 use crate::event::register;
+use crate::fault::Fault;
 use crate::message::msr;
 use crate::{Call, Random};
 use std::fmt;
@@ -199,6 +200,12 @@ pub fn near(random: &mut Random, call: &Call, pages: usize, list: &mut Vec<Looku
         }
     }
 
+    if let Call::Enter { event: 10, own, .. } = call {
+        if let Some(fault) = Fault::of(own) {
+            let (view, page) = (u32::from(fault.view), fault.page());
+            list.extend([(view, page), (view, page + 1), (view ^ 1, page)].map(|(view, page)| Lookup::Access { view, page }));
+        }
+    }
     for bytes in sent {
         if let (Some(13), Some(view), Some(entries)) = (half(bytes, 0), half(bytes, 10), bytes.get(16..)) {
             // the first, the last and one between

@@ -337,7 +337,7 @@ pub fn wild(random: &mut Random) -> Vec<u8> {
         }
         // a known number, and data of a good size, but random
         3 => {
-            let (id, size) = (1 + random.below(16) as u16, random.pick(&[0, 8, 16, 24, 40]));
+            let (id, size) = (1 + random.below(16) as u16, random.pick(&[0, 8, 16, 24, 40, 288]));
             message(id, random.word() as u32, &random.bytes(size))
         }
         _ => {

@@ -3,10 +3,10 @@
 mod batch;
 
 use crate::look::{self, Lookup, Told};
-use crate::{Call, Counts, Filter, Random, BATCH_ROOM, GUEST_ROOM, LIST_ROOM, OUT_ROOM, STATE_ROOM};
+use crate::{handled, Call, Counts, Filter, Random, BATCH_ROOM, GUEST_ROOM, LIST_ROOM, OUT_ROOM, STATE_ROOM};
 pub(crate) use batch::Taken;
 use reference::list::Record;
-use reference::{Answer, Batch, Settings, Signal};
+use reference::{Answer, Batch, Feed, Settings};
 use std::fmt;
 use std::panic::{catch_unwind, AssertUnwindSafe};
 
@@ -357,7 +357,7 @@ impl<L: Filter, R: Filter> Runner<L, R> {
         if let Some(mut pair) = self.session.take() {
             // an image that is taken is the one that is written
             let written = self.write_image(&mut pair, 0)?;
-            same("answer to writing the image read", &written, &Answer::Handled { count: image.len(), signal: Signal::None })?;
+            same("answer to writing the image read", &written, &handled(image.len()))?;
             same_bytes("image written after reading", self.image(), image)?;
             match keep {
                 true => self.session = Some(pair),
@@ -375,7 +375,7 @@ impl<L: Filter, R: Filter> Runner<L, R> {
             (Ok(left), Ok(right)) => {
                 same("is_open", &left.look(Lookup::IsOpen), &right.look(Lookup::IsOpen))?;
                 self.session = Some(Pair { left, right, settings: settings.clone() });
-                Ok(Answer::Handled { count: 0, signal: Signal::None })
+                Ok(handled(0))
             }
             (left, right) => {
                 let (left, right) = (left.map(|_| "a session"), right.map(|_| "a session"));
@@ -416,6 +416,9 @@ impl<L: Filter, R: Filter> Runner<L, R> {
                 self.written = written(left.0);
                 self.same_output(*out)?;
                 same_bytes("guest memory", &self.left.guest, &self.right.guest)?;
+                if let Answer::Handled { feed, .. } = left.0 {
+                    self.same_fed(feed, bytes, *guest)?;
+                }
                 Ok(left.0)
             }
             Call::Enter { vcpu, state, fill, event, own, out } => {
@@ -441,6 +444,22 @@ impl<L: Filter, R: Filter> Runner<L, R> {
         let (from, end) = (self.written, compared(lent));
         same_bytes("output", &self.left.out[..end], &self.right.out[..end])?;
         same_bytes("output past the count", &self.left.out[from..end], &self.pattern[from..end])
+    }
+
+    /// Compares the bytes that an instruction is fed: a part of what was sent, or of the guest memory that was lent.
+    fn same_fed(&self, feed: Feed, sent: &[u8], guest: usize) -> Result<(), Unlike> {
+        let part = |lent: &Lent| match feed {
+            Feed::None => Some(Vec::new()),
+            Feed::Supplied { at, length } => sent.get(at..)?.get(..length).map(<[u8]>::to_vec),
+            Feed::Page { at, length } => lent.guest[..guest].get(at..)?.get(..length).map(<[u8]>::to_vec),
+        };
+        let (ours, theirs) = (part(&self.left), part(&self.right));
+        same("bytes for an instruction", &ours, &theirs)?;
+        same(
+            "whether there are bytes for an instruction",
+            &ours.is_some_and(|part| part.is_empty() == (feed == Feed::None)),
+            &true,
+        )
     }
 
     /// Writes the images with so many bytes more lent than they need.

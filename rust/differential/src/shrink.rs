@@ -1,6 +1,7 @@
 //! Makes a failing list of calls short.
 
 use crate::batch::{events, messages, messages_mut};
+use crate::fault::Fault;
 use crate::{image, Call, Filter, Mismatch, Record, Runner, BATCH_ROOM, LIST_ROOM};
 use std::ops::Range;
 use std::time::{Duration, Instant};
@@ -139,6 +140,7 @@ impl<L: Filter, R: Filter> Search<'_, L, R> {
         match &self.calls[at] {
             Call::Message { bytes, .. } if bytes.starts_with(&[13, 0]) && bytes.len() >= 16 => self.drop_entries(at),
             Call::Batch { .. } => self.drop_messages(at),
+            Call::Enter { event: 10, .. } => self.lower(at),
             Call::Load { .. } => {
                 self.drop_vcpus(at);
                 self.drop_records(at);
@@ -210,6 +212,26 @@ impl<L: Filter, R: Filter> Search<'_, L, R> {
         }
     }
 
+    /// Lowers the gva of a page fault, and the addresses of the replies behind it by as much.
+    fn lower(&mut self, at: usize) {
+        for kept in [0, 0xFF, 0xFFFF, u64::from(u32::MAX)] {
+            let mut calls = self.calls.clone();
+            let Call::Enter { own, .. } = &mut calls[at] else { return };
+            let Some(Fault { gva, .. }) = Fault::of(own) else { return };
+            own[..8].copy_from_slice(&(gva & kept).to_le_bytes());
+            for call in &mut calls[at + 1..] {
+                match call {
+                    Call::Message { bytes, .. } => lower_address(bytes, gva & !kept),
+                    Call::Batch { bytes, .. } => messages_mut(bytes).for_each(|message| lower_address(message, gva & !kept)),
+                    _ => {}
+                }
+            }
+            if calls != self.calls && self.offer(calls) {
+                return;
+            }
+        }
+    }
+
     /// Drops vCPUs, from the settings and from the image.
     fn drop_vcpus(&mut self, at: usize) {
         let Call::Load { settings, keep, image } = self.calls[at].clone() else { return };
@@ -265,6 +287,57 @@ fn move_seq(message: &mut [u8], fewer: u32) {
     }
 }
 
+/// The context of a reply to a page fault: address, size, and the rest of it with the supplied data.
+fn context_mut(message: &mut [u8]) -> Option<(&mut [u8; 8], &mut [u8; 4], &mut [u8])> {
+    let is_reply = message.starts_with(&[16, 0, 0x20, 1]);
+    let context = message.get_mut(24..).filter(|_| is_reply)?;
+    let (address, rest) = context.split_first_chunk_mut()?;
+    let (size, rest) = rest.split_first_chunk_mut()?;
+    Some((address, size, rest))
+}
+
+/// Moves the address of a reply to a page fault down.
+fn lower_address(message: &mut [u8], by: u64) {
+    if let Some((address, _, _)) = context_mut(message) {
+        *address = u64::from_le_bytes(*address).wrapping_sub(by).to_le_bytes();
+    }
+}
+
+/// Makes every message of a call plainer.
+fn with_messages(call: &mut Call, change: impl Fn(&mut [u8])) {
+    match call {
+        Call::Message { bytes, .. } => change(bytes),
+        Call::Batch { bytes, .. } => messages_mut(bytes).for_each(change),
+        _ => {}
+    }
+}
+
+/// The supplied data of replies to page faults, and all else in their contexts.
+fn clear_data(call: &mut Call) {
+    with_messages(call, |message| {
+        if let Some((_, _, rest)) = context_mut(message) {
+            rest.iter_mut().skip(4).for_each(|byte| *byte = 0);
+        }
+    });
+}
+
+fn clear_rep(call: &mut Call) {
+    with_messages(call, |message| {
+        if let Some((_, _, rest)) = context_mut(message) {
+            rest.fill(0);
+        }
+    });
+}
+
+fn clear_context(call: &mut Call) {
+    with_messages(call, |message| {
+        if let Some((address, size, rest)) = context_mut(message) {
+            (*address, *size) = ([0; 8], [0; 4]);
+            rest.fill(0);
+        }
+    });
+}
+
 /// Ways to make calls plainer.
 const BEGINNINGS: &[fn(&mut Call)] = &[
     |call| {
@@ -310,6 +383,9 @@ const MESSAGES: &[fn(&mut Call)] = &[
         Call::Message { bytes, .. } if bytes.starts_with(&[16, 0]) => bytes.iter_mut().skip(24).for_each(|byte| *byte = 0),
         _ => {}
     },
+    clear_data,
+    clear_rep,
+    clear_context,
 ];
 
 const BATCHES: &[fn(&mut Call)] = &[
@@ -350,6 +426,9 @@ const BATCHES: &[fn(&mut Call)] = &[
             commands.for_each(|message| message.iter_mut().skip(4).take(4).for_each(|byte| *byte = 0));
         }
     },
+    clear_data,
+    clear_rep,
+    clear_context,
 ];
 
 const ENTRIES: &[fn(&mut Call)] = &[
@@ -380,6 +459,11 @@ const ENTRIES: &[fn(&mut Call)] = &[
             own.fill(0);
         }
     },
+    // of a page fault the padding, its access but for a read, its view, and its place in the page
+    |call| with_fault(call, |_| {}),
+    |call| with_fault(call, |fault| fault.access &= 1),
+    |call| with_fault(call, |fault| fault.view = 0),
+    |call| with_fault(call, |fault| fault.gpa &= !0xFFF),
 ];
 
 const IMAGES: &[fn(&mut Call)] = &[|call| {
@@ -400,6 +484,16 @@ const LISTS: &[fn(&mut Call)] = &[
         }
     },
 ];
+
+/// A page fault without padding, and changed.
+fn with_fault(call: &mut Call, change: impl Fn(&mut Fault)) {
+    if let Call::Enter { event: 10, own, .. } = call {
+        if let Some(mut fault) = Fault::of(own) {
+            change(&mut fault);
+            *own = fault.bytes([0; 5]);
+        }
+    }
+}
 
 fn with_settings(call: &mut Call, change: impl Fn(&mut reference::Settings)) {
     if let Call::Fresh { settings } | Call::Load { settings, .. } = call {

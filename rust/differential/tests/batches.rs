@@ -4,7 +4,7 @@ mod wrong;
 
 use differential::batch::{is_whole, messages};
 use differential::drive::work;
-use differential::{Answer, Batch, Call, Filter, Plain, Signal};
+use differential::{handled, Answer, Batch, Call, Feed, Filter, Plain, Signal};
 use std::sync::atomic::AtomicBool;
 use wrong::{choose, found_within, Fault, Lent, Wrong, PATIENCE, QUOTA};
 
@@ -41,10 +41,22 @@ struct Ways {
     goes_on: fn(Signal) -> bool,
     /// What is listed for a signal.
     code: fn(Signal) -> Option<u32>,
+    /// Where what a message supplies begins: the message's start, and the place in it.
+    place: fn(usize, usize) -> usize,
+    /// Whether answer 12 ends it.
+    ends_without_page: bool,
 }
 
 /// As it is right.
-const RIGHT: Ways = Ways { least: 4112, takes_in_full_list: |_| false, passes_incomplete: true, goes_on, code };
+const RIGHT: Ways = Ways {
+    least: 4112,
+    takes_in_full_list: |_| false,
+    passes_incomplete: true,
+    goes_on,
+    code,
+    place: |start, at| start + at,
+    ends_without_page: true,
+};
 
 fn goes_on(signal: Signal) -> bool {
     !matches!(signal, Signal::Resume { .. })
@@ -65,7 +77,7 @@ impl Ways {
         if refused.answer.number() > 1 {
             return refused;
         }
-        let (mut used, mut count, mut listed, mut resume) = (0, 0, 0, Signal::None);
+        let (mut used, mut count, mut listed, mut resume, mut feed) = (0, 0, 0, Signal::None, Feed::None);
         for message in messages(input) {
             let left = out.len() - count;
             if left < self.least || !self.passes_incomplete && !is_whole(message) {
@@ -83,9 +95,21 @@ impl Ways {
             }
             *right = trial;
             guest.copy_from_slice(&memory);
+            let start = used;
             used += message.len();
-            let Answer::Handled { count: written, signal } = answer else {
-                return Batch { answer, used, count, listed, resume };
+            let (written, signal) = match answer {
+                Answer::Handled { count, signal, feed: fed } => {
+                    feed = match fed {
+                        Feed::Supplied { at, length } => Feed::Supplied { at: (self.place)(start, at), length },
+                        other => other,
+                    };
+                    (count, signal)
+                }
+                Answer::NoPage { signal } if self.ends_without_page => {
+                    return Batch { answer, used, count, listed, resume: signal, feed: Feed::None };
+                }
+                Answer::NoPage { .. } => (0, Signal::None),
+                _ => return Batch { answer, used, count, listed, resume, feed: Feed::None },
             };
             out[count..][..written.min(left)].copy_from_slice(&room[..written.min(left)]);
             count += written.min(left);
@@ -100,7 +124,7 @@ impl Ways {
                 break;
             }
         }
-        Batch { answer: Answer::Handled { count, signal: resume }, used, count, listed, resume }
+        Batch { answer: Answer::Handled { count, signal: resume, feed }, used, count, listed, resume, feed }
     }
 }
 
@@ -236,7 +260,7 @@ wrong_batch! {
 }
 
 wrong_batch! {
-    lists_a_crash_as_a_kick_is, CrashTwice, 5 in QUOTA, "signals", |right, input, lent| {
+    lists_a_crash_as_a_kick_is, CrashTwice, 6 in QUOTA, "signals", |right, input, lent| {
         Ways { code: |signal| code(signal).map(|code| if code > 512 { 2 * code - 512 } else { code }), ..RIGHT }.batch(right, input, lent)
     }
 }
@@ -252,7 +276,8 @@ wrong_batch! {
     loses_the_resume, ResumeLost, 6 in QUOTA, "resume", |right, input, lent| {
         let mut batch = right.batch(input, lent.out, lent.signals, lent.guest);
         if let Answer::Handled { count, .. } = batch.answer {
-            (batch.answer, batch.resume) = (Answer::Handled { count, signal: Signal::None }, Signal::None);
+            let feed = batch.feed;
+            (batch.answer, batch.resume) = (Answer::Handled { count, signal: Signal::None, feed }, Signal::None);
         }
         batch
     }
@@ -267,7 +292,7 @@ wrong_batch! {
 
 wrong_batch! {
     /// An incomplete message closes, though there was no room for it.
-    closes_without_room, RoomLast, 2 in PATIENCE, "answer", |right, input, lent| {
+    closes_without_room, RoomLast, 6 in PATIENCE, "answer", |right, input, lent| {
         let mut batch = right.batch(input, lent.out, lent.signals, lent.guest);
         let rest = &input[batch.used..];
         let is_cut = messages(rest).next().is_some_and(|message| !is_whole(message));
@@ -300,21 +325,21 @@ wrong_batch! {
 }
 
 wrong_batch! {
-    takes_an_empty_batch_without_a_place, EmptyTaken, 2 in QUOTA, "answer", |right, input, lent| {
+    takes_an_empty_batch_without_a_place, EmptyTaken, 2 in PATIENCE, "answer", |right, input, lent| {
         let mut batch = right.batch(input, lent.out, lent.signals, lent.guest);
         if batch.answer == Answer::NoPlace && input.is_empty() {
-            batch.answer = Answer::Handled { count: 0, signal: Signal::None };
+            batch.answer = handled(0);
         }
         batch
     }
 }
 
-/// A batch with a size field that is cut: a message that ends too soon closes, as an incomplete last one does.
+/// A batch with a size field that is cut: a whole message that ends too soon closes, as an incomplete last one does.
 fn cut_sizes(right: &mut Plain, input: &[u8], lent: Lent, sizes: usize) -> Batch {
     let mut at = 0;
     for message in messages(input) {
         let size = message.len().saturating_sub(8);
-        if size >= sizes {
+        if size >= sizes && is_whole(message) {
             at += 8 + size % sizes;
             break;
         }
@@ -324,7 +349,7 @@ fn cut_sizes(right: &mut Plain, input: &[u8], lent: Lent, sizes: usize) -> Batch
 }
 
 wrong_batch! {
-    cuts_a_size_to_8_bits, Size8, 2 in QUOTA, "answer", |right, input, lent| cut_sizes(right, input, lent, 1 << 8)
+    cuts_a_size_to_8_bits, Size8, 4 in QUOTA, "answer", |right, input, lent| cut_sizes(right, input, lent, 1 << 8)
 }
 
 wrong_batch! {
@@ -379,6 +404,75 @@ fn without_last(right: &mut Plain, input: &[u8], lent: Lent, is_lost: fn(&[u8]) 
         }
     }
     batch
+}
+
+wrong_batch! {
+    /// The place of supplied data is counted from the message.
+    counts_supplied_data_from_the_message, FromMessage, 6 in QUOTA, "feed", |right, input, lent| {
+        Ways { place: |_, at| at, ..RIGHT }.batch(right, input, lent)
+    }
+}
+
+wrong_batch! {
+    loses_what_is_fed, FeedLost, 6 in QUOTA, "feed", |right, input, lent| {
+        let mut batch = right.batch(input, lent.out, lent.signals, lent.guest);
+        if let Answer::Handled { count, signal, .. } = batch.answer {
+            (batch.answer, batch.feed) = (Answer::Handled { count, signal, feed: Feed::None }, Feed::None);
+        }
+        batch
+    }
+}
+
+/// A batch that answer 12 ends otherwise.
+fn no_page(right: &mut Plain, input: &[u8], lent: Lent, otherwise: fn(&mut Batch, &[u8])) -> Batch {
+    let mut batch = right.batch(input, lent.out, lent.signals, lent.guest);
+    if let Answer::NoPage { .. } = batch.answer {
+        otherwise(&mut batch, input);
+    }
+    batch
+}
+
+wrong_batch! {
+    goes_on_without_a_page, AfterNoPage, 6 in QUOTA, "answer", |right, input, lent| {
+        Ways { ends_without_page: false, ..RIGHT }.batch(right, input, lent)
+    }
+}
+
+wrong_batch! {
+    leaves_the_reply_without_a_page_unused, NoPageUnused, 6 in QUOTA, "used bytes", |right, input, lent| {
+        no_page(right, input, lent, |batch, input| {
+            let last = messages(&input[..batch.used]).last();
+            batch.used -= last.map_or(0, <[u8]>::len);
+        })
+    }
+}
+
+wrong_batch! {
+    uses_all_behind_a_reply_without_a_page, NoPageAll, 6 in QUOTA, "used bytes", |right, input, lent| {
+        no_page(right, input, lent, |batch, input| batch.used = input.len())
+    }
+}
+
+wrong_batch! {
+    answers_0_without_a_page, NoPageZero, 6 in QUOTA, "answer", |right, input, lent| {
+        no_page(right, input, lent, |batch, _| {
+            batch.answer = Answer::Handled { count: batch.count, signal: batch.resume, feed: Feed::None };
+        })
+    }
+}
+
+wrong_batch! {
+    loses_the_resume_without_a_page, NoPageResume, 6 in QUOTA, "resume", |right, input, lent| {
+        no_page(right, input, lent, |batch, _| {
+            (batch.answer, batch.resume) = (Answer::NoPage { signal: Signal::None }, Signal::None);
+        })
+    }
+}
+
+wrong_batch! {
+    forgets_the_bytes_before_a_reply_without_a_page, NoPageBytes, 6 in QUOTA, "count of bytes", |right, input, lent| {
+        no_page(right, input, lent, |batch, _| batch.count = 0)
+    }
 }
 
 struct LastLost;
@@ -444,6 +538,14 @@ wrong_twice! {
 
 wrong_twice! {
     both_lose_the_resume, BothResumes, "counts singly", |right, input, lent| ResumeLost.batch(right, input, lent)
+}
+
+wrong_twice! {
+    both_count_from_the_message, BothFromMessage, "feed singly", |right, input, lent| FromMessage.batch(right, input, lent)
+}
+
+wrong_twice! {
+    both_answer_0_without_a_page, BothNoPageZero, "counts singly", |right, input, lent| NoPageZero.batch(right, input, lent)
 }
 
 wrong_twice! {

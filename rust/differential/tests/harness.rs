@@ -3,11 +3,12 @@
 mod wrong;
 
 use differential::drive::{work, Quota};
-use differential::event::register;
+use differential::event::{fault_reply, register};
+use differential::fault::{guard, Context, Fault as PageFault};
 use differential::image::page_starts;
 use differential::{
-    parse, Action, Answer, Call, Counts, Filter, Lookup, Plain, Record, Settings, Signal, Told, BATCH_ROOM, GUEST_ROOM,
-    LIST_ROOM, OUT_ROOM, STATE_ROOM,
+    handled, parse, Action, Answer, Call, Counts, Feed, Filter, Lookup, Plain, Record, Settings, Signal, Told, BATCH_ROOM,
+    GUEST_ROOM, LIST_ROOM, OUT_ROOM, STATE_ROOM,
 };
 use std::collections::BTreeMap;
 use std::sync::atomic::AtomicBool;
@@ -62,6 +63,8 @@ fn texts_are_read_back() {
         Call::Batch { out: BATCH_ROOM, places: LIST_ROOM, guest: GUEST_ROOM, bytes: (0..=255).collect() },
         Call::Enter { vcpu: 0, state: STATE_ROOM, fill: 255, event: 0, own: Vec::new(), out: 576 },
         Call::Enter { vcpu: u32::MAX, state: 0, fill: 0, event: u32::MAX, own: (0..=255).collect(), out: 0 },
+        Call::Enter { vcpu: 1, state: 536, fill: 1, event: 10, own: (0..24).collect(), out: 576 },
+        Call::Message { out: 4112, guest: 4097, bytes: [&[16, 0, 0x20, 1][..], &[0xEE; 292]].concat() },
         Call::Image { room: -1_000_000 },
         Call::ListReady { records: Vec::new(), index: u64::MAX },
         Call::ListCr { records: vec![Record::default(), odd], index: 1, cr: u32::MAX, on: true },
@@ -137,9 +140,9 @@ impl Fault for KeepsRwx {
         let size = right.image_size();
         let Some((room, more)) = out.split_at_mut_checked(size) else { return right.write_image(&mut []) };
         match right.write_image(room) {
-            Answer::Handled { count, signal } if more.len() >= 14 * self.0.len() => {
+            Answer::Handled { count, .. } if more.len() >= 14 * self.0.len() => {
                 more[..14 * self.0.len()].copy_from_slice(&self.0.values().flatten().copied().collect::<Vec<_>>());
-                Answer::Handled { count: count + 14 * self.0.len(), signal }
+                handled(count + 14 * self.0.len())
             }
             Answer::Handled { .. } => Answer::ShortOut,
             answer => answer,
@@ -150,7 +153,9 @@ impl Fault for KeepsRwx {
 #[test]
 fn keeps_a_record_at_rwx() {
     let failure = found(3, || Box::new(KeepsRwx::default()));
-    assert!(matches!(failure.list[..], [Call::Fresh { .. }, Call::Message { .. }, Call::Image { .. }]));
+    // an image is written behind a batch, too
+    let [Call::Fresh { .. }, Call::Message { .. }, last] = &failure.list[..] else { panic!("a session and a message") };
+    assert!(matches!(last, Call::Image { .. } | Call::Batch { .. }));
 }
 
 /// A fault in messages alone.
@@ -253,9 +258,7 @@ wrong_message! {
 wrong_message! {
     forgets_the_kick_with_replies_off, KickLost, 4, |right, message, out, guest| {
         match right.message(message, out, guest) {
-            (Answer::Handled { count: 0, signal: Signal::Kick { .. } }, error) => {
-                (Answer::Handled { count: 0, signal: Signal::None }, error)
-            }
+            (Answer::Handled { count: 0, signal: Signal::Kick { .. }, .. }, error) => (NOTHING, error),
             result => result,
         }
     }
@@ -284,8 +287,8 @@ wrong_message! {
     takes_a_retry_of_an_msr, MsrRetried, 6, |right, message, out, guest| {
         match message {
             [16, 0, ..] => match taken_as(right, message, out, (9, 1), 0) {
-                (Answer::Handled { count, signal: Signal::Resume { vcpu, value, .. } }, error) if message[16] == 1 => {
-                    (Answer::Handled { count, signal: Signal::Resume { vcpu, action: Action::Retry, value } }, error)
+                (Answer::Handled { count, signal: Signal::Resume { vcpu, value, .. }, feed }, error) if message[16] == 1 => {
+                    (Answer::Handled { count, signal: Signal::Resume { vcpu, action: Action::Retry, value }, feed }, error)
                 }
                 result => result,
             },
@@ -321,9 +324,9 @@ wrong_message! {
 wrong_message! {
     cuts_the_new_value, ValueCut, 6, |right, message, out, guest| {
         match right.message(message, out, guest) {
-            (Answer::Handled { count, signal: Signal::Resume { vcpu, action, value } }, error) => {
+            (Answer::Handled { count, signal: Signal::Resume { vcpu, action, value }, feed }, error) => {
                 let value = value & 0xFFFF_FFFF;
-                (Answer::Handled { count, signal: Signal::Resume { vcpu, action, value } }, error)
+                (Answer::Handled { count, signal: Signal::Resume { vcpu, action, value }, feed }, error)
             }
             result => result,
         }
@@ -333,9 +336,7 @@ wrong_message! {
 wrong_message! {
     forgets_the_resume_of_a_hypercall, ResumeLost, 5, |right, message, out, guest| {
         match right.message(message, out, guest) {
-            (Answer::Handled { count, signal: Signal::Resume { .. } }, error) if message[17] == 3 => {
-                (Answer::Handled { count, signal: Signal::None }, error)
-            }
+            (Answer::Handled { signal: Signal::Resume { .. }, .. }, error) if message[17] == 3 => (NOTHING, error),
             result => result,
         }
     }
@@ -566,7 +567,7 @@ macro_rules! wrong_entry {
     };
 }
 
-const NOTHING: Answer = Answer::Handled { count: 0, signal: Signal::None };
+const NOTHING: Answer = handled(0);
 
 wrong_entry! {
     /// An entry is handled while its vCPU waits.
@@ -639,10 +640,308 @@ wrong_entry! {
 }
 
 wrong_entry! {
-    /// A page fault event is taken, as it is not yet.
-    takes_a_page_fault, PageFault, 2, |right, entry, out| match entry.of(right, out) {
-        Answer::BadState if entry.event == 10 && entry.own.len() == 24 && entry.state.len() == 536 => NOTHING,
-        answer => answer,
+    /// A page fault is not taken.
+    refuses_a_page_fault, NoFaults, 2, |right, entry, out| match entry.event {
+        10 => Entry { event: 1, ..*entry }.of(right, out),
+        _ => entry.of(right, out),
+    }
+}
+
+/// An entry; where it offers a page fault, what comes of it with this access of its page, which then stands as it did. The bytes that
+/// are written are those lent.
+fn with_page(right: &mut Plain, entry: &Entry, out: &mut [u8], fault: PageFault, access: u8) -> Answer {
+    let stood = right.0.access(fault.view.into(), fault.page());
+    let set = |right: &mut Plain, access: u8| {
+        let data = guard(fault.view, fault.page(), access);
+        let message = [&[13, 0, 24, 0, 0, 0, 0, 0], &data[..]].concat();
+        right.message(&message, &mut [0; 4112], &mut [])
+    };
+    // not where the message closes, or has an error
+    let (Answer::Handled { count: 16, .. }, None) = set(&mut right.clone(), access) else { return entry.of(right, out) };
+    set(right, access);
+    let answer = Entry { own: &fault.bytes([0; 5]), ..*entry }.of(right, out);
+    set(right, stood);
+    if let (Answer::Handled { count: 576, .. }, Some(own)) = (answer, out.get_mut(552..576)) {
+        own.copy_from_slice(entry.own);
+    }
+    answer
+}
+
+/// The page fault that an entry offers with as many bytes as it has.
+fn offered(entry: &Entry) -> Option<PageFault> {
+    PageFault::of(entry.own).filter(|_| entry.event == 10)
+}
+
+wrong_entry! {
+    /// A fault on a page at rwx is sent.
+    sends_a_fault_of_a_free_page, FreePage, 4, |right, entry, out| match offered(entry) {
+        Some(fault) if right.0.access(fault.view.into(), fault.page()) == 7 => with_page(right, entry, out, fault, 1),
+        _ => entry.of(right, out),
+    }
+}
+
+wrong_entry! {
+    /// The view that the bytes name is not looked at.
+    takes_every_view_for_view_0, ViewZero, 5, |right, entry, out| match offered(entry) {
+        Some(fault) if right.0.access(0, fault.page()) == 7 => with_page(right, entry, out, fault, 7),
+        _ => entry.of(right, out),
+    }
+}
+
+wrong_entry! {
+    /// The page has to forbid the access that the bytes tell.
+    compares_the_access, AccessGranted, 5, |right, entry, out| match offered(entry) {
+        Some(fault) if fault.access & !right.0.access(fault.view.into(), fault.page()) == 0 => with_page(right, entry, out, fault, 7),
+        _ => entry.of(right, out),
+    }
+}
+
+wrong_entry! {
+    /// A view not below the count is refused.
+    refuses_a_view_that_is_not_there, ViewRefused, 2, |right, entry, out| match (entry.of(&mut right.clone(), &mut out.to_vec()), offered(entry)) {
+        (Answer::Handled { .. }, Some(fault)) if u32::from(fault.view) >= right.0.settings().views => Answer::BadState,
+        _ => entry.of(right, out),
+    }
+}
+
+/// A way to be wrong about the reply to a page fault: what is answered, by the fault, the reply's action and context, the right answer
+/// and how much guest memory is lent.
+type WrongReply = fn(&PageFault, u8, &Context, Answer, usize) -> Answer;
+
+/// Wrong about such replies, which it knows the faults of.
+struct WrongReplies(BTreeMap<u32, PageFault>, WrongReply);
+
+impl Fault for WrongReplies {
+    fn enter(&mut self, right: &mut Plain, entry: &Entry, out: &mut [u8]) -> Answer {
+        let answer = entry.of(right, out);
+        if let (Answer::Handled { count: 576, .. }, Some(fault)) = (answer, offered(entry)) {
+            self.0.insert(entry.vcpu, fault);
+        }
+        answer
+    }
+
+    fn message(&mut self, right: &mut Plain, message: &[u8], out: &mut [u8], guest: &mut [u8]) -> (Answer, Option<i32>) {
+        let (answer, error) = right.message(message, out, guest);
+        match (message, Context::of(message.get(8..).unwrap_or_default())) {
+            ([16, 0, ..], Some(context)) if matches!(answer.number(), 0 | 12) => {
+                let fault = self.0.remove(&u32::from(message[8])).expect("it was sent");
+                ((self.1)(&fault, message[16], &context, answer, guest.len()), error)
+            }
+            _ => (answer, error),
+        }
+    }
+}
+
+/// A fault in the replies to page faults alone.
+macro_rules! wrong_reply {
+    ($(#[$doc:meta])* $test:ident, $most:literal in $quota:ident,
+        |$fault:ident, $action:ident, $context:ident, $answer:ident, $guest:ident| $body:expr) => {
+        $(#[$doc])*
+        #[test]
+        fn $test() {
+            let failure = found_within($quota, $most, || {
+                Box::new(WrongReplies(BTreeMap::new(), |$fault, $action, $context, $answer, $guest| $body))
+            });
+            assert_eq!((failure.mismatch.word, failure.mismatch.id), ("message", 16));
+        }
+    };
+}
+
+/// The answer with other bytes for the instruction.
+fn fed(answer: Answer, feed: Feed) -> Answer {
+    match answer {
+        Answer::Handled { signal, .. } | Answer::NoPage { signal } => Answer::Handled { count: 0, signal, feed },
+        _ => answer,
+    }
+}
+
+/// What a reply supplies from a place on.
+fn supplied(answer: Answer, from: u64, size: u32) -> Answer {
+    fed(answer, Feed::Supplied { at: 40 + from as usize, length: size as usize - from as usize })
+}
+
+fn has_feed(answer: Answer) -> bool {
+    !matches!(answer, Answer::Handled { feed: Feed::None, .. })
+}
+
+wrong_reply! {
+    /// A gva at the range's end is taken to be in it.
+    takes_a_gva_at_the_end, 6 in QUOTA, |fault, _action, context, answer, _guest| {
+        let is_end = fault.gva.checked_sub(context.address) == Some(context.size.into()) && context.size > 0;
+        match is_end && has_feed(answer) {
+            true => supplied(answer, context.size.into(), context.size),
+            false => answer,
+        }
+    }
+}
+
+wrong_reply! {
+    /// A gva right before the range is taken to be in it.
+    takes_a_gva_before_the_range, 6 in QUOTA, |fault, _action, context, answer, _guest| {
+        match fault.gva.checked_add(1) == Some(context.address) && context.size > 0 && has_feed(answer) {
+            true => supplied(answer, 0, context.size),
+            false => answer,
+        }
+    }
+}
+
+wrong_reply! {
+    /// The range's end is a sum that wraps.
+    wraps_the_end_of_a_range, 6 in QUOTA, |fault, _action, context, answer, _guest| {
+        let from = fault.gva.wrapping_sub(context.address);
+        match from < context.size.into() && fault.gva < context.address && has_feed(answer) {
+            true => supplied(answer, from, context.size),
+            false => answer,
+        }
+    }
+}
+
+wrong_reply! {
+    /// A gva of all ones is taken for an address.
+    knows_an_unknown_gva, 6 in QUOTA, |fault, _action, context, answer, _guest| {
+        let from = fault.gva.wrapping_sub(context.address);
+        match fault.gva == u64::MAX && from < context.size.into() && has_feed(answer) {
+            true => supplied(answer, from, context.size),
+            false => answer,
+        }
+    }
+}
+
+wrong_reply! {
+    /// The supplied data come from their start on.
+    supplies_from_the_start, 6 in QUOTA, |_fault, _action, context, answer, _guest| match answer {
+        Answer::Handled { feed: Feed::Supplied { .. }, .. } => supplied(answer, 0, context.size),
+        _ => answer,
+    }
+}
+
+wrong_reply! {
+    /// The supplied data end with their room.
+    supplies_all_256_bytes, 6 in QUOTA, |_fault, _action, _context, answer, _guest| match answer {
+        Answer::Handled { feed: Feed::Supplied { at, .. }, .. } => fed(answer, Feed::Supplied { at, length: 8 + 288 - at }),
+        _ => answer,
+    }
+}
+
+wrong_reply! {
+    /// The place of the supplied data is told without the header.
+    counts_supplied_data_without_the_header, 6 in QUOTA, |_fault, _action, _context, answer, _guest| match answer {
+        Answer::Handled { feed: Feed::Supplied { at, length }, .. } => fed(answer, Feed::Supplied { at: at - 8, length }),
+        _ => answer,
+    }
+}
+
+wrong_reply! {
+    /// All of the page, and not from the gpa on.
+    feeds_a_page_from_its_start, 6 in QUOTA, |_fault, _action, _context, answer, _guest| match answer {
+        Answer::Handled { feed: Feed::Page { at, .. }, .. } => fed(answer, Feed::Page { at: at & !0xFFF, length: 4096 }),
+        _ => answer,
+    }
+}
+
+wrong_reply! {
+    /// A page that the end of guest memory cuts is there as far as it goes.
+    feeds_a_cut_page, 6 in QUOTA, |fault, _action, _context, answer, guest| match answer {
+        Answer::NoPage { .. } if fault.gpa < guest as u64 => {
+            fed(answer, Feed::Page { at: fault.gpa as usize, length: guest - fault.gpa as usize })
+        }
+        _ => answer,
+    }
+}
+
+wrong_reply! {
+    /// A page that is not there is no matter.
+    answers_0_without_a_page, 6 in QUOTA, |_fault, _action, _context, answer, _guest| match answer {
+        Answer::NoPage { .. } => fed(answer, Feed::None),
+        _ => answer,
+    }
+}
+
+wrong_reply! {
+    /// A retry of a read needs the page.
+    answers_12_to_a_retry, 6 in QUOTA, |fault, action, _context, answer, guest| match answer {
+        Answer::Handled { signal, .. } if action == 1 && fault.is_read() && fault.page() >= guest as u64 >> 12 => Answer::NoPage { signal },
+        _ => answer,
+    }
+}
+
+wrong_reply! {
+    /// A write that is continued needs the page.
+    answers_12_to_a_write, 6 in QUOTA, |fault, action, _context, answer, guest| match answer {
+        Answer::Handled { signal, feed: Feed::None, .. } if action == 0 && !fault.is_read() && fault.page() >= guest as u64 >> 12 => {
+            Answer::NoPage { signal }
+        }
+        _ => answer,
+    }
+}
+
+wrong_reply! {
+    /// Of an access that is more than a read nothing is fed.
+    feeds_reads_alone, 6 in QUOTA, |fault, _action, _context, answer, _guest| match fault.access {
+        1 => answer,
+        _ => fed(answer, Feed::None),
+    }
+}
+
+wrong_reply! {
+    /// Under answer 12 nothing is signalled.
+    loses_the_resume_without_a_page, 6 in QUOTA, |_fault, _action, _context, answer, _guest| match answer {
+        Answer::NoPage { .. } => Answer::NoPage { signal: Signal::None },
+        _ => answer,
+    }
+}
+
+wrong_reply! {
+    /// The rep flag is not told.
+    forgets_the_rep_flag, 6 in QUOTA, |_fault, _action, _context, answer, _guest| match answer {
+        Answer::Handled { count, signal: Signal::Resume { vcpu, action, .. }, feed } => {
+            Answer::Handled { count, signal: Signal::Resume { vcpu, action, value: 0 }, feed }
+        }
+        _ => answer,
+    }
+}
+
+/// The message, and where it is a reply to a page fault, with a context changed.
+fn with_context(message: &[u8], change: impl Fn(&mut Context)) -> Vec<u8> {
+    match (message, Context::of(message.get(8..).unwrap_or_default())) {
+        ([16, 0, ..], Some(mut context)) => {
+            change(&mut context);
+            let vcpu = u16::from_le_bytes([message[8], message[9]]);
+            let data = fault_reply(vcpu, message[16], &context);
+            [&message[..24], &data[16..]].concat()
+        }
+        _ => message.to_vec(),
+    }
+}
+
+wrong_message! {
+    takes_a_context_of_257_bytes, Size257, 6 in PATIENCE, |right, message, out, guest| {
+        right.message(&with_context(message, |context| if context.size == 257 { context.size = 256 }), out, guest)
+    }
+}
+
+wrong_message! {
+    /// The size is cut to sixteen bits.
+    cuts_a_context_size, SizeCut, 6 in PATIENCE, |right, message, out, guest| {
+        right.message(&with_context(message, |context| context.size &= 0xFFFF), out, guest)
+    }
+}
+
+wrong_message! {
+    refuses_a_context_of_256_bytes, Size256, 6, |right, message, out, guest| {
+        right.message(&with_context(message, |context| if context.size == 256 { context.size = 257 }), out, guest)
+    }
+}
+
+wrong_message! {
+    takes_a_rep_flag_of_2, RepTwo, 6 in PATIENCE, |right, message, out, guest| {
+        right.message(&with_context(message, |context| if context.rep == 2 { context.rep = 1 }), out, guest)
+    }
+}
+
+wrong_message! {
+    takes_padding_of_a_context, ContextPadded, 6 in PATIENCE, |right, message, out, guest| {
+        right.message(&with_context(message, |context| context.padding = [0; 3]), out, guest)
     }
 }
 
@@ -1071,7 +1370,7 @@ wrong_list! {
 
 wrong_list! {
     takes_an_index_at_the_length, AtLength, "list_ready", |records, index, cr| match cr {
-        None if index == records.len() => Answer::Handled { count: 0, signal: Signal::None },
+        None if index == records.len() => handled(0),
         _ => right_list(records, index, cr),
     }
 }

@@ -3,7 +3,7 @@
 use super::{both, same, same_bytes, text_of, Lent, Pair, Runner, Unlike, BLANK};
 use crate::batch::messages;
 use crate::{Call, Filter, Lookup};
-use reference::{Answer, Batch, Signal};
+use reference::{Answer, Batch, Feed, Signal};
 use std::panic::{catch_unwind, AssertUnwindSafe};
 
 /// A message of a batch, as it is taken alone: its answer, and what it writes.
@@ -64,12 +64,14 @@ impl<L: Filter, R: Filter> Runner<L, R> {
         same("count of bytes", &left.count, &right.count)?;
         same("count of signals", &left.listed, &right.listed)?;
         same("resume", &left.resume, &right.resume)?;
+        same("feed", &left.feed, &right.feed)?;
         same("answer in full", &left.answer, &right.answer)?;
         (self.written, self.listed) = (left.count, left.listed);
         self.same_output(*out)?;
         same_places("signals", &self.left.signals, &self.right.signals)?;
         same_places("signals past the count", &self.left.signals[left.listed..], &self.signals[left.listed..])?;
         same_bytes("guest memory", &self.left.guest, &self.right.guest)?;
+        self.same_fed(left.feed, bytes, *guest)?;
         self.batch = Some(left);
         if let Some(copy) = copy {
             let singly = catch_unwind(AssertUnwindSafe(|| self.same_singly(pair, copy, call, room, &left)));
@@ -86,10 +88,10 @@ impl<L: Filter, R: Filter> Runner<L, R> {
     fn same_singly(&mut self, pair: &Pair<L, R>, mut copy: L, call: &Call, room: Room, batch: &Batch) -> Result<(), Unlike> {
         let Call::Batch { bytes, .. } = call else { unreachable!("a batch") };
         let lent = &mut self.single;
-        let (mut used, mut count, mut listed, mut resume) = (0, 0, 0, Signal::None);
+        let (mut used, mut count, mut listed, mut resume, mut feed) = (0, 0, 0, Signal::None, Feed::None);
         let mut answers = Vec::new();
-        let mut is_closing = false;
-        let is_refused = !matches!(batch.answer, Answer::Handled { .. } | Answer::Closing);
+        let (mut is_closing, mut number) = (false, 0);
+        let is_refused = !matches!(batch.answer, Answer::Handled { .. } | Answer::Closing | Answer::NoPage { .. });
         let mut all = messages(bytes);
         let why = loop {
             if used >= batch.used {
@@ -103,12 +105,19 @@ impl<L: Filter, R: Filter> Runner<L, R> {
                 break false;
             }
             let message = all.next().expect("there are bytes of it");
+            let start = used;
             used += message.len();
             let (answer, _) = copy.message(message, &mut lent.out[count..room.out], &mut lent.guest[..room.guest]);
             answers.push((message, answer, count));
+            number = answer.number();
             let code = match answer {
-                Answer::Handled { count: written, signal } => {
+                Answer::Handled { count: written, signal, feed: fed } => {
                     count += written;
+                    // a part of the message is one of the input
+                    feed = match fed {
+                        Feed::Supplied { at, length } => Feed::Supplied { at: start + at, length },
+                        other => other,
+                    };
                     match signal {
                         Signal::None => continue,
                         Signal::Kick { vcpu, wait: false } => 256 + 2 * u32::from(vcpu),
@@ -120,6 +129,10 @@ impl<L: Filter, R: Filter> Runner<L, R> {
                         }
                     }
                 }
+                Answer::NoPage { signal } => {
+                    resume = signal;
+                    continue;
+                }
                 Answer::Closing => {
                     is_closing = true;
                     continue;
@@ -130,7 +143,7 @@ impl<L: Filter, R: Filter> Runner<L, R> {
             lent.signals[listed] = code;
             listed += 1;
         };
-        let singly = (used, count, listed, resume, is_closing);
+        let singly = (used, count, listed, resume, number);
         let is_same_output = lent.out[..room.out] == self.left.out[..room.out];
         let is_same_list = lent.signals == self.left.signals;
         let is_same_guest = lent.guest == self.left.guest;
@@ -147,8 +160,10 @@ impl<L: Filter, R: Filter> Runner<L, R> {
         lent.signals[..listed].copy_from_slice(&self.signals[..listed]);
 
         same("end singly", &why, &true)?;
-        let together = (batch.used, batch.count, batch.listed, batch.resume, batch.answer == Answer::Closing);
+        let together =
+            (batch.used, batch.count, batch.listed, batch.resume, if is_refused { 0 } else { batch.answer.number() });
         same("counts singly", &together, &singly)?;
+        same("feed singly", &batch.feed, &feed)?;
         same("output singly", &is_same_output, &true)?;
         same("signals singly", &is_same_list, &true)?;
         same("guest memory singly", &is_same_guest, &true)?;
