@@ -1,6 +1,7 @@
 /* A host in C that takes messages as they come off a connection, several at once. The tool switches replies off, guards a hundred pages
  * and switches replies on in one write; its second write comes in two parts, its third resumes a vCPU, its fourth pauses a vCPU and then
- * reads guest memory, and its last one crashes that vCPU and is cut, while another waits. */
+ * reads guest memory, its fifth asks about reads of a page and its sixth says what a vCPU reads there, and its last one crashes a vCPU and is
+ * cut, while another waits. */
 #include <stdio.h>
 #include <stdlib.h>
 #include <string.h>
@@ -33,10 +34,10 @@ static void kick(uint32_t vcpu, bool wait) { printf("vCPU %u is out%s\n", vcpu, 
 
 /* The vCPU is about to enter the guest, with an event that it offers, or 0; one that is to be crashed never is. Answer 2: there is no tool
  * any more, and it runs. */
-static void enter(uint32_t vcpu, uint32_t event) {
+static void enter(uint32_t vcpu, uint32_t event, const void *own, size_t own_size) {
     struct semblurick_result r;
     if (crashed[vcpu]) return;
-    uint32_t answer = semblurick_enter_event(&guest, vcpu, state, sizeof state, event, NULL, 0, semblurick_output_of(out, sizeof out), &r);
+    uint32_t answer = semblurick_enter_event(&guest, vcpu, state, sizeof state, event, own, own_size, semblurick_output_of(out, sizeof out), &r);
     printf("vCPU %u enters: answer %u, %llu bytes\n", vcpu, answer, (unsigned long long)r.count);
     send_to_tool(r.count);
 }
@@ -81,6 +82,15 @@ static void program(const uint8_t *used, size_t size) {
     }
 }
 
+/* The vCPU goes on from its event; examples/host.c has more of what it may do then. From a read that faulted it is fed: by the tool, with
+ * bytes of the input, or from memory; with answer 12 there is no memory, and a real host asks the device that is there. */
+static void go_on(uint32_t answer, const struct semblurick_batch_result *r, const uint8_t *fed) {
+    printf("vCPU %llu goes on from its event", (unsigned long long)r->vcpu);
+    if (fed) printf(", and reads '%.*s' of %s", (int)r->length, (const char *)fed, r->source == SEMBLURICK_FED_MESSAGE ? "the input" : "memory");
+    if (answer == SEMBLURICK_NO_PAGE) printf(", and reads from a device");
+    printf("\n");
+}
+
 /* One batch. Gives how many bytes it used. */
 static size_t take(const uint8_t *input, size_t size) {
     struct semblurick_batch_result r;
@@ -89,7 +99,7 @@ static size_t take(const uint8_t *input, size_t size) {
     uint32_t answer = semblurick_batch(&guest, input, size, semblurick_output_of(out, sizeof out), semblurick_signals_of(codes, 16),
                                        semblurick_memory_of(memory, sizeof memory), &r);
     printf("batch of %zu bytes: answer %u, %llu used, %llu to send\n", size, answer, (unsigned long long)r.used, (unsigned long long)r.count);
-    if (answer > SEMBLURICK_CLOSING) fail("batch", answer);
+    if (answer > SEMBLURICK_CLOSING && answer != SEMBLURICK_NO_PAGE) fail("batch", answer);
 
     /* what the tool reads is so by then: first the hardware, then the vCPUs that it wants out, then the bytes */
     if (answer == SEMBLURICK_CLOSING) {
@@ -109,11 +119,11 @@ static size_t take(const uint8_t *input, size_t size) {
     if (answer == SEMBLURICK_CLOSING) printf("the connection ends\n");
 
     /* last, and before the rest of the input, the vCPUs that go on, which may write their next event, here into the same output */
-    if (r.signal == SEMBLURICK_RESUME) printf("vCPU %llu goes on from its event\n", (unsigned long long)r.vcpu);
+    if (r.signal == SEMBLURICK_RESUME) go_on(answer, &r, semblurick_batch_fed(input, semblurick_memory_of(memory, sizeof memory), &r));
     for (uint32_t v = 0; v < VCPUS; v++) /* by the resume; from a pause without a signal; with answer 1 all, as if there were no tool */
-        if (waited[v] && !semblurick_awaited(&guest, v)) enter(v, 0);
+        if (waited[v] && !semblurick_awaited(&guest, v)) enter(v, 0, NULL, 0);
     for (size_t i = 0; i < r.listed; i++)
-        if (semblurick_listed_signal(codes[i]) == SEMBLURICK_KICK) enter(semblurick_listed_vcpu(codes[i]), 0);
+        if (semblurick_listed_signal(codes[i]) == SEMBLURICK_KICK) enter(semblurick_listed_vcpu(codes[i]), 0, NULL, 0);
     return r.used;
 }
 
@@ -157,16 +167,16 @@ static void say_replies(uint32_t seq, uint8_t enable) {
     say(KVMI_VM_CONTROL_CMD_RESPONSE, seq, &its, sizeof its);
 }
 
-/* A hundred pages to r-x. */
-static void say_guards(uint32_t seq) {
+/* A hundred pages, or fewer, from one on. */
+static void say_guards(uint32_t seq, unsigned first, uint16_t pages, uint8_t access) {
     struct { struct kvmi_vm_set_page_access set; struct kvmi_page_access_entry entry[GUARDED]; } its;
     memset(&its, 0, sizeof its);
-    its.set.count = GUARDED;
-    for (unsigned i = 0; i < GUARDED; i++) {
-        its.entry[i].gpa = (uint64_t)(FIRST + i) * SEMBLURICK_PAGE_BYTES;
-        its.entry[i].access = KVMI_PAGE_ACCESS_R | KVMI_PAGE_ACCESS_X;
+    its.set.count = pages;
+    for (unsigned i = 0; i < pages; i++) {
+        its.entry[i].gpa = (uint64_t)(first + i) * SEMBLURICK_PAGE_BYTES;
+        its.entry[i].access = access;
     }
-    say(KVMI_VM_SET_PAGE_ACCESS, seq, &its, sizeof its);
+    say(KVMI_VM_SET_PAGE_ACCESS, seq, &its, sizeof its.set + pages * sizeof its.entry[0]);
 }
 
 static void say_event_on(uint32_t seq, uint16_t vcpu, uint16_t event) {
@@ -190,6 +200,16 @@ static void say_reply(uint32_t seq, uint16_t vcpu, uint8_t action, uint8_t event
     say(KVMI_EVENT_REPLY, seq, &r, sizeof r);
 }
 
+/* To a page fault: the vCPU continues, and reads this text from the address on. */
+static void say_supplied(uint32_t seq, uint16_t vcpu, uint64_t address, const char *text) {
+    struct { struct kvmi_vcpu_hdr of; struct kvmi_event_reply its; struct kvmi_event_pf_reply context; } r;
+    memset(&r, 0, sizeof r);
+    r.of.vcpu = vcpu, r.its.action = KVMI_EVENT_ACTION_CONTINUE, r.its.event = KVMI_EVENT_PF;
+    r.context.ctx_addr = address, r.context.ctx_size = (uint32_t)strlen(text);
+    memcpy(r.context.ctx_data, text, r.context.ctx_size);
+    say(KVMI_EVENT_REPLY, seq, &r, sizeof r);
+}
+
 int main(void) {
     struct semblurick_settings settings = SEMBLURICK_SETTINGS;
     settings.vcpus = VCPUS;
@@ -201,7 +221,7 @@ int main(void) {
     memset(rights, RWX, sizeof rights);
 
     say_replies(1, 0);
-    say_guards(2);
+    say_guards(2, FIRST, GUARDED, KVMI_PAGE_ACCESS_R | KVMI_PAGE_ACCESS_X);
     say_replies(3, 1);
     receive(wire, wire_size, false);
     count();
@@ -214,7 +234,7 @@ int main(void) {
     receive(wire + 30, wire_size - 30, false);
 
     /* vCPU 0 executes XSETBV, and waits; then the tool answers both events */
-    enter(0, KVMI_EVENT_XSETBV);
+    enter(0, KVMI_EVENT_XSETBV, NULL, 0);
     wire_size = 0;
     say_reply(0, 1, KVMI_EVENT_ACTION_CONTINUE, KVMI_EVENT_PAUSE_VCPU);
     say_reply(1, 0, KVMI_EVENT_ACTION_CONTINUE, KVMI_EVENT_XSETBV);
@@ -227,11 +247,24 @@ int main(void) {
     say_read(8, (uint64_t)FIRST * SEMBLURICK_PAGE_BYTES, 64);
     receive(wire, wire_size, false);
 
+    /* the tool guards a page against all access, and vCPU 0 reads there, at 0x405004: it sees what the tool says, from its address on */
+    wire_size = 0;
+    say_event_on(9, 0, KVMI_EVENT_PF);
+    say_guards(10, 5, 1, 0);
+    receive(wire, wire_size, false);
+    struct kvmi_event_pf fault = {0x405004, 0x5004, KVMI_PAGE_ACCESS_R, 0, 0, 0};
+    enter(0, KVMI_EVENT_PF, &fault, sizeof fault);
+    wire_size = 0;
+    say(KVMI_GET_VERSION, 11, wire, 0);
+    say_supplied(3, 0, 0x405000, "the tool's words");
+    say(KVMI_GET_VERSION, 12, wire, 0);
+    receive(wire, wire_size, false);
+
     /* vCPU 0 executes XSETBV once more, and waits; the tool crashes vCPU 1, and is gone in the middle of the next message */
-    enter(0, KVMI_EVENT_XSETBV);
+    enter(0, KVMI_EVENT_XSETBV, NULL, 0);
     wire_size = 0;
     say_reply(2, 1, KVMI_EVENT_ACTION_CRASH, KVMI_EVENT_PAUSE_VCPU);
-    say(KVMI_GET_VERSION, 9, wire, 0);
+    say(KVMI_GET_VERSION, 13, wire, 0);
     receive(wire, wire_size - 5, true);
     count();
     return 0;

@@ -1,12 +1,13 @@
 /* A host in C: takes the messages that stand end to end in a file, answers them, programs what they switch, lets a kicked vCPU enter
- * the guest, asks the tool about the guest's writes to CR3, and hands the session over by an image. Usage: host FILE */
+ * the guest, asks the tool about the guest's writes to CR3 and its reads of guarded pages, and hands the session over by an image. Usage:
+ * host FILE */
 #include <stdio.h>
 #include <stdlib.h>
 #include <string.h>
 
 #include "semblurick.h"
 
-enum { VCPUS = 2, VIEWS = 1, EVENTS = 16, CRS = 5, MSRS = 0x2000 };
+enum { VCPUS = 2, VIEWS = 1, EVENTS = 16, CRS = 5, MSRS = 0x2000, READ = 16 };
 
 /* What this host has programmed, brought up to date by lookups; a real one writes page tables and a VMCS here. */
 struct hardware {
@@ -22,6 +23,9 @@ struct hardware {
 static struct semblurick here, there;             /* this host's session, and the new host's */
 static struct hardware programmed, stated;        /* what stands in hardware, and what an image states */
 static uint64_t cr3[VCPUS], written[VCPUS];       /* what CR3 holds, and what the guest wrote last: another value while the tool is asked */
+static bool reads[VCPUS];                         /* whether a read waits, while the tool is asked */
+static uint64_t read_gpa[VCPUS];                  /* where it is */
+static size_t next_read;                          /* of those that vCPU 0 makes */
 static uint8_t msg[SEMBLURICK_MESSAGE_MAX], out[SEMBLURICK_MESSAGE_OUT], memory[4 * SEMBLURICK_PAGE_BYTES], image[2][SEMBLURICK_IMAGE_MAX];
 
 static void fail(const char *what, uint32_t answer) {
@@ -42,6 +46,12 @@ static void set_page(struct hardware *h, uint32_t view, uint64_t page, uint32_t 
     if (is_there && access == 7) memmove(at, at + 1, (--h->pages - i) * sizeof *at);
     if (!is_there && access != 7) memmove(at + 1, at, (h->pages++ - i) * sizeof *at);
     if (access != 7) at->view = view, at->page = page, at->access = access;
+}
+
+static uint32_t access_of(const struct hardware *h, uint32_t view, uint64_t page) {
+    for (size_t i = 0; i < h->pages; i++)
+        if (h->page[i].view == view && h->page[i].page == page) return h->page[i].access;
+    return 7;
 }
 
 static void set_msr(struct hardware *h, uint32_t vcpu, uint32_t msr, bool on) {
@@ -216,11 +226,70 @@ static void write_cr3(uint32_t vcpu, uint64_t value) {
     if (semblurick_awaited(&here, vcpu) != KVMI_EVENT_CR) set_cr3(vcpu, value); /* what was sent, if anything, is a pause */
 }
 
-/* What the guest does meanwhile: after two of the messages vCPU 0 writes CR3, unless it waits. */
+/* The instruction reads READ bytes, of those that it is fed; where these are fewer, a real host reads the rest at the next address, as any
+ * other. */
+static void read_from(uint32_t vcpu, const char *where, const uint8_t *bytes, uint64_t length) {
+    reads[vcpu] = false;
+    int count = length < READ ? (int)length : READ;
+    printf("vCPU %u reads '%.*s' from %s\n", vcpu, count, (const char *)bytes, where);
+}
+
+/* As if there were no tool: what is no memory is a device. */
+static void read_as_ever(uint32_t vcpu) {
+    static const uint8_t device[] = "a device's bytes";
+    uint64_t gpa = read_gpa[vcpu];
+    if (gpa < sizeof memory) {
+        read_from(vcpu, "memory", memory + gpa, SEMBLURICK_PAGE_BYTES - gpa % SEMBLURICK_PAGE_BYTES);
+    } else {
+        read_from(vcpu, "a device", device, sizeof device - 1);
+    }
+}
+
+/* The guest reads. Where a guard is in its way the tool is asked, if it wants to be, and the vCPU waits; else the read is carried out. */
+static void read_memory(uint32_t vcpu, uint64_t gva, uint64_t gpa) {
+    read_gpa[vcpu] = gpa;
+    if (access_of(&programmed, 0, gpa / SEMBLURICK_PAGE_BYTES) & KVMI_PAGE_ACCESS_R) {
+        read_as_ever(vcpu); /* without a fault, the host does not even see it */
+        return;
+    }
+    struct kvmi_event_pf event = {gva, gpa, KVMI_PAGE_ACCESS_R, 0, 0, 0};
+    struct semblurick_result r;
+    uint32_t answer = semblurick_enter_event(&here, vcpu, state, sizeof state, KVMI_EVENT_PF, &event, sizeof event,
+                                             semblurick_output_of(out, sizeof out), &r);
+    printf("vCPU %u reads at %#llx: answer %u, %llu bytes\n", vcpu, (unsigned long long)gva, answer, (unsigned long long)r.count);
+    if (answer != SEMBLURICK_HANDLED && answer != SEMBLURICK_CLOSED) fail("read", answer);
+    send_to_tool(r.count);
+    reads[vcpu] = semblurick_awaited(&here, vcpu) == KVMI_EVENT_PF;
+    if (!reads[vcpu]) read_as_ever(vcpu); /* what was sent, if anything, is a pause */
+}
+
+/* The tool lets a vCPU go on from its page fault. What it reads then is supplied by the tool, or stands in memory; with answer 12 there is
+ * no memory. To retry is to execute the instruction again, which faults or not by the guards of that time. */
+static void resume_read(uint32_t answer, const struct semblurick_result *r) {
+    uint32_t vcpu = (uint32_t)r->vcpu;
+    const uint8_t *bytes = semblurick_fed(msg, semblurick_memory_of(memory, sizeof memory), r);
+    if (r->action == KVMI_EVENT_ACTION_RETRY) {
+        reads[vcpu] = false;
+        next_read--;
+    } else if (answer == SEMBLURICK_NO_PAGE) {
+        read_as_ever(vcpu);
+    } else {
+        read_from(vcpu, r->source == SEMBLURICK_FED_MESSAGE ? "the tool" : "memory", bytes, r->length);
+    }
+}
+
+/* What the guest does meanwhile: after two of the messages vCPU 0 writes CR3, and once its page faults are on it reads, an address after
+ * the other, unless it waits. */
 static void run_guest(uint16_t id) {
+    static const uint64_t to_read[] = {0x2FF0, 0x2FF0, 0x5000, 0x2FF0};
     if (semblurick_awaited(&here, 0)) return;
     if (id == KVMI_GET_VERSION) write_cr3(0, 0x1000);
     if (id == KVMI_VCPU_CONTROL_CR) write_cr3(0, 0x2000);
+    bool begins = id == KVMI_VCPU_CONTROL_EVENTS && semblurick_vcpu_event(&here, 0, KVMI_EVENT_PF);
+    if ((begins || (id == KVMI_EVENT_REPLY && next_read > 0)) && next_read < sizeof to_read / sizeof to_read[0]) {
+        uint64_t gpa = to_read[next_read++];
+        read_memory(0, 0x400000 + gpa, gpa);
+    }
 }
 
 static void take(size_t size) {
@@ -230,10 +299,12 @@ static void take(size_t size) {
     printf("message %u: answer %u, %llu bytes\n", msg[0], answer, (unsigned long long)r.count);
     if (answer == SEMBLURICK_CLOSING) {
         program_all(&programmed, &here); /* everything is off */
-        for (uint32_t v = 0; v < VCPUS; v++)
-            if (written[v] != cr3[v]) set_cr3(v, written[v]); /* no reply comes any more */
+        for (uint32_t v = 0; v < VCPUS; v++) { /* no reply comes any more */
+            if (written[v] != cr3[v]) set_cr3(v, written[v]);
+            if (reads[v]) read_as_ever(v);
+        }
     }
-    if (answer != SEMBLURICK_HANDLED) return;
+    if (answer != SEMBLURICK_HANDLED && answer != SEMBLURICK_NO_PAGE) return;
     program(&programmed, &here, size);
     /* the reply says that it is done, and so it is: it goes out last, after the vCPU if the tool waits for that */
     if (r.signal == SEMBLURICK_KICK) kick(r.vcpu, r.wait != 0);
@@ -249,10 +320,12 @@ static void take(size_t size) {
         break;
     case SEMBLURICK_CRASH:
         printf("vCPU %llu is to be crashed\n", (unsigned long long)r.vcpu);
-        written[r.vcpu] = cr3[r.vcpu]; /* the write that waited is dropped */
+        written[r.vcpu] = cr3[r.vcpu]; /* the write or the read that waited is dropped */
+        reads[r.vcpu] = false;
         break;
     case SEMBLURICK_RESUME:
-        set_cr3((uint32_t)r.vcpu, r.value); /* this host asks about nothing else */
+        if (reads[r.vcpu]) resume_read(answer, &r);
+        else set_cr3((uint32_t)r.vcpu, r.value); /* this host asks about nothing else */
         enter((uint32_t)r.vcpu);
         break;
     }

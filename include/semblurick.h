@@ -16,11 +16,12 @@
  *                                     semblurick_memory_of(memory, memory_size), &r);
  *         answer 0: the switches and pages that it names, by lookups, to hardware; where r.signal is a kick, get vCPU r.vcpu out
  *             of the guest, with r.wait set before anything is sent; send the first r.count bytes of out to the tool; where
- *             r.signal is a resume, let vCPU r.vcpu go on
+ *             r.signal is a resume, let vCPU r.vcpu go on, from a page fault with the bytes that semblurick_fed gives, if any
  *         answer 1: the session is closed; take every guard off the guest, let the vCPUs that wait go on, and end the connection
+ *         answer 12, only where page faults are offered: as answer 0, but there is no guest page for what vCPU r.vcpu reads
  *     or for several messages that came at once: semblurick_batch
- *     before a vCPU enters the guest: semblurick_enter; where it left it for what the tool may watch, a write to CR3 for one, before
- *     that is carried out: semblurick_enter_event
+ *     before a vCPU enters the guest: semblurick_enter; where it left it for what the tool may watch, a write to CR3 or to a guarded
+ *     page for one, before that is carried out: semblurick_enter_event
  *     to hand the guest to a new host: semblurick_image_write here, semblurick_image_read there
  *
  * What the host owes, and all that it owes: every pointer is to valid memory of the stated size and alignment, not null even where
@@ -36,14 +37,17 @@
 
 /* Grows by one where names are added. Each section, or a name itself, says since which version it is there. A name that is there
  * stays, means what it meant, and what compiled with it compiles again, but that the semblurick_raw_ functions may get more
- * arguments. Structs may get more members, but for the two results: compile with the header that came with the library.
- * Enums may get more values: a switch over one has a default. Sizes may grow: buffers are made by their names.
+ * arguments. Structs may get more members, and reserved words of the two results names: compile with the header that came with the
+ * library, and initialize no result by a list of its members. Enums may get more values: a switch over one has a default. Sizes may
+ * grow: buffers are made by their names.
  *
  * What a host that is compiled anew has to look at. Since 2: an entry's output takes 576 bytes. Since 3: access 4, execute only, is
  * refused unless the settings have execute_only, which SEMBLURICK_SETTINGS leaves 0: EINVAL in message 13, answer 9 to an image that
  * holds it. Before, it was taken. A host whose processor has execute-only pages (EPT; bit 0 of IA32_VMX_EPT_VPID_CAP) sets it to 1.
- * Since 4: nothing. */
-#define SEMBLURICK_VERSION 4
+ * Since 4: nothing. Since 5: nothing, unless it offers event 10, PF, which was answered 5 before. Then: answer 12 is no refusal, though
+ * it is above 1; a resume may come with bytes to feed the instruction with; and its reply is lent the guest's memory, since it asks how
+ * long that is. Who calls semblurick_raw_enter hands it the pages. */
+#define SEMBLURICK_VERSION 5
 
 #include <stdbool.h>
 #include <stddef.h>
@@ -84,7 +88,7 @@ enum {
     SEMBLURICK_PAUSE_LIMIT = 8,       /* pauses that can be queued for a vCPU */
     SEMBLURICK_HEADER_BYTES = 8,      /* a message's header */
     SEMBLURICK_MESSAGE_MAX = 65543,   /* the longest message that a header can state: 8 + 65,535 bytes */
-    SEMBLURICK_EVENT_MAX = 576,       /* the longest event, header included: that of a CR or an MSR (in version 1: 568) */
+    SEMBLURICK_EVENT_MAX = 576,       /* the longest event, header included: that of a CR, an MSR or a PF (in version 1: 568) */
     SEMBLURICK_MESSAGE_OUT = 4112,    /* the least output for a message, and for each message of a batch */
     SEMBLURICK_ENTRY_OUT = 576,       /* the least output for an entry, whatever it offers (in version 1: 552) */
     SEMBLURICK_STATE_BYTES = 536,     /* a vCPU's register block */
@@ -95,10 +99,12 @@ enum {
 
 /* ---- answers (since 1) */
 
-/* Every call is answered with one of these. From 2 on they are refusals: nothing changes in session, output, list or guest memory, but
- * that semblurick_fresh and semblurick_image_read then leave a closed session. */
+/* Every call is answered with one of these. From 2 on they are refusals, but for 12: nothing changes in session, output, list or guest
+ * memory, but that semblurick_fresh and semblurick_image_read then leave a closed session. 12 (since 5) is no refusal: the message was
+ * taken as under 0, and the vCPU that it resumes goes on; what 12 adds is that there are no bytes to feed it with. Only the reply to a PF
+ * event, and a batch that ends with one, can be answered so. */
 SEMBLURICK_U32_ENUM(semblurick_answer) {
-    SEMBLURICK_HANDLED = 0,        /* result: count, and signal with vcpu, and wait or action and value */
+    SEMBLURICK_HANDLED = 0,        /* result: count, and signal with vcpu, and wait or action and value; since 5 source, at and length */
     SEMBLURICK_CLOSING = 1,        /* the message broke a rule that closes the session; it wrote nothing, no event is awaited */
     SEMBLURICK_CLOSED = 2,         /* the session was closed */
     SEMBLURICK_SHORT_OUT = 3,      /* the output is too small */
@@ -111,6 +117,8 @@ SEMBLURICK_U32_ENUM(semblurick_answer) {
     SEMBLURICK_FORBIDDEN = 9,      /* the image wants what the settings lack (since 3 also execute_only, for access 4); result: offset */
     SEMBLURICK_BUSY = 10,          /* an event reply is awaited, so that there is no image */
     SEMBLURICK_NO_PLACE = 11,      /* since 4, semblurick_batch: the list of signals has no place */
+    SEMBLURICK_NO_PAGE = 12,       /* since 5, no refusal: taken, as under 0, but the guest page that the vCPU reads from does not exist;
+                                      result: signal, a resume, with vcpu, action and value */
     SEMBLURICK_NOT_APPLICABLE = 14 /* semblurick_list_cr: a CR other than 0, 3 and 4, or a record that is not ready */
 };
 SEMBLURICK_ASSERT(sizeof(enum semblurick_answer) == 4);
@@ -120,13 +128,22 @@ enum semblurick_signal {
     SEMBLURICK_NONE = 0,
     SEMBLURICK_KICK = 1,  /* get vcpu out of the guest: a pause is queued for it. With wait set, it is out before anything more is sent */
     SEMBLURICK_CRASH = 2, /* the tool asks that vcpu, and so the guest, be crashed; the session stays open */
-    SEMBLURICK_RESUME = 3 /* since 2: vcpu goes on from its event, by action and value (semblurick_enter_event); from a pause: none */
+    SEMBLURICK_RESUME = 3 /* since 2: vcpu goes on from its event, by action and value (semblurick_enter_event), since 5 from a PF also by
+                             what it is fed (semblurick_fed); from a pause: none */
 };
 
 /* The signals in the list of a batch (since 4): a number for each kick and each crash, which semblurick_listed_signal reads. */
 enum semblurick_listed {
     SEMBLURICK_LISTED_KICK = 256, /* + 2 * vcpu + wait: 256 to 287 */
     SEMBLURICK_LISTED_CRASH = 512 /* + vcpu: 512 to 527 */
+};
+
+/* Where the bytes are that an instruction reads, once the tool continues its page fault (since 5). They are a part of what was lent to
+ * the call, never an empty one; semblurick_fed and semblurick_batch_fed give a pointer to it. */
+enum semblurick_source {
+    SEMBLURICK_FED_NOTHING = 0, /* no bytes are wanted; or, with answer 12, there are none */
+    SEMBLURICK_FED_MESSAGE = 1, /* `length` bytes of the message, of a batch of the input, from byte `at` on: the tool supplied them */
+    SEMBLURICK_FED_GUEST = 2    /* `length` bytes of guest memory, from byte `at` on */
 };
 
 /* The values of an answer; what an answer has none of is 0. Every call that takes a result writes all of it. Its size is final:
@@ -138,10 +155,15 @@ struct semblurick_result {
     uint64_t vcpu;    /* of the signal */
     uint64_t wait;    /* of a kick: 1 or 0 */
     uint64_t action;  /* since 2, of a resume: 0 continue, 1 retry (enum kvmi_action) */
-    uint64_t value;   /* since 2, of a resume from a CR or an MSR event: what the register is to hold; from another: 0 */
-    uint64_t reserved[5];
+    uint64_t value;   /* since 2, of a resume from a CR or an MSR event: what the register is to hold; since 5, from a PF: rep_complete,
+                         0 or 1; from another: 0 */
+    uint64_t source;  /* since 5, of a resume from a PF: where the bytes are that the instruction reads (enum semblurick_source) */
+    uint64_t at;      /* the first of them */
+    uint64_t length;  /* how many: 0 exactly where source is */
+    uint64_t reserved[2];
 };
 SEMBLURICK_ASSERT(sizeof(struct semblurick_result) == 96);
+SEMBLURICK_ASSERT(offsetof(struct semblurick_result, source) == 56 && offsetof(struct semblurick_result, reserved) == 80);
 
 /* The values of a batch (since 4), likewise: what it has none of is 0, all of it is written, its size is final. */
 struct semblurick_batch_result {
@@ -152,11 +174,14 @@ struct semblurick_batch_result {
     uint64_t vcpu;    /* of the resume */
     uint64_t action;  /* of the resume, as in struct semblurick_result */
     uint64_t value;
-    uint64_t reserved[5];
+    uint64_t source;  /* since 5, likewise */
+    uint64_t at;      /* of the input where source is SEMBLURICK_FED_MESSAGE: from its beginning on, not from the message's */
+    uint64_t length;
+    uint64_t reserved[2];
 };
 SEMBLURICK_ASSERT(sizeof(struct semblurick_batch_result) == 96);
 SEMBLURICK_ASSERT(offsetof(struct semblurick_batch_result, listed) == 16 && offsetof(struct semblurick_batch_result, signal) == 24);
-SEMBLURICK_ASSERT(offsetof(struct semblurick_batch_result, reserved) == 56);
+SEMBLURICK_ASSERT(offsetof(struct semblurick_batch_result, source) == 56 && offsetof(struct semblurick_batch_result, reserved) == 80);
 
 /* ---- settings (since 1) */
 
@@ -245,9 +270,10 @@ struct semblurick_signals {
 };
 
 /* The guest's physical memory, one run of bytes from address 0; a page of 4,096 bytes exists if it lies wholly inside. Only
- * KVMI_VM_READ_PHYSICAL and KVMI_VM_WRITE_PHYSICAL touch it, the bytes that they name and no others; any other message may be lent
- * semblurick_no_memory(). No answer and no table depends on what stands in it: where vCPUs or devices write to it while a call runs,
- * the bytes that the tool reads or writes there may be torn, and nothing else. */
+ * KVMI_VM_READ_PHYSICAL and KVMI_VM_WRITE_PHYSICAL touch it, the bytes that they name and no others. The reply to a PF event (since 5; only
+ * where a host offers one) touches none of it, but asks how long it is: its answer names bytes there, for the host to read, or is 12 since
+ * the page is not inside. Any other message may be lent semblurick_no_memory(). No answer and no table depends on what stands in it: where
+ * vCPUs or devices write to it while a call runs, the bytes that the tool reads or writes there may be torn, and nothing else. */
 struct semblurick_memory {
     uint8_t *bytes;
     size_t size;
@@ -298,7 +324,8 @@ SEMBLURICK_CHECKED enum semblurick_answer semblurick_raw_batch(struct semblurick
                                                                uint8_t *memory, size_t memory_size,
                                                                struct semblurick_batch_result *result);
 SEMBLURICK_CHECKED enum semblurick_answer semblurick_raw_enter(struct semblurick_session *session, struct semblurick_vcpus *vcpus,
-                                                               uint32_t vcpu, const uint8_t *state, size_t state_size, uint32_t event,
+                                                               const struct semblurick_pages *pages, uint32_t vcpu,
+                                                               const uint8_t *state, size_t state_size, uint32_t event,
                                                                const uint8_t *own, size_t own_size, uint8_t *out, size_t out_size,
                                                                struct semblurick_result *result);
 SEMBLURICK_CHECKED enum semblurick_answer semblurick_raw_image_read(struct semblurick_session *session,
@@ -353,9 +380,11 @@ SEMBLURICK_CHECKED static inline enum semblurick_answer semblurick_ready(struct 
  *   0: the first result->count bytes of the output, if any, go to the tool: a reply, or an event where the tool turned replies off
  *      but for errors. A command that fails is answered 0, too: its reply has the error, or, with replies off, an event where the tool
  *      asked for one; it changed nothing (but that of message 13 with ENOMEM the entries that had room are applied). See
- *      result->signal.
+ *      result->signal, and where it resumes a vCPU from a PF semblurick_fed.
  *   1: the message is cut, has a size that its id has not, or breaks another rule that closes. The session is closed, its tables
- *      are empty, nothing was written. */
+ *      are empty, nothing was written.
+ *   12, since 5: as 0 with result->count 0 and a resume, from a PF. The vCPU is to be fed from a page that the guest memory which was
+ *      lent has not, and so there are no bytes: see semblurick_enter_event. */
 SEMBLURICK_CHECKED static inline enum semblurick_answer semblurick_message(struct semblurick *guest, const void *msg, size_t msg_size,
                                                                            struct semblurick_output out,
                                                                            struct semblurick_memory memory,
@@ -386,21 +415,23 @@ SEMBLURICK_CHECKED static inline enum semblurick_answer semblurick_message(struc
  *   - the input is used up: answer 0;
  *   - a message closes the session: answer 1. It is used, and the bytes behind it are not. What those before it wrote and signalled
  *     stays, and is counted;
- *   - a message resumes a vCPU from an event: answer 0, with result->signal SEMBLURICK_RESUME, vcpu, action and value. It is used, and
- *     takes no place in the list. The resume is followed before the rest is handed over;
+ *   - a message resumes a vCPU from an event: answer 0, with result->signal SEMBLURICK_RESUME, vcpu, action and value, and since 5, from
+ *     a PF, source, at and length; or answer 12, likewise, where semblurick_message answers that message so. It is used, and takes no
+ *     place in the list. The resume is followed before the rest is handed over;
  *   - before a message, whatever it would write or signal, less than SEMBLURICK_MESSAGE_OUT bytes of the output or no place of the list
  *     are left: answer 0.
- * With answer 0 and result->used below input_size, call again with the rest, once this is done with. A batch that is not refused and
- * has input always uses one message at least, so that the calls come to an end.
+ * With answer 0 or 12 and result->used below input_size, call again with the rest, once this is done with. A batch that is not refused
+ * and has input always uses one message at least, so that the calls come to an end.
  *
  * Kicks and crashes are listed, result->listed of them, and do not end it; semblurick_listed_signal, _vcpu and _wait read one. What a
  * host does, in this order:
  *   - the switches and pages that the used messages name, by lookups, to hardware. Answer 1: every guard off the guest;
  *   - what is listed: every vCPU that is kicked with wait is out of the guest before any of the bytes are sent;
  *   - the first result->count bytes of the output to the tool. Answer 1: then the connection ends;
- *   - last the resume, if there is one: a vCPU that goes on may write its next event, into the same output for one. From a pause a vCPU
- *     goes on without a signal: those that wait ask again by semblurick_enter. Answer 1: all that wait go on, with whatever event, as if
- *     there were no tool (semblurick_awaited tells which they are before the call, and of none after it).
+ *   - last the resume, if there is one: a vCPU that goes on may write its next event, into the same output for one. From a PF it goes on
+ *     with the bytes that semblurick_batch_fed gives, a part of the input or of guest memory: the input is not overwritten before. From
+ *     a pause a vCPU goes on without a signal: those that wait ask again by semblurick_enter. Answer 1: all that wait go on, with
+ *     whatever event, as if there were no tool (semblurick_awaited tells which they are before the call, and of none after it).
  * A vCPU that is to be crashed is not let into the guest any more. Past these counts output and list are untouched; refused, all of
  * both is. */
 SEMBLURICK_CHECKED static inline enum semblurick_answer semblurick_batch(struct semblurick *guest, const void *input, size_t input_size,
@@ -410,6 +441,26 @@ SEMBLURICK_CHECKED static inline enum semblurick_answer semblurick_batch(struct 
                                                                          struct semblurick_batch_result *result) {
     return semblurick_raw_batch(&guest->session, &guest->vcpus, &guest->pages, SEMBLURICK_CAST(const uint8_t *, input), input_size,
                                 out.bytes, out.size, signals.codes, signals.size, memory.bytes, memory.size, result);
+}
+
+/* Since 5. What the instruction of a vCPU reads that is resumed from a PF (semblurick_enter_event): result->length bytes of the message or
+ * of guest memory, as they were lent, and so to be read before the host uses the message's buffer again. Null where there are none. */
+static inline const uint8_t *semblurick_fed(const void *msg, struct semblurick_memory memory, const struct semblurick_result *result) {
+    switch (result->source) {
+    case SEMBLURICK_FED_MESSAGE: return SEMBLURICK_CAST(const uint8_t *, msg) + result->at;
+    case SEMBLURICK_FED_GUEST: return memory.bytes + result->at;
+    default: return SEMBLURICK_CAST(const uint8_t *, 0);
+    }
+}
+
+/* The same after a batch, of its input. */
+static inline const uint8_t *semblurick_batch_fed(const void *input, struct semblurick_memory memory,
+                                                  const struct semblurick_batch_result *result) {
+    switch (result->source) {
+    case SEMBLURICK_FED_MESSAGE: return SEMBLURICK_CAST(const uint8_t *, input) + result->at;
+    case SEMBLURICK_FED_GUEST: return memory.bytes + result->at;
+    default: return SEMBLURICK_CAST(const uint8_t *, 0);
+    }
 }
 
 /* Since 4. Of a number in a batch's list: SEMBLURICK_KICK or SEMBLURICK_CRASH; of any other number SEMBLURICK_NONE. */
@@ -441,7 +492,8 @@ SEMBLURICK_CHECKED static inline enum semblurick_answer semblurick_enter(struct 
                                                                          size_t state_size, struct semblurick_output out,
                                                                          struct semblurick_result *result) {
     const uint8_t *block = SEMBLURICK_CAST(const uint8_t *, state);
-    return semblurick_raw_enter(&guest->session, &guest->vcpus, vcpu, block, state_size, 0, block, 0, out.bytes, out.size, result);
+    return semblurick_raw_enter(&guest->session, &guest->vcpus, &guest->pages, vcpu, block, state_size, 0, block, 0, out.bytes, out.size,
+                                result);
 }
 
 /* Since 2. To be called in place of semblurick_enter, with register block and output as there, for a vCPU that left the guest for
@@ -456,16 +508,31 @@ SEMBLURICK_CHECKED static inline enum semblurick_answer semblurick_enter(struct 
  *     7 XSETBV         none                               carries it out
  *     8 DESCRIPTOR     struct kvmi_event_descriptor, 8    carries it out
  *     9 MSR            struct kvmi_event_msr, 24          loads result->value into the register
+ *     10 PF, since 5   struct kvmi_event_pf, 24           carries the access out despite the guard; a read is fed, see below
  *     11 SINGLESTEP    struct kvmi_event_singlestep, 8    lets the vCPU run on
  *     12 CREATE_VCPU   none                               lets the new vCPU run, ready or not
  *     14 CPUID         struct kvmi_event_cpuid, 16        carries it out
  *
  * An event is on where its switch is: the vCPU's, of CREATE_VCPU the VM's, and of CR and MSR also that of the register which the own
- * bytes name. Exactly then it is written, to be sent to the tool, and the vCPU waits until semblurick_message signals
- * SEMBLURICK_RESUME for it, or SEMBLURICK_CRASH. Resumed with action 0 it does what the table says; with 1 (retry, of BREAKPOINT and
- * DESCRIPTOR only) it does nothing of it. Either way it then calls semblurick_enter before it runs. While it waits, and then, it does
- * not offer the same event again: that would be another one. Where the session closes no signal comes, and a closed session answers 2:
- * the vCPU goes on as if the event had been off.
+ * bytes name. A PF is on where the vCPU's switch is and the page gpa / 4096 stands below rwx in the view that the own bytes name: for
+ * whatever access, and whether guest memory has that page or not; a view that the session has not has no such page. Exactly then an event
+ * is written, to be sent to the tool, and the vCPU waits until semblurick_message signals SEMBLURICK_RESUME for it, or SEMBLURICK_CRASH.
+ * Resumed with action 0 it does what the table says; with 1 (retry, of BREAKPOINT, DESCRIPTOR and PF only) it does nothing of it; after
+ * a PF the instruction is then executed again, and faults or not by the page's rights of that time. Either way it then calls
+ * semblurick_enter before it runs. While it waits, and then, it does not offer the same event again: that would be another one. Where the
+ * session closes no signal comes, and a closed session answers 2: the vCPU goes on as if the event had been off.
+ *
+ * Of a PF, since 5, once the tool continues:
+ *   - the guest reads (the access that was offered has KVMI_PAGE_ACCESS_R): semblurick_fed gives the bytes that the instruction reads, from
+ *     the address that faulted on. Where gva is known, so not all ones, and in [ctx_addr, ctx_addr + ctx_size) of the tool's reply, which
+ *     does not wrap, they are what the tool supplied, from gva to the end of that range: the guest does not see what stands in memory.
+ *     Else they are those of the guest page, from gpa to its end. The instruction takes as many of them as it reads. One that reads more,
+ *     past the range or the page, finds nothing here: the host reads the rest as at any other address, which may be guarded, too.
+ *   - answer 12: they would be those of the guest page, but that does not lie wholly inside the memory which was lent with the reply. The
+ *     host feeds the instruction by its own means, as if there were no tool: from a device, for one.
+ *   - the guest does not read, but writes or fetches: there are no bytes, and the guest page is not asked for.
+ *   - result->value is the reply's rep_complete, which a retry has as well. 1: an instruction with a REP prefix is carried out just once,
+ *     or at least no other PF is offered for it (kvmi.rst).
  *
  * An event that is off is passed over: the host carries out at once what it was about, as if there were no tool. A queued pause goes
  * instead, with the register block that was lent, from before that operation; else result->count is 0. semblurick_awaited tells which
@@ -478,8 +545,8 @@ SEMBLURICK_CHECKED static inline enum semblurick_answer semblurick_enter_event(s
                                                                                const void *own, size_t own_size,
                                                                                struct semblurick_output out,
                                                                                struct semblurick_result *result) {
-    return semblurick_raw_enter(&guest->session, &guest->vcpus, vcpu, SEMBLURICK_CAST(const uint8_t *, state), state_size, event,
-                                SEMBLURICK_CAST(const uint8_t *, own_size ? own : state), own_size, out.bytes, out.size, result);
+    return semblurick_raw_enter(&guest->session, &guest->vcpus, &guest->pages, vcpu, SEMBLURICK_CAST(const uint8_t *, state), state_size,
+                                event, SEMBLURICK_CAST(const uint8_t *, own_size ? own : state), own_size, out.bytes, out.size, result);
 }
 
 /* How many bytes the image of a session has, closed or busy as it may be; at most SEMBLURICK_IMAGE_MAX. */
@@ -618,6 +685,7 @@ static inline const char *semblurick_answer_text(uint32_t answer) {
     case SEMBLURICK_FORBIDDEN: return "forbidden";
     case SEMBLURICK_BUSY: return "busy";
     case SEMBLURICK_NO_PLACE: return "no place for signals";
+    case SEMBLURICK_NO_PAGE: return "no guest page";
     case SEMBLURICK_NOT_APPLICABLE: return "not applicable";
     default: return "unknown answer";
     }
@@ -743,8 +811,8 @@ enum kvmi_event_id {
     KVMI_EVENT_CPUID = 14
 };
 
-/* Of an event reply. Every event takes the first and the last, BREAKPOINT and DESCRIPTOR the second too; another action closes the
- * session. */
+/* Of an event reply. Every event takes the first and the last, BREAKPOINT, DESCRIPTOR and, since 5, PF the second too; another action
+ * closes the session. */
 enum kvmi_action { KVMI_EVENT_ACTION_CONTINUE = 0, KVMI_EVENT_ACTION_RETRY = 1, KVMI_EVENT_ACTION_CRASH = 2 };
 
 enum kvmi_page_access { KVMI_PAGE_ACCESS_R = 1, KVMI_PAGE_ACCESS_W = 2, KVMI_PAGE_ACCESS_X = 4 };
@@ -926,8 +994,8 @@ struct kvmi_vm_control_cmd_response {
 };
 SEMBLURICK_ASSERT(sizeof(struct kvmi_vm_control_cmd_response) == 8 && offsetof(struct kvmi_vm_control_cmd_response, flags) == 2);
 
-/* 16 KVMI_EVENT_REPLY, behind struct kvmi_vcpu_hdr; the header has the event's seq. It gets no reply. To a CR and to an MSR event, their
- * struct follows, whatever the action is (since 2). */
+/* 16 KVMI_EVENT_REPLY, behind struct kvmi_vcpu_hdr; the header has the event's seq. It gets no reply. To a CR and to an MSR event, and
+ * since 5 to a PF event, their struct follows, whatever the action is (since 2). */
 struct kvmi_event_reply {
     uint8_t action;  /* enum kvmi_action */
     uint8_t event;   /* enum kvmi_event_id */
@@ -940,8 +1008,18 @@ struct kvmi_event_cr_reply {
 struct kvmi_event_msr_reply {
     uint64_t new_val;
 };
+struct kvmi_event_pf_reply {
+    uint64_t ctx_addr;      /* the guest virtual address of ctx_data[0] */
+    uint32_t ctx_size;      /* how many bytes of ctx_data are supplied: at most 256, more close the session; 0: none */
+    uint8_t padding1;
+    uint8_t rep_complete;   /* 0 or 1: another closes the session */
+    uint16_t padding2;
+    uint8_t ctx_data[256];  /* what the guest is to read there; past ctx_size anything */
+};
 SEMBLURICK_ASSERT(sizeof(struct kvmi_event_reply) == 8 && offsetof(struct kvmi_event_reply, padding2) == 4);
 SEMBLURICK_ASSERT(sizeof(struct kvmi_event_cr_reply) == 8 && sizeof(struct kvmi_event_msr_reply) == 8);
+SEMBLURICK_ASSERT(sizeof(struct kvmi_event_pf_reply) == 272 && offsetof(struct kvmi_event_pf_reply, ctx_size) == 8);
+SEMBLURICK_ASSERT(offsetof(struct kvmi_event_pf_reply, rep_complete) == 13 && offsetof(struct kvmi_event_pf_reply, ctx_data) == 16);
 
 /* 17 KVMI_EVENT, to the tool: the register block by its parts; of regs and sregs, see enum semblurick_state. */
 struct kvmi_event_arch {
@@ -1008,6 +1086,14 @@ struct kvmi_event_msr {
     uint64_t old_value;
     uint64_t new_value;
 };
+struct kvmi_event_pf {  /* since 5 */
+    uint64_t gva;     /* the address that faulted; all ones: not known */
+    uint64_t gpa;     /* where that is in guest memory */
+    uint8_t access;   /* what the guest tried, of enum kvmi_page_access; with R it reads */
+    uint8_t padding1;
+    uint16_t view;    /* whose page faulted. kvmi.rst calls it padding2: left 0 it names view 0, the usual one */
+    uint32_t padding3;
+};
 struct kvmi_event_singlestep {
     uint8_t failed;
     uint8_t padding[7];
@@ -1023,6 +1109,8 @@ SEMBLURICK_ASSERT(sizeof(struct kvmi_event_breakpoint) == 16 && offsetof(struct 
 SEMBLURICK_ASSERT(sizeof(struct kvmi_event_cr) == 24 && offsetof(struct kvmi_event_cr, old_value) == 8);
 SEMBLURICK_ASSERT(sizeof(struct kvmi_event_descriptor) == 8 && offsetof(struct kvmi_event_descriptor, write) == 1);
 SEMBLURICK_ASSERT(sizeof(struct kvmi_event_msr) == 24 && offsetof(struct kvmi_event_msr, old_value) == 8);
+SEMBLURICK_ASSERT(sizeof(struct kvmi_event_pf) == 24 && offsetof(struct kvmi_event_pf, access) == 16);
+SEMBLURICK_ASSERT(offsetof(struct kvmi_event_pf, view) == 18);
 SEMBLURICK_ASSERT(sizeof(struct kvmi_event_singlestep) == 8);
 SEMBLURICK_ASSERT(sizeof(struct kvmi_event_cpuid) == 16 && offsetof(struct kvmi_event_cpuid, insn_length) == 8);
 SEMBLURICK_ASSERT(sizeof(struct kvmi_msg_hdr) + sizeof(struct kvmi_event) + sizeof(struct kvmi_event_cr) == SEMBLURICK_EVENT_MAX);

@@ -8,6 +8,9 @@ use std::{env, fs};
 /// The call that is there since version 4.
 const BATCH: &[u8] = b"semblurick_raw_batch";
 
+/// The version whose calls this wrapper makes: since 5 an entry has one argument more, and of an earlier library the linker would not see it.
+const VERSION: u32 = 5;
+
 /// How to make the library.
 const MAKE: &str = "in Semblurick's folder (the Rattle toolchain, rt, is needed):
     ./library           makes target/staticlib/libsemblurick.a
@@ -21,6 +24,22 @@ fn variable(name: &str) -> Option<PathBuf> {
 /// Whether this is a library that has the call for several messages.
 fn has_batch(file: &Path) -> bool {
     fs::read(file).is_ok_and(|bytes| bytes.windows(BATCH.len()).any(|part| part == BATCH))
+}
+
+/// The version of the header that was installed with the library of a folder, if it was.
+fn installed(folder: &Path) -> Option<u32> {
+    let header = folder.join("../include/semblurick.h");
+    let text = fs::read_to_string(&header).ok()?;
+    println!("cargo:rerun-if-changed={}", header.display());
+    text.lines().find_map(|line| line.strip_prefix("#define SEMBLURICK_VERSION "))?.trim().parse().ok()
+}
+
+/// What an earlier library lacks, by itself or by the header that was installed with it.
+fn lacks(folder: &Path, library: &Path) -> Option<&'static str> {
+    if !has_batch(library) {
+        return Some("the call for several messages");
+    }
+    installed(folder).filter(|version| *version < VERSION).map(|_| "an entry that takes the pages")
 }
 
 /// Links a library of a folder, and again where the file from which it comes has changed.
@@ -39,9 +58,9 @@ fn main() {
     let (whole, first) = (folder.join("libsemblurick.a"), folder.join("libhost.a"));
     let second = second.as_ref().unwrap_or(&folder).join("libhost_batch.a");
     if whole.is_file() {
-        if !has_batch(&whole) {
+        if let Some(what) = lacks(&folder, &whole) {
             eprintln!(
-                "semblurick: the static library is older than this wrapper, and lacks the call for several messages:\n    {}\n\
+                "semblurick: the static library is older than this wrapper, and lacks {what}:\n    {}\n\
                  To make it anew, {MAKE}\n\
                  Where it was installed, ./install it again.",
                 whole.display()

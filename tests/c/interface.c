@@ -44,17 +44,21 @@ static void add_vcpu(uint16_t vcpu) {
     add(&v, sizeof v);
 }
 
-/* Every message but a read and a write does the same where no guest memory is lent. */
+/* Every message but a read and a write does the same where no guest memory is lent; but that answer 12 takes the place of bytes from a
+ * guest page. */
 static enum semblurick_answer send(void) {
     static uint8_t twin_out[SEMBLURICK_MESSAGE_OUT];
-    struct semblurick_result twin_r;
+    struct semblurick_result twin_r, should;
     memcpy(&other, &guest, sizeof other);
     memcpy(twin_out, out, sizeof out);
     memset(&r, 0xAA, sizeof r);
     enum semblurick_answer answer = semblurick_message(&guest, msg, msg_size, semblurick_output_of(out, sizeof out), semblurick_memory_of(memory, sizeof memory), &r);
     if (msg[0] != KVMI_VM_READ_PHYSICAL && msg[0] != KVMI_VM_WRITE_PHYSICAL) {
-        CHECK(semblurick_message(&other, msg, msg_size, semblurick_output_of(twin_out, sizeof twin_out), semblurick_no_memory(), &twin_r) == answer);
-        CHECK(!memcmp(&twin_r, &r, sizeof r) && !memcmp(twin_out, out, sizeof out) && !memcmp(&other, &guest, sizeof guest));
+        memcpy(&should, &r, sizeof r);
+        if (r.source == SEMBLURICK_FED_GUEST) should.source = should.at = should.length = 0;
+        enum semblurick_answer twin = semblurick_message(&other, msg, msg_size, semblurick_output_of(twin_out, sizeof twin_out), semblurick_no_memory(), &twin_r);
+        CHECK(twin == (r.source == SEMBLURICK_FED_GUEST ? SEMBLURICK_NO_PAGE : answer));
+        CHECK(!memcmp(&twin_r, &should, sizeof r) && !memcmp(twin_out, out, sizeof out) && !memcmp(&other, &guest, sizeof guest));
     }
     return answer;
 }
@@ -141,14 +145,19 @@ static enum semblurick_answer answer_pause(uint16_t vcpu, uint32_t seq, uint8_t 
     return answer_event(vcpu, seq, action, KVMI_EVENT_PAUSE_VCPU, 0, 0);
 }
 
-static bool rest_is_zero(void) {
+static bool reserved_is_zero(void) {
     for (size_t i = 0; i < sizeof r.reserved / sizeof r.reserved[0]; i++)
         if (r.reserved[i]) return false;
     return true;
 }
 
+/* and nothing is fed */
+static bool rest_is_zero(void) {
+    return r.source == SEMBLURICK_FED_NOTHING && r.at == 0 && r.length == 0 && reserved_is_zero();
+}
+
 static bool is_zero(const struct semblurick_result *x) {
-    static const struct semblurick_result zero = {0, 0, 0, 0, 0, 0, 0, {0}};
+    static const struct semblurick_result zero = {0, 0, 0, 0, 0, 0, 0, 0, 0, 0, {0}};
     return !memcmp(x, &zero, sizeof zero);
 }
 
@@ -168,7 +177,7 @@ static void settings(void) {
     CHECK(s.vcpus == 1 && s.views == 1 && s.commands == 0 && s.events == 0 && s.tsc_speed == 0 && s.singlestep == 0 && s.vmfunc == 0);
     CHECK(s.eptp == 0 && s.ve == 0 && s.spp == 0 && s.descriptors == 0 && s.breakpoints_taken == 0 && s.execute_only == 0);
     CHECK(SEMBLURICK_BIT(KVMI_VM_GET_INFO) == 16 && SEMBLURICK_BIT(31) == 0x80000000 && SEMBLURICK_ALL == 0xFFFFFFFF);
-    CHECK(SEMBLURICK_VERSION == 4);
+    CHECK(SEMBLURICK_VERSION == 5);
 
     /* memory of zeros is a closed session */
     CHECK(!semblurick_is_open(&guest) && semblurick_ready(&guest, 0) == SEMBLURICK_CLOSED);
@@ -421,7 +430,7 @@ static void events(void) {
     }
 
     /* what can't be offered is refused after a bad vCPU is, and before a short output is */
-    const uint32_t refused[] = {1, 2, 6, 10, 13, 15, 16, 17, 32 + 3, 64 + 3, 256 + 3, 0x10003, 0x80000003, UINT32_MAX};
+    const uint32_t refused[] = {1, 2, 6, 13, 15, 16, 17, 32 + 3, 64 + 3, 256 + 3, 0x10003, 0x80000003, UINT32_MAX};
     for (size_t i = 0; i < sizeof refused / sizeof refused[0]; i++) {
         CHECK(offer(0, refused[i], 0, sizeof out) == SEMBLURICK_BAD_STATE && offer(0, refused[i], 24, 0) == SEMBLURICK_BAD_STATE && is_zero(&r));
         CHECK(offer(3, refused[i], 0, 0) == SEMBLURICK_BAD_VCPU);
@@ -568,8 +577,8 @@ static enum semblurick_answer batch(size_t room, size_t places) {
     while (listed < SEMBLURICK_MAX_VCPUS && codes[listed] == 0xC3C3C3C3) listed++;
     CHECK(past == sizeof wide && listed == SEMBLURICK_MAX_VCPUS && b.used <= input_size);
     for (size_t i = 0; i < sizeof b.reserved / sizeof b.reserved[0]; i++) CHECK(b.reserved[i] == 0);
-    if (answer >= SEMBLURICK_CLOSED) {
-        static const struct semblurick_batch_result zero = {0, 0, 0, 0, 0, 0, 0, {0}};
+    if (answer >= SEMBLURICK_CLOSED && answer != SEMBLURICK_NO_PAGE) {
+        static const struct semblurick_batch_result zero = {0, 0, 0, 0, 0, 0, 0, 0, 0, 0, {0}};
         CHECK(!memcmp(&b, &zero, sizeof b) && !memcmp(&before, &guest, sizeof guest) && !memcmp(memory_before, memory, sizeof memory));
     }
     return answer;
@@ -577,7 +586,8 @@ static enum semblurick_answer batch(size_t room, size_t places) {
 
 /* used, count, listed, and no resume */
 static bool is_batch(uint64_t used, uint64_t count, uint64_t listed) {
-    return b.used == used && b.count == count && b.listed == listed && b.signal == SEMBLURICK_NONE && b.vcpu == 0 && b.action == 0 && b.value == 0;
+    return b.used == used && b.count == count && b.listed == listed && b.signal == SEMBLURICK_NONE && b.vcpu == 0 && b.action == 0 && b.value == 0 &&
+           b.source == SEMBLURICK_FED_NOTHING && b.at == 0 && b.length == 0;
 }
 
 /* message 15, from itself on */
@@ -606,11 +616,11 @@ static void fresh_batch(void) {
     input_size = 0;
 }
 
-/* The input, message by message, on a copy: the same session, tables, bytes, signals and guest memory. */
-static void singly(size_t places) {
+/* The input, message by message, on a copy: the same session, tables, bytes, signals and guest memory. Gives the last one's answer. */
+static enum semblurick_answer singly(size_t places) {
     static uint8_t twin_memory[sizeof memory];
     struct semblurick_result one;
-    size_t at = 0, count = 0, listed = 0;
+    size_t at = 0, last = 0, count = 0, listed = 0;
     enum semblurick_answer answer = SEMBLURICK_HANDLED;
     memcpy(twin_memory, memory_before, sizeof memory);
     memset(&one, 0, sizeof one);
@@ -629,18 +639,23 @@ static void singly(size_t places) {
             CHECK(semblurick_listed_wait(codes[listed]) == (one.wait == 1));
             listed++;
         }
-        at += size, count += one.count;
+        last = at, at += size, count += one.count;
     }
     CHECK(at == b.used && count == b.count && listed == b.listed);
+    CHECK(b.source == one.source && b.length == one.length && b.at == (one.source == SEMBLURICK_FED_MESSAGE ? last : 0) + one.at);
     CHECK(b.signal == (one.signal == SEMBLURICK_RESUME ? one.signal : 0) && (b.signal == 0 || (b.vcpu == one.vcpu && b.action == one.action && b.value == one.value)));
     CHECK(!memcmp(&before, &guest, sizeof guest) && !memcmp(twin_memory, memory, sizeof memory));
+    return answer;
 }
 
 static void batches(void) {
     const size_t most = sizeof wide, least = SEMBLURICK_MESSAGE_OUT;
     CHECK(sizeof b == sizeof r && offsetof(struct semblurick_batch_result, used) == 0 && offsetof(struct semblurick_batch_result, count) == 8);
     CHECK(offsetof(struct semblurick_batch_result, listed) == 16 && offsetof(struct semblurick_batch_result, signal) == 24 && offsetof(struct semblurick_batch_result, vcpu) == 32);
-    CHECK(offsetof(struct semblurick_batch_result, action) == 40 && offsetof(struct semblurick_batch_result, value) == 48 && offsetof(struct semblurick_batch_result, reserved) == 56);
+    CHECK(offsetof(struct semblurick_batch_result, action) == 40 && offsetof(struct semblurick_batch_result, value) == 48 && offsetof(struct semblurick_batch_result, source) == 56);
+    CHECK(offsetof(struct semblurick_batch_result, at) == 64 && offsetof(struct semblurick_batch_result, length) == 72 && offsetof(struct semblurick_batch_result, reserved) == 80);
+    CHECK(offsetof(struct semblurick_result, source) == 56 && offsetof(struct semblurick_result, at) == 64 && offsetof(struct semblurick_result, length) == 72);
+    CHECK(offsetof(struct semblurick_result, reserved) == 80 && sizeof r.reserved == 16 && sizeof b.reserved == 16);
 
     /* a pause that waits has 24 bytes and a reply of 16, the version 8 and 32 */
     fresh_batch(), join_pause(1, 1), join_version();
@@ -711,7 +726,7 @@ static void batches(void) {
     input_size = 0, join_event_reply(0, 1, 0, KVMI_EVENT_PAUSE_VCPU, 0, 0), join_pause(0, 1);
     join_event_reply(1, 0, 0, KVMI_EVENT_CR, 0x123456789, 8), join_version();
     CHECK(batch(most, 16) == SEMBLURICK_HANDLED && b.used == 24 + 24 + 32 && b.count == 16 && b.listed == 1 && codes[0] == 257);
-    CHECK(b.signal == SEMBLURICK_RESUME && b.vcpu == 1 && b.action == 0 && b.value == 0x123456789), singly(16);
+    CHECK(b.signal == SEMBLURICK_RESUME && b.vcpu == 1 && b.action == 0 && b.value == 0x123456789 && b.source == 0 && b.at == 0 && b.length == 0), singly(16);
     CHECK(offer(0, 0, 0, sizeof out) == SEMBLURICK_HANDLED && offer(1, KVMI_EVENT_CR, sizeof(struct kvmi_event_cr), sizeof out) == SEMBLURICK_HANDLED);
     input_size = 0, join_event_reply(1, 3, 2, KVMI_EVENT_CR, 0, 8), join_event_reply(0, 2, 2, KVMI_EVENT_PAUSE_VCPU, 0, 0), join_version();
     CHECK(batch(most, 16) == SEMBLURICK_HANDLED && is_batch(32 + 24 + 8, 32, 2) && codes[0] == 513 && codes[1] == 512), singly(16);
@@ -723,6 +738,268 @@ static void batches(void) {
         CHECK(semblurick_listed_vcpu(code) == (kick ? (code - 256) / 2 : crash ? code - 512 : 0) && semblurick_listed_wait(code) == (kick && code % 2));
     }
     CHECK(semblurick_listed_signal(UINT32_MAX) == SEMBLURICK_NONE && semblurick_listed_signal(0x80000100) == SEMBLURICK_NONE && SEMBLURICK_NO_PLACE == 11);
+}
+
+/* ---- page faults */
+
+static struct kvmi_event_pf fault;           /* what is offered */
+static struct kvmi_event_pf_reply context;   /* and what the reply to it has */
+enum { FAULT_DATA = 40 };                    /* where ctx_data stands in a reply */
+
+/* A fresh session of two vCPUs, both ready, and two views. Page 1 is guarded in view 0, page 3 in view 1, and page 2^52 - 1 in both; vCPU 0
+ * has page faults on. */
+static void fresh_faults(void) {
+    struct semblurick_settings s = settings_of(2, 2);
+    CHECK(semblurick_fresh(&guest, &s) == SEMBLURICK_HANDLED && semblurick_ready(&guest, 0) == SEMBLURICK_HANDLED && semblurick_ready(&guest, 1) == SEMBLURICK_HANDLED);
+    CHECK(page(0, 1, 4) == 0 && page(1, 3, 0) == 0 && page(0, 0xFFFFFFFFFFFFF, 1) == 0 && page(1, 0xFFFFFFFFFFFFF, 5) == 0 && vcpu_event(0, KVMI_EVENT_PF, 1) == 0);
+    input_size = 0;
+}
+
+static void set_fault(uint64_t gva, uint64_t gpa, uint8_t access, uint16_t view) {
+    memset(&fault, 0, sizeof fault);
+    fault.gva = gva, fault.gpa = gpa, fault.access = access, fault.view = view;
+}
+
+/* Offered to vCPU `vcpu`, it goes out. */
+static bool goes_out(uint16_t vcpu) {
+    memcpy(own, &fault, sizeof fault);
+    return offer(vcpu, KVMI_EVENT_PF, sizeof fault, SEMBLURICK_ENTRY_OUT) == SEMBLURICK_HANDLED && is_event(vcpu, KVMI_EVENT_PF, sizeof fault) && r.count == SEMBLURICK_EVENT_MAX &&
+           rest_is_zero();
+}
+
+/* It is passed over, and nothing changes. */
+static bool is_passed_over(uint16_t vcpu) {
+    memcpy(own, &fault, sizeof fault);
+    memcpy(&before, &guest, sizeof guest);
+    return offer(vcpu, KVMI_EVENT_PF, sizeof fault, SEMBLURICK_ENTRY_OUT) == SEMBLURICK_HANDLED && is_zero(&r) && !memcmp(&before, &guest, sizeof guest);
+}
+
+/* Data that are told apart, also past ctx_size. */
+static void set_context(uint64_t address, uint32_t size, uint8_t rep) {
+    memset(&context, 0, sizeof context);
+    context.ctx_addr = address, context.ctx_size = size, context.rep_complete = rep;
+    for (size_t i = 0; i < sizeof context.ctx_data; i++) context.ctx_data[i] = (uint8_t)(i * 3 + 1);
+}
+
+static void begin_fault_reply(uint16_t vcpu, uint8_t action) {
+    struct kvmi_event_reply e;
+    memset(&e, 0, sizeof e);
+    e.action = action, e.event = KVMI_EVENT_PF;
+    begin(KVMI_EVENT_REPLY, guest.session.seq - 1), add_vcpu(vcpu), add(&e, sizeof e), add(&context, sizeof context);
+}
+
+static enum semblurick_answer answer_fault(uint16_t vcpu, uint8_t action) {
+    begin_fault_reply(vcpu, action);
+    return send();
+}
+
+/* The reply is taken, and the part that it names is where it should be. */
+static bool is_fed(uint64_t source, uint64_t at, uint64_t length, uint64_t value) {
+    const struct semblurick_memory lent = semblurick_memory_of(memory, sizeof memory);
+    const uint8_t *bytes = source == SEMBLURICK_FED_MESSAGE ? msg + at : source == SEMBLURICK_FED_GUEST ? memory + at : NULL;
+    return r.count == 0 && r.offset == 0 && r.signal == SEMBLURICK_RESUME && r.vcpu == 0 && r.wait == 0 && r.action == 0 && r.value == value &&
+           r.source == source && r.at == at && r.length == length && reserved_is_zero() && semblurick_fed(msg, lent, &r) == bytes && semblurick_awaited(&guest, 0) == 0;
+}
+
+/* A fault at (gva, gpa) whose continue has this context, with two pages of guest memory: fed from byte `from` of ctx_data on. */
+static bool is_supplied(uint64_t gva, uint64_t gpa, uint64_t address, uint32_t size, uint64_t from) {
+    set_fault(gva, gpa, KVMI_PAGE_ACCESS_R, 0), set_context(address, size, 0);
+    if (!goes_out(0) || answer_fault(0, KVMI_EVENT_ACTION_CONTINUE) != SEMBLURICK_HANDLED) return false;
+    return is_fed(SEMBLURICK_FED_MESSAGE, FAULT_DATA + from, size - from, 0) &&
+           !memcmp(semblurick_fed(msg, semblurick_no_memory(), &r), context.ctx_data + from, size - from);
+}
+
+/* The same, fed from the page; or, where `length` is 0, answer 12. */
+static bool is_from_page(uint64_t gva, uint64_t gpa, uint64_t address, uint32_t size, uint64_t length) {
+    set_fault(gva, gpa, KVMI_PAGE_ACCESS_R, 0), set_context(address, size, 0);
+    if (!goes_out(0)) return false;
+    enum semblurick_answer answer = answer_fault(0, KVMI_EVENT_ACTION_CONTINUE);
+    if (length == 0) return answer == SEMBLURICK_NO_PAGE && is_fed(SEMBLURICK_FED_NOTHING, 0, 0, 0);
+    return answer == SEMBLURICK_HANDLED && is_fed(SEMBLURICK_FED_GUEST, gpa, length, 0);
+}
+
+/* The reply that stands in msg closes; the session is then as it was before. */
+static bool msg_closes(void) {
+    memcpy(&before, &guest, sizeof guest);
+    bool closed = send() == SEMBLURICK_CLOSING && is_zero(&r) && !semblurick_awaited(&guest, 0) && semblurick_page_count(&guest) == 0;
+    memcpy(&guest, &before, sizeof guest);
+    return closed;
+}
+
+static void faults(void) {
+    const uint64_t unknown = UINT64_MAX;
+    const uint8_t actions[] = {KVMI_EVENT_ACTION_CONTINUE, KVMI_EVENT_ACTION_RETRY, KVMI_EVENT_ACTION_CRASH};
+    for (size_t i = 0; i < sizeof memory; i++) memory[i] = (uint8_t)(i * 11 + i / 256);
+    memcpy(memory_before, memory, sizeof memory);
+
+    /* when it is sent: the vCPU's switch, and a page below rwx in the view that the own bytes name; whatever the access, and the page */
+    fresh_faults();
+    for (uint32_t access = 0; access < 256; access++) {
+        set_fault(unknown, 0x1000 + access, (uint8_t)access, 0);
+        CHECK(goes_out(0)), set_context(0, 0, 0);
+        CHECK(answer_fault(0, KVMI_EVENT_ACTION_RETRY) == SEMBLURICK_HANDLED && is_resume(0, KVMI_EVENT_ACTION_RETRY, 0));
+    }
+    const struct { uint64_t gpa; uint16_t view; bool sent; } pages_of[] = {
+        {0x1000, 0, true}, {0x1FFF, 0, true}, {0xFFF, 0, false}, {0x2000, 0, false}, {0x1000, 1, false}, {0x3ABC, 1, true}, {0x3ABC, 0, false},
+        {0xFFFFFFFFFFFFF000, 0, true}, {UINT64_MAX, 0, true}, {UINT64_MAX, 1, true}, {0xFFFFFFFFFFFFEFFF, 0, false}, {0, 0, false},
+        {0x1000, 2, false}, {0x1000, 8, false}, {0x1000, 256, false}, {0x3000, 257, false}, {UINT64_MAX, 0xFFFF, false},
+    };
+    for (size_t i = 0; i < sizeof pages_of / sizeof pages_of[0]; i++) {
+        set_fault(7, pages_of[i].gpa, 1, pages_of[i].view);
+        CHECK(is_passed_over(1));
+        if (pages_of[i].sent) {
+            CHECK(goes_out(0) && answer_fault(0, KVMI_EVENT_ACTION_CRASH) == SEMBLURICK_HANDLED);
+            CHECK(r.signal == SEMBLURICK_CRASH && r.vcpu == 0 && r.action == 0 && r.value == 0 && rest_is_zero());
+        } else {
+            CHECK(is_passed_over(0));
+        }
+    }
+    set_fault(0x1122334455667788, 0x1234, 5, 0);
+    CHECK(vcpu_event(0, KVMI_EVENT_PF, 0) == 0 && is_passed_over(0) && vcpu_event(0, KVMI_EVENT_PF, 1) == 0);
+    CHECK(page(0, 1, 7) == 0 && is_passed_over(0) && page(0, 1, 3) == 0);
+    CHECK(goes_out(0) && !memcmp(out, "\x11\0\x38\2", 4) && !memcmp(out + 8, "\x20\2\0\0\x0A\0\0", 8));
+    CHECK(!memcmp(out + 552, "\x88\x77\x66\x55\x44\x33\x22\x11\x34\x12\0\0\0\0\0\0\5\0\0\0\0\0\0", 24));
+    CHECK(semblurick_image_write(&guest, semblurick_output_of(image, sizeof image), &r) == SEMBLURICK_BUSY);
+    CHECK(offer(0, KVMI_EVENT_PF, 24, sizeof out) == SEMBLURICK_WAITING && answer_fault(0, KVMI_EVENT_ACTION_RETRY) == SEMBLURICK_HANDLED);
+
+    /* its size, and its paddings; a pause goes instead of one that is passed over, and not before one that is sent */
+    for (int on = 0; on < 2; on++) {
+        CHECK(vcpu_event(0, KVMI_EVENT_PF, (uint8_t)on) == 0);
+        CHECK(offer(0, KVMI_EVENT_PF, 23, 0) == SEMBLURICK_BAD_STATE && offer(0, KVMI_EVENT_PF, 25, sizeof out) == SEMBLURICK_BAD_STATE && offer(0, KVMI_EVENT_PF, 0, sizeof out) == SEMBLURICK_BAD_STATE);
+        CHECK(offer(0, KVMI_EVENT_PF, 24, SEMBLURICK_ENTRY_OUT - 1) == SEMBLURICK_SHORT_OUT && is_zero(&r) && semblurick_awaited(&guest, 0) == 0);
+    }
+    fault.padding1 = 0x5A, fault.padding3 = 0xA1B2C3D4;
+    begin_pause(0, 0);
+    CHECK(reply() == 0 && goes_out(0) && semblurick_pauses(&guest, 0) == 1 && answer_fault(0, KVMI_EVENT_ACTION_RETRY) == SEMBLURICK_HANDLED);
+    fault.view = 1, memcpy(own, &fault, sizeof fault);
+    CHECK(offer(0, KVMI_EVENT_PF, sizeof fault, sizeof out) == SEMBLURICK_HANDLED && is_event(0, KVMI_EVENT_PAUSE_VCPU, 0) && semblurick_pauses(&guest, 0) == 0);
+    CHECK(answer_fault(0, KVMI_EVENT_ACTION_CONTINUE) == SEMBLURICK_CLOSING); /* it is none */
+
+    /* what the tool supplies: from gva to the end, in a range that does not wrap */
+    fresh_faults();
+    CHECK(is_supplied(0x1004, 0x1000, 0x1000, 16, 4) && is_supplied(0x1000, 0x1000, 0x1000, 16, 0) && is_supplied(0x100F, 0x1000, 0x1000, 16, 15));
+    CHECK(is_supplied(0, 0x1FFF, 0, 1, 0) && is_supplied(255, 0x1000, 0, 256, 255) && is_supplied(0x1000, 0x1000, 0x1000, 256, 0));
+    CHECK(is_supplied(UINT64_MAX - 1, 0x1000, UINT64_MAX - 3, 256, 2) && is_supplied(UINT64_MAX - 3, 0x1000, UINT64_MAX - 3, 1, 0));
+    /* else the page, from gpa to its end */
+    CHECK(is_from_page(0x1010, 0x1000, 0x1000, 16, 4096) && is_from_page(0xFFF, 0x1FFE, 0x1000, 16, 2) && is_from_page(0x1000, 0x1800, 0x1000, 0, 2048));
+    CHECK(is_from_page(unknown, 0x1001, UINT64_MAX - 255, 256, 4095) && is_from_page(unknown, 0x1FFF, UINT64_MAX, 256, 1));
+    CHECK(is_from_page(1, 0x1000, UINT64_MAX - 3, 256, 4096) && is_from_page(0, 0x1000, UINT64_MAX, 256, 4096) && is_from_page(256, 0x1000, 0, 256, 4096));
+
+    /* answer 12: the page does not lie wholly inside. All else is as under 0 */
+    CHECK(page(0, 2, 0) == 0 && page(0, 0, 0) == 0);
+    CHECK(is_from_page(unknown, 0x2000, 0, 0, 0) && is_from_page(5, 0x2FFF, 6, 256, 0) && is_from_page(unknown, UINT64_MAX, 0, 256, 0));
+    CHECK(is_supplied(6, UINT64_MAX, 5, 2, 1) && is_from_page(5, 0, 6, 256, 4096) && is_from_page(5, 4095, 6, 256, 1));
+    for (size_t size = 0; size <= sizeof memory; size += size % 4096 == 0 ? 4095 : 1) {
+        for (uint64_t gpa = 0xFFF; gpa < 0x2000; gpa += 0x1000) {
+            bool is_there = size >= gpa + 1;
+            set_fault(unknown, gpa, KVMI_PAGE_ACCESS_R, 0), set_context(0, 256, 1);
+            CHECK(goes_out(0));
+            begin_fault_reply(0, KVMI_EVENT_ACTION_CONTINUE);
+            memcpy(&other, &guest, sizeof guest);
+            CHECK(semblurick_message(&guest, msg, msg_size, semblurick_output_of(out, sizeof out), semblurick_memory_of(memory, size), &r) == (is_there ? SEMBLURICK_HANDLED : SEMBLURICK_NO_PAGE));
+            CHECK(is_fed(is_there ? SEMBLURICK_FED_GUEST : SEMBLURICK_FED_NOTHING, is_there ? gpa : 0, is_there, 1));
+            /* the session moves by the reply, whatever memory is lent */
+            CHECK(semblurick_message(&other, msg, msg_size, semblurick_output_of(out, sizeof out), semblurick_memory_of(memory, sizeof memory), &r) == SEMBLURICK_HANDLED);
+            CHECK(!memcmp(&other, &guest, sizeof guest) && semblurick_is_open(&guest));
+        }
+    }
+
+    /* bytes are wanted for a continue of a read alone, by the access that was offered; the value is rep_complete */
+    for (uint32_t access = 0; access < 256; access++) {
+        for (uint8_t rep = 0; rep < 2; rep++) {
+            set_fault(0x5000, 0x2000, (uint8_t)access, 0), set_context(0x5000, 8, rep); /* page 2 is not in memory */
+            CHECK(goes_out(0) && answer_fault(0, KVMI_EVENT_ACTION_CONTINUE) == SEMBLURICK_HANDLED);
+            CHECK(access % 2 ? is_fed(SEMBLURICK_FED_MESSAGE, FAULT_DATA, 8, rep) : is_fed(SEMBLURICK_FED_NOTHING, 0, 0, rep));
+            context.ctx_size = 0;
+            CHECK(goes_out(0) && answer_fault(0, KVMI_EVENT_ACTION_CONTINUE) == (access % 2 ? SEMBLURICK_NO_PAGE : SEMBLURICK_HANDLED) && is_fed(0, 0, 0, rep));
+            CHECK(goes_out(0) && answer_fault(0, KVMI_EVENT_ACTION_RETRY) == SEMBLURICK_HANDLED && is_resume(0, KVMI_EVENT_ACTION_RETRY, rep));
+            CHECK(goes_out(0) && answer_fault(0, KVMI_EVENT_ACTION_CRASH) == SEMBLURICK_HANDLED && r.signal == SEMBLURICK_CRASH && r.value == 0 && rest_is_zero());
+        }
+    }
+
+    /* what changes meanwhile does not matter: the switch, the page */
+    set_fault(0x1008, 0x1FF0, 1, 0), set_context(0x1000, 16, 0);
+    CHECK(goes_out(0) && vcpu_event(0, KVMI_EVENT_PF, 0) == 0 && page(0, 1, 7) == 0 && answer_fault(0, KVMI_EVENT_ACTION_CONTINUE) == SEMBLURICK_HANDLED);
+    CHECK(is_fed(SEMBLURICK_FED_MESSAGE, FAULT_DATA + 8, 8, 0) && vcpu_event(0, KVMI_EVENT_PF, 1) == 0 && page(0, 1, 5) == 0);
+
+    /* what closes, whatever the action is */
+    CHECK(goes_out(0));
+    for (size_t i = 0; i < sizeof actions; i++) {
+        const uint32_t sizes[] = {257, 512, 0x10000, 0x80000000, UINT32_MAX};
+        for (size_t j = 0; j < sizeof sizes / sizeof sizes[0]; j++) set_context(0x1000, sizes[j], 0), begin_fault_reply(0, actions[i]), CHECK(msg_closes());
+        set_context(0x1000, 256, 2), begin_fault_reply(0, actions[i]), CHECK(msg_closes());
+        set_context(0x1000, 0, 0xFF), begin_fault_reply(0, actions[i]), CHECK(msg_closes());
+        set_context(0x1000, 256, 1), context.padding1 = 1, begin_fault_reply(0, actions[i]), CHECK(msg_closes());
+        set_context(0x1000, 256, 1), context.padding2 = 1, begin_fault_reply(0, actions[i]), CHECK(msg_closes());
+        set_context(0x1000, 256, 1), context.padding2 = 0x8000, begin_fault_reply(0, actions[i]), CHECK(msg_closes());
+        for (size_t j = 10; j < 24; j == 15 ? j += 3 : j++) set_context(0x1000, 256, 1), begin_fault_reply(0, actions[i]), msg[j] = 1, CHECK(msg_closes());
+        set_context(0x1000, 256, 1), begin_fault_reply(0, actions[i]), msg[17] = KVMI_EVENT_MSR, CHECK(msg_closes());
+        begin_fault_reply(0, actions[i]), add("", 1), CHECK(msg_closes());
+        begin_fault_reply(0, actions[i]), msg_size -= 2, add("", 1), CHECK(msg_closes());
+        begin_fault_reply(0, actions[i]), msg_size = 32, add("", 0), CHECK(msg_closes());
+        begin_fault_reply(0, actions[i]), msg_size = 24, add("", 0), CHECK(msg_closes());
+        begin_fault_reply(1, actions[i]), CHECK(msg_closes());
+    }
+    begin_fault_reply(0, 3), CHECK(msg_closes());
+    CHECK(answer_fault(0, KVMI_EVENT_ACTION_CONTINUE) == SEMBLURICK_HANDLED && is_fed(SEMBLURICK_FED_MESSAGE, FAULT_DATA + 8, 248, 1));
+
+    /* none of it touches guest memory, and a handed-over session has the switch and the page */
+    CHECK(!memcmp(memory_before, memory, sizeof memory) && semblurick_image_write(&guest, semblurick_output_of(image, sizeof image), &r) == SEMBLURICK_HANDLED);
+    const struct semblurick_settings s = settings_of(2, 2);
+    CHECK(semblurick_image_read(&guest, &s, image, r.count, &r) == SEMBLURICK_HANDLED && goes_out(0));
+}
+
+/* What a batch is fed: by the input, from its beginning on. */
+static bool is_batch_fed(uint64_t source, uint64_t at, uint64_t length, uint64_t value) {
+    const uint8_t *bytes = source == SEMBLURICK_FED_MESSAGE ? input + at : source == SEMBLURICK_FED_GUEST ? memory + at : NULL;
+    return b.signal == SEMBLURICK_RESUME && b.vcpu == 0 && b.action == 0 && b.value == value && b.source == source && b.at == at && b.length == length &&
+           semblurick_batch_fed(input, semblurick_memory_of(memory, sizeof memory), &b) == bytes;
+}
+
+static void fed_by_batches(void) {
+    const size_t most = sizeof wide;
+    /* a pause, the reply, the version, which the resume leaves */
+    fresh_faults(), set_fault(0x1004, 0x1000, 1, 0), set_context(0x1000, 16, 1);
+    CHECK(goes_out(0)), join_pause(1, 1), begin_fault_reply(0, KVMI_EVENT_ACTION_CONTINUE), join(), join_version();
+    CHECK(batch(most, 16) == SEMBLURICK_HANDLED && b.used == 24 + 296 && b.count == 16 && b.listed == 1 && codes[0] == 259);
+    CHECK(is_batch_fed(SEMBLURICK_FED_MESSAGE, 24 + FAULT_DATA + 4, 12, 1) && !memcmp(semblurick_batch_fed(input, semblurick_no_memory(), &b), context.ctx_data + 4, 12));
+    CHECK(singly(16) == SEMBLURICK_HANDLED);
+
+    /* the guest page, which a write before has changed */
+    struct kvmi_vm_write_physical w;
+    w.gpa = 0x1FFA, w.size = 6;
+    fresh_faults(), set_fault(UINT64_MAX, 0x1FFC, 1, 0), set_context(0, 256, 0);
+    CHECK(goes_out(0)), begin(KVMI_VM_WRITE_PHYSICAL, 1), add(&w, sizeof w), add("behind", 6), join(), begin_fault_reply(0, KVMI_EVENT_ACTION_CONTINUE), join();
+    CHECK(batch(most, 1) == SEMBLURICK_HANDLED && b.used == input_size && b.count == 16 && b.listed == 0 && is_batch_fed(SEMBLURICK_FED_GUEST, 0x1FFC, 4, 0));
+    CHECK(!memcmp(semblurick_batch_fed(input, semblurick_memory_of(memory, sizeof memory), &b), "hind", 4) && singly(1) == SEMBLURICK_HANDLED);
+
+    /* answer 12 ends it, itself used; what those before wrote and signalled stays; the rest goes on */
+    fresh_faults(), set_fault(UINT64_MAX, UINT64_MAX, 1, 1), set_context(0, 256, 1);
+    CHECK(goes_out(0)), join_pause(1, 0), join_version(), begin_fault_reply(0, KVMI_EVENT_ACTION_CONTINUE), join(), join_pause(0, 1);
+    CHECK(batch(most, 2) == SEMBLURICK_NO_PAGE && b.used == 24 + 8 + 296 && b.count == 16 + 32 && b.listed == 1 && codes[0] == 258);
+    CHECK(is_batch_fed(SEMBLURICK_FED_NOTHING, 0, 0, 1) && semblurick_is_open(&guest) && semblurick_awaited(&guest, 0) == 0 && singly(2) == SEMBLURICK_NO_PAGE);
+    memmove(input, input + b.used, input_size -= b.used);
+    CHECK(batch(most, 1) == SEMBLURICK_HANDLED && is_batch(24, 16, 1) && codes[0] == 257);
+    /* alone, and first; it needs a place and room, too */
+    fresh_faults();
+    CHECK(goes_out(0)), begin_fault_reply(0, KVMI_EVENT_ACTION_CONTINUE), join(), join_version();
+    CHECK(batch(most, 0) == SEMBLURICK_NO_PLACE && batch(SEMBLURICK_MESSAGE_OUT - 1, 1) == SEMBLURICK_SHORT_OUT);
+    CHECK(batch(SEMBLURICK_MESSAGE_OUT, 1) == SEMBLURICK_NO_PAGE && b.used == 296 && b.count == 0 && b.listed == 0 && is_batch_fed(0, 0, 0, 1) && singly(1) == SEMBLURICK_NO_PAGE);
+
+    /* retry, a write and a crash: no bytes; a crash does not end it */
+    for (int i = 0; i < 3; i++) {
+        fresh_faults(), set_fault(0x1004, 0x1000, i == 1 ? 2 : 1, 0), set_context(0x1000, 16, 1);
+        CHECK(goes_out(0)), begin_fault_reply(0, (uint8_t)(i == 0 ? 1 : i == 1 ? 0 : 2)), join(), join_version();
+        CHECK(batch(most, 16) == SEMBLURICK_HANDLED);
+        if (i == 2) CHECK(is_batch(296 + 8, 32, 1) && codes[0] == 512);
+        else CHECK(b.used == 296 && b.count == 0 && b.signal == SEMBLURICK_RESUME && b.action == (i == 0) && b.value == 1 && b.source == 0 && b.at == 0 && b.length == 0);
+        CHECK(singly(16) == SEMBLURICK_HANDLED);
+    }
+
+    /* and what closes */
+    fresh_faults(), set_fault(0x1004, 0x1000, 1, 0), set_context(0x1000, 257, 0);
+    CHECK(goes_out(0)), join_version(), begin_fault_reply(0, KVMI_EVENT_ACTION_CONTINUE), join(), join_version();
+    CHECK(batch(most, 16) == SEMBLURICK_CLOSING && is_batch(8 + 296, 32, 0) && singly(16) == SEMBLURICK_CLOSING);
 }
 
 /* the functions below the calls, over parts that stand apart */
@@ -743,7 +1020,7 @@ static void parts(void) {
     CHECK(semblurick_raw_image_size(&session, &vcpus, &page_words) == 24);
     CHECK(semblurick_raw_image_write(&session, &vcpus, &page_words, image, 24, &r) == SEMBLURICK_HANDLED);
     CHECK(semblurick_raw_image_read(&session, &vcpus, &page_words, image, 24, &r) == SEMBLURICK_HANDLED);
-    CHECK(semblurick_raw_enter(&session, &vcpus, 0, state, sizeof state, KVMI_EVENT_HYPERCALL, nowhere, 0, out, sizeof out, &r) == SEMBLURICK_HANDLED && r.count == 552);
+    CHECK(semblurick_raw_enter(&session, &vcpus, &page_words, 0, state, sizeof state, KVMI_EVENT_HYPERCALL, nowhere, 0, out, sizeof out, &r) == SEMBLURICK_HANDLED && r.count == 552);
     CHECK(semblurick_raw_awaited(&session, &vcpus, 0) == 2 && semblurick_raw_page_count(&session) == 0 && semblurick_raw_access(&session, &page_words, 0, 1) == 7);
     CHECK(!semblurick_raw_vm_event(&session, 1) && !semblurick_raw_vcpu_event(&session, &vcpus, 0, 5) && !semblurick_raw_cr(&session, &vcpus, 0, 3));
     CHECK(!semblurick_raw_msr(&session, &vcpus, 0, 1) && !semblurick_raw_singlestep(&session, &vcpus, 0));
@@ -751,6 +1028,21 @@ static void parts(void) {
     /* a refused beginning leaves the words, and a closed session, in which nothing is awaited */
     CHECK(semblurick_raw_image_read(&session, &vcpus, &page_words, image, 0, &r) == SEMBLURICK_BAD_FORM && semblurick_raw_is_open(&session) == 0);
     CHECK(vcpus.words[4] == 2 && semblurick_raw_awaited(&session, &vcpus, 0) == 0);
+
+    /* a page fault goes by the pages that are handed over, which it leaves as they are */
+    static struct semblurick_pages pages_before;
+    const struct semblurick_settings s = settings_of(1, 1);
+    CHECK(semblurick_fresh(&guest, &s) == SEMBLURICK_HANDLED && semblurick_ready(&guest, 0) == SEMBLURICK_HANDLED && page(0, 1, 1) == 0 && vcpu_event(0, KVMI_EVENT_PF, 1) == 0);
+    memcpy(&session, &guest.session, sizeof session), memcpy(&vcpus, &guest.vcpus, sizeof vcpus), memcpy(&page_words, &guest.pages, sizeof page_words);
+    memcpy(&pages_before, &page_words, sizeof page_words);
+    for (uint64_t gpa = 0x2000; gpa >= 0x1000; gpa -= 0x1000) {
+        set_fault(5, gpa, KVMI_PAGE_ACCESS_W, 0), memcpy(own, &fault, sizeof fault);
+        CHECK(semblurick_raw_enter(&session, &vcpus, &page_words, 0, state, sizeof state, KVMI_EVENT_PF, own, sizeof fault, out, sizeof out, &r) == SEMBLURICK_HANDLED);
+        CHECK(r.count == (gpa == 0x1000 ? 576 : 0) && semblurick_raw_awaited(&session, &vcpus, 0) == (gpa == 0x1000 ? KVMI_EVENT_PF : 0));
+    }
+    CHECK(!memcmp(&pages_before, &page_words, sizeof page_words));
+    set_context(5, 1, 1), begin_fault_reply(0, KVMI_EVENT_ACTION_CONTINUE), memcpy(msg + 4, "\0\0\0", 4);
+    CHECK(semblurick_raw_message(&session, &vcpus, &page_words, msg, msg_size, out, sizeof out, memory, sizeof memory, &r) == SEMBLURICK_HANDLED && is_resume(0, 0, 1));
 }
 
 /* ---- execute-only pages: access 4, and no other, goes by the flag */
@@ -869,11 +1161,12 @@ static void numbers(void) {
     for (int i = 0; i < 14; i++) CHECK(events[i] == i + 1);
     CHECK(KVMI_EVENT_ACTION_CONTINUE == 0 && KVMI_EVENT_ACTION_RETRY == 1 && KVMI_EVENT_ACTION_CRASH == 2);
     CHECK(KVMI_PAGE_ACCESS_R == 1 && KVMI_PAGE_ACCESS_W == 2 && KVMI_PAGE_ACCESS_X == 4);
+    CHECK(SEMBLURICK_FED_NOTHING == 0 && SEMBLURICK_FED_MESSAGE == 1 && SEMBLURICK_FED_GUEST == 2 && SEMBLURICK_NO_PAGE == 12);
 }
 
 static void texts(void) {
     static const char *const answers[] = {"handled", "closing", "closed", "short output", "bad vCPU", "bad state block or event", "waiting",
-        "bad settings", "bad form", "forbidden", "busy", "no place for signals", "unknown answer", "unknown answer", "not applicable", "unknown answer"};
+        "bad settings", "bad form", "forbidden", "busy", "no place for signals", "no guest page", "unknown answer", "not applicable", "unknown answer"};
     for (uint32_t i = 0; i < 16; i++) CHECK(!strcmp(semblurick_answer_text(i), answers[i]));
     CHECK(!strcmp(semblurick_answer_text(SEMBLURICK_BUSY), "busy") && !strcmp(semblurick_answer_text(UINT32_MAX), "unknown answer"));
     CHECK(!strcmp(semblurick_signal_text(SEMBLURICK_NONE), "none") && !strcmp(semblurick_signal_text(SEMBLURICK_KICK), "kick"));
@@ -903,6 +1196,8 @@ int main(void) {
     closing();
     lists();
     batches();
+    faults();
+    fed_by_batches();
     parts();
     execute_only();
     limits();

@@ -1,4 +1,4 @@
-/* What the compiler has to refuse with -Werror=unused-result, for each CASE from 1 to 17; CASE 0 is taken. */
+/* What the compiler has to refuse with -Werror=unused-result, for each CASE from 1 to 19; CASE 0 is taken. */
 #include "semblurick.h"
 
 void use(struct semblurick *guest, uint8_t *bytes, size_t size, struct semblurick_vcpu *list, struct semblurick_result *r,
@@ -12,6 +12,7 @@ void use(struct semblurick *guest, uint8_t *bytes, size_t size, struct sembluric
     struct semblurick_signals signals = semblurick_signals_of(codes, 1);
     if (semblurick_fresh(guest, &s) || semblurick_message(guest, bytes, size, out, memory, r)) return;
     if (semblurick_batch(guest, bytes, size, out, signals, memory, b)) return;
+    if (semblurick_fed(bytes, memory, r) || semblurick_batch_fed(bytes, memory, b)) return;
     (void)list;
     /* an answer is dropped */
 #if CASE == 1
@@ -50,5 +51,10 @@ void use(struct semblurick *guest, uint8_t *bytes, size_t size, struct sembluric
     if (semblurick_batch(guest, bytes, size, out, out, memory, b)) return;
 #elif CASE == 17
     if (semblurick_batch(guest, bytes, size, out, signals, b)) return;
+    /* what an instruction reads: the output stands where memory should */
+#elif CASE == 18
+    if (semblurick_fed(bytes, out, r)) return;
+#elif CASE == 19
+    if (semblurick_batch_fed(bytes, out, b)) return;
 #endif
 }

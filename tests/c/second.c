@@ -35,6 +35,16 @@ SAME(SEMBLURICK_STATE_MSRS + 9 * 8, SEMBLURICK_STATE_BYTES);
 size_t second_unit(void);
 size_t second_unit(void) {
     static struct semblurick guest;
+    static uint8_t bytes[8];
+    static struct semblurick_result one;          /* of zeros, so that nothing is fed */
+    static struct semblurick_batch_result several;
     struct semblurick_settings s = SEMBLURICK_SETTINGS;
-    return semblurick_fresh(&guest, &s) == SEMBLURICK_HANDLED && semblurick_is_open(&guest) ? sizeof guest : 0;
+    const struct semblurick_memory memory = semblurick_memory_of(bytes + 4, 4);
+    bool is_wrong = semblurick_fed(bytes, memory, &one) || semblurick_batch_fed(bytes, memory, &several);
+    one.at = several.at = 1, one.length = several.length = 2;
+    one.source = SEMBLURICK_FED_MESSAGE, several.source = SEMBLURICK_FED_GUEST;
+    is_wrong |= semblurick_fed(bytes, memory, &one) != bytes + 1 || semblurick_batch_fed(bytes, memory, &several) != bytes + 5;
+    one.source = SEMBLURICK_FED_GUEST, several.source = SEMBLURICK_FED_MESSAGE;
+    is_wrong |= semblurick_fed(bytes, memory, &one) != bytes + 5 || semblurick_batch_fed(bytes, memory, &several) != bytes + 1;
+    return !is_wrong && semblurick_fresh(&guest, &s) == SEMBLURICK_HANDLED && semblurick_is_open(&guest) ? sizeof guest : 0;
 }

@@ -1,13 +1,20 @@
 //! A host in Rust: takes the messages that stand end to end in a file, answers them, programs what they switch, lets a kicked vCPU
-//! enter the guest, asks the tool about the guest's writes to CR3, and hands the session over by an image. Usage: host FILE
+//! enter the guest, asks the tool about the guest's writes to CR3 and its reads of guarded pages, and hands the session over by an image.
+//! Usage: host FILE
 use semblurick::{
-    own, Access, Command, Entry, Event, Refusal, Session, Settings, Signal, ENTRY_OUT, HEADER_BYTES, MESSAGE_OUT, PAGE_BYTES,
-    STATE_BYTES,
+    own, Access, Action, Answer, Command, Entry, Event, Feed, Refusal, Session, Settings, Signal, ENTRY_OUT, HEADER_BYTES,
+    MESSAGE_OUT, PAGE_BYTES, STATE_BYTES,
 };
 use std::collections::{BTreeMap, BTreeSet};
 use std::{env, fs, process};
 
 const VCPUS: u32 = 2;
+
+/// How many bytes an instruction of this guest reads.
+const READ: usize = 16;
+
+/// Where vCPU 0 reads, once its page faults are on.
+const TO_READ: [u64; 4] = [0x2FF0, 0x2FF0, 0x5000, 0x2FF0];
 
 #[derive(Clone, Copy, PartialEq, Eq, PartialOrd, Ord)]
 enum Intercept {
@@ -177,6 +184,10 @@ struct Host {
     /// What CR3 of each vCPU holds, and what the guest wrote last: another value while the tool is asked.
     cr3: [u64; VCPUS as usize],
     written: [u64; VCPUS as usize],
+    /// Where a read of each vCPU is that waits, while the tool is asked.
+    reads: [Option<u64>; VCPUS as usize],
+    /// Which of the reads of vCPU 0 is the next.
+    next_read: usize,
 }
 
 impl Host {
@@ -199,6 +210,9 @@ impl Host {
                 if written != self.cr3[vcpu as usize] {
                     self.set_cr3(vcpu, written);
                 }
+                if let Some(gpa) = self.reads[vcpu as usize].take() {
+                    read_as_ever(vcpu, gpa, guest);
+                }
             }
             return;
         }
@@ -209,15 +223,26 @@ impl Host {
         send_to_tool(answer.bytes());
         match answer.signal() {
             Signal::Kick { vcpu, .. } => self.enter(vcpu),
-            Signal::Resume { vcpu, value, .. } => {
-                // this host asks about nothing else
-                self.set_cr3(vcpu, value);
+            Signal::Resume { vcpu, action, value } => {
+                match self.reads[vcpu as usize].take() {
+                    // to retry is to execute the instruction again, which faults or not by the guards of that time
+                    Some(_) if action == Action::Retry => self.next_read -= 1,
+                    Some(gpa) => match (answer, answer.feed()) {
+                        (Answer::NoPage { .. }, _) => read_as_ever(vcpu, gpa, guest),
+                        (_, Feed::Supplied(bytes)) => read_from(vcpu, "the tool", bytes),
+                        (_, Feed::Page(bytes)) => read_from(vcpu, "memory", bytes),
+                        (_, feed) => unreachable!("a read is {feed}"),
+                    },
+                    // this host asks about nothing else
+                    None => self.set_cr3(vcpu, value),
+                }
                 self.enter(vcpu);
             }
             Signal::Crash { vcpu } => {
                 println!("vCPU {vcpu} is to be crashed");
-                // the write that waited is dropped
+                // the write or the read that waited is dropped
                 self.written[vcpu as usize] = self.cr3[vcpu as usize];
+                self.reads[vcpu as usize] = None;
             }
             Signal::None => {
                 // a vCPU goes on from a pause; another may be queued
@@ -256,16 +281,63 @@ impl Host {
         Ok(())
     }
 
-    /// What the guest does meanwhile: after two of the messages vCPU 0 writes CR3, unless it waits.
-    fn run_guest(&mut self, message: &[u8]) -> Result<(), Refusal> {
+    /// The guest reads. Where a guard is in its way the tool is asked, if it wants to be, and the vCPU waits; else the read is carried
+    /// out.
+    fn read(&mut self, vcpu: u32, gva: u64, gpa: u64, guest: &[u8]) -> Result<(), Refusal> {
+        let access = self.hardware.pages.get(&(0, gpa / PAGE_BYTES as u64)).copied().unwrap_or(Access::RWX);
+        if access.grants(Access::R) {
+            // without a fault the host does not even see it
+            read_as_ever(vcpu, gpa, guest);
+            return Ok(());
+        }
+        let mut out = [0; ENTRY_OUT];
+        let event = own::Pf { gva, gpa, access: Access::R.bits(), view: 0 };
+        let entry = self.session.enter_event(vcpu, &STATE, Event::Pf, &event.bytes(), &mut out);
+        send_event(&format!("vCPU {vcpu} reads at {gva:#x}"), entry);
+        match entry {
+            Ok(entry) if entry.event() == Some(Event::Pf) => self.reads[vcpu as usize] = Some(gpa),
+            // what was sent, if anything, is a pause
+            Ok(_) | Err(Refusal::Closed) => read_as_ever(vcpu, gpa, guest),
+            Err(refusal) => return Err(refusal),
+        }
+        Ok(())
+    }
+
+    /// What the guest does meanwhile: after two of the messages vCPU 0 writes CR3, and once its page faults are on it reads, an address
+    /// after the other, unless it waits.
+    fn run_guest(&mut self, message: &[u8], guest: &[u8]) -> Result<(), Refusal> {
         if message.len() < HEADER_BYTES || self.session.awaited(0).is_some() {
             return Ok(());
         }
-        match Command::from_number(u16::from_le_bytes([message[0], message[1]])) {
-            Some(Command::GetVersion) => self.write_cr3(0, 0x1000),
-            Some(Command::VcpuControlCr) => self.write_cr3(0, 0x2000),
-            _ => Ok(()),
+        let reads = match Command::from_number(u16::from_le_bytes([message[0], message[1]])) {
+            Some(Command::GetVersion) => return self.write_cr3(0, 0x1000),
+            Some(Command::VcpuControlCr) => return self.write_cr3(0, 0x2000),
+            Some(Command::VcpuControlEvents) => self.session.vcpu_event(0, Event::Pf),
+            Some(Command::EventReply) => self.next_read > 0,
+            _ => false,
+        };
+        match TO_READ.get(self.next_read).filter(|_| reads) {
+            Some(gpa) => {
+                self.next_read += 1;
+                self.read(0, 0x400000 + gpa, *gpa, guest)
+            }
+            None => Ok(()),
         }
+    }
+}
+
+/// The instruction reads [`READ`] bytes, of those that it is fed; where these are fewer, a real host reads the rest at the next address, as
+/// any other.
+fn read_from(vcpu: u32, place: &str, bytes: &[u8]) {
+    let text = String::from_utf8_lossy(&bytes[..bytes.len().min(READ)]);
+    println!("vCPU {vcpu} reads '{text}' from {place}");
+}
+
+/// As if there were no tool: what is no memory is a device.
+fn read_as_ever(vcpu: u32, gpa: u64, guest: &[u8]) {
+    match guest.get(gpa as usize..) {
+        Some(bytes @ [_, ..]) => read_from(vcpu, "memory", bytes),
+        _ => read_from(vcpu, "a device", b"a device's bytes"),
     }
 }
 
@@ -281,7 +353,14 @@ fn check(hardware: &Hardware, image: &[u8]) -> bool {
 fn run(stream: &[u8]) -> Result<bool, Refusal> {
     let settings = Settings::allowing_all(VCPUS).execute_only(has_execute_only());
     let session = Session::fresh(&settings)?;
-    let mut host = Host { session, hardware: Hardware::default(), cr3: Default::default(), written: Default::default() };
+    let mut host = Host {
+        session,
+        hardware: Hardware::default(),
+        cr3: Default::default(),
+        written: Default::default(),
+        reads: Default::default(),
+        next_read: 0,
+    };
     for vcpu in 0..VCPUS {
         host.session.ready(vcpu)?;
     }
@@ -290,7 +369,7 @@ fn run(stream: &[u8]) -> Result<bool, Refusal> {
     while !rest.is_empty() {
         let (message, after) = rest.split_at(next(rest));
         host.take(message, &mut guest);
-        host.run_guest(message)?;
+        host.run_guest(message, &guest)?;
         rest = after;
     }
     let mut image = vec![0; host.session.image_size()];

@@ -36,7 +36,9 @@ pub enum Signal {
         /// [`Action::Continue`]: what the event was about is carried out. [`Action::Retry`]: it is not, and the vCPU enters the guest
         /// again. Never [`Action::Crash`]: that is [`Signal::Crash`].
         action: Action,
-        /// Of a CR or an MSR event, what the register is to hold; else 0.
+        /// Of a CR or an MSR event, what the register is to hold. Of a page fault, the reply's `rep_complete`: 1 where an instruction
+        /// with a REP prefix is to be carried out just once, or at least no other fault of it is to be offered; else 0. Of any other
+        /// event, 0.
         value: u64,
     },
 }
@@ -72,6 +74,120 @@ impl fmt::Display for Signal {
     }
 }
 
+/// What an instruction reads whose page fault the tool continues: bytes from the address that faulted on, one at least. They are a part of
+/// what was lent, not a copy. The instruction takes as many as it reads; where it reads more, the host reads the rest as at any other
+/// address, which may be guarded, too.
+///
+/// There are some where the access that was offered has R, and the tool's action is [`Action::Continue`]. Where the guest virtual address
+/// is known and among those that the tool's reply supplies, they are what it supplies, from that address to the end; else they are those
+/// of the guest page, from the guest physical address to the end of the page. Where that page does not lie wholly inside the memory that
+/// is lent with the reply there are none: [`Answer::NoPage`].
+///
+/// ```
+/// use semblurick::{own, Access, Action, Event, Feed, Session, Settings, Signal, ENTRY_OUT, MESSAGE_OUT, STATE_BYTES};
+///
+/// let mut session = Session::fresh(&Settings::allowing_all(1))?;
+/// session.ready(0)?;
+/// let (mut out, mut event, mut guest) = ([0; MESSAGE_OUT], [0; ENTRY_OUT], [0xCC; 2 * 4096]);
+///
+/// // KVMI_VCPU_CONTROL_EVENTS and KVMI_VM_SET_PAGE_ACCESS: page faults on, and page 1 to --x
+/// let events = [10, 0, 16, 0, 0, 0, 0, 0, 0, 0, 0, 0, 0, 0, 0, 0, 10, 0, 1, 0, 0, 0, 0, 0];
+/// let guard = [13, 0, 24, 0, 0, 0, 0, 0, 1, 0, 0, 0, 0, 0, 0, 0, 0, 0x10, 0, 0, 0, 0, 0, 0, 4, 0, 0, 0, 0, 0, 0, 0];
+/// assert!(session.message(&events, &mut out, &mut guest)?.error().is_none());
+/// assert!(session.message(&guard, &mut out, &mut guest)?.error().is_none());
+///
+/// // KVMI_EVENT_REPLY: continue, to event 10, with what the guest is to read from an address on
+/// let reply = |seq, address: u64, supplied: &[u8]| {
+///     let mut reply = vec![16, 0, 32, 1, seq, 0, 0, 0, 0, 0, 0, 0, 0, 0, 0, 0, 0, 10, 0, 0, 0, 0, 0, 0];
+///     reply.extend(address.to_le_bytes());
+///     reply.extend((supplied.len() as u64).to_le_bytes()); // a u32, padding, and rep_complete 0
+///     reply.extend(supplied);
+///     reply.resize(8 + 288, 0);
+///     reply
+/// };
+///
+/// // the guest reads its own code, at 0x7f1ff8, which is 0x1ff8 in its memory: the tool is asked, and shows it something else
+/// let read = own::Pf { gva: 0x7F1FF8, gpa: 0x1FF8, access: Access::R.bits(), view: 0 }.bytes();
+/// assert_eq!(session.enter_event(0, &[0; STATE_BYTES], Event::Pf, &read, &mut event)?.event(), Some(Event::Pf));
+/// let shown = reply(0, 0x7F1FF0, b"not seen, but this is");
+/// let answer = session.message(&shown, &mut out, &mut guest)?;
+/// assert_eq!(answer.signal(), Signal::Resume { vcpu: 0, action: Action::Continue, value: 0 });
+/// assert_eq!(answer.feed(), Feed::Supplied(b", but this is"));
+///
+/// // and once more: this time the tool supplies nothing, and the guest reads what stands in its memory
+/// assert_eq!(session.enter_event(0, &[0; STATE_BYTES], Event::Pf, &read, &mut event)?.event(), Some(Event::Pf));
+/// let unchanged = reply(1, 0, &[]);
+/// assert_eq!(session.message(&unchanged, &mut out, &mut guest)?.feed(), Feed::Page(&[0xCC; 8]));
+/// # Ok::<(), semblurick::Refusal>(())
+/// ```
+#[derive(Clone, Copy, PartialEq, Eq)]
+#[non_exhaustive]
+#[must_use = "the instruction that faulted reads these bytes"]
+pub enum Feed<'a> {
+    /// No bytes are wanted; or, with [`Answer::NoPage`] and where [`Batch::no_page`] is set, there are none.
+    None,
+    /// What the tool supplied with its reply: a part of the message, after a batch of the input.
+    Supplied(&'a [u8]),
+    /// What stands in guest memory.
+    Page(&'a [u8]),
+    /// The same, by its place in guest memory, inside what was lent: from [`message_at`](crate::Session::message_at) and
+    /// [`batch_at`](crate::Session::batch_at), since no reference may stand for that memory. The host reads it, by its pointer.
+    PageAt {
+        /// The offset of the first byte: the guest physical address that faulted.
+        at: usize,
+        /// How many there are.
+        length: usize,
+    },
+}
+
+impl<'a> Feed<'a> {
+    /// The bytes, where there are some and a reference stands for them: not of [`Feed::PageAt`].
+    #[must_use]
+    pub const fn bytes(&self) -> Option<&'a [u8]> {
+        match self {
+            Feed::Supplied(bytes) | Feed::Page(bytes) => Some(bytes),
+            Feed::None | Feed::PageAt { .. } => None,
+        }
+    }
+
+    /// The one that the library tells, of a message or, after a batch, of its input; and of the guest's memory, where a reference stands
+    /// for it.
+    #[inline]
+    pub(crate) fn of(source: u64, at: u64, length: u64, message: &'a [u8], guest: Option<&'a [u8]>) -> Feed<'a> {
+        let (at, length) = (at as usize, length as usize);
+        // the library promises that there is no other
+        debug_assert!(source <= 2, "a feed's source: {source}");
+        match (source, guest) {
+            (0, _) => Feed::None,
+            (1, _) => Feed::Supplied(&message[at..at + length]),
+            (_, Some(guest)) => Feed::Page(&guest[at..at + length]),
+            (_, None) => Feed::PageAt { at, length },
+        }
+    }
+}
+
+impl fmt::Display for Feed<'_> {
+    fn fmt(&self, f: &mut fmt::Formatter<'_>) -> fmt::Result {
+        match self {
+            Feed::None => f.write_str("fed nothing"),
+            Feed::Supplied(bytes) => write!(f, "fed {} bytes of the message", bytes.len()),
+            Feed::Page(bytes) => write!(f, "fed {} bytes of guest memory", bytes.len()),
+            Feed::PageAt { at, length } => write!(f, "fed {length} bytes of guest memory at {at:#x}"),
+        }
+    }
+}
+
+impl fmt::Debug for Feed<'_> {
+    fn fmt(&self, f: &mut fmt::Formatter<'_>) -> fmt::Result {
+        match self {
+            Feed::None => f.write_str("None"),
+            Feed::Supplied(bytes) => f.debug_tuple("Supplied").field(&Hex(bytes)).finish(),
+            Feed::Page(bytes) => f.debug_tuple("Page").field(&Hex(bytes)).finish(),
+            Feed::PageAt { at, length } => f.debug_struct("PageAt").field("at", at).field("length", length).finish(),
+        }
+    }
+}
+
 /// What became of a message. `{}` is a line for a log, and `{:?}` shows the bytes too.
 #[derive(Clone, Copy, PartialEq, Eq)]
 #[non_exhaustive]
@@ -84,9 +200,19 @@ pub enum Answer<'a> {
         bytes: &'a [u8],
         /// What the host is to do beside.
         signal: Signal,
+        /// What the instruction reads, where the signal resumes a vCPU from a page fault.
+        feed: Feed<'a>,
     },
     /// It broke a rule that closes the session. Nothing goes to the tool, and every later call is refused.
     Closing,
+    /// It was taken, and this is no refusal: a reply that continues a page fault, and the instruction would be fed from a guest page that
+    /// does not lie wholly inside the memory which was lent. Nothing goes to the tool, and the vCPU is resumed; the host feeds it by its
+    /// own means, as if there were no tool: from a device, for one.
+    #[non_exhaustive]
+    NoPage {
+        /// The [`Signal::Resume`] of the vCPU.
+        signal: Signal,
+    },
 }
 
 impl<'a> Answer<'a> {
@@ -96,6 +222,7 @@ impl<'a> Answer<'a> {
         match self {
             Answer::Handled { .. } => 0,
             Answer::Closing => 1,
+            Answer::NoPage { .. } => 12,
         }
     }
 
@@ -104,15 +231,23 @@ impl<'a> Answer<'a> {
     pub const fn bytes(&self) -> &'a [u8] {
         match self {
             Answer::Handled { bytes, .. } => bytes,
-            Answer::Closing => &[],
+            Answer::Closing | Answer::NoPage { .. } => &[],
         }
     }
 
     /// What the host is to do beside sending the bytes.
     pub const fn signal(&self) -> Signal {
         match self {
-            Answer::Handled { signal, .. } => *signal,
+            Answer::Handled { signal, .. } | Answer::NoPage { signal } => *signal,
             Answer::Closing => Signal::None,
+        }
+    }
+
+    /// What the instruction reads, where the signal resumes a vCPU from a page fault.
+    pub const fn feed(&self) -> Feed<'a> {
+        match self {
+            Answer::Handled { feed, .. } => *feed,
+            Answer::Closing | Answer::NoPage { .. } => Feed::None,
         }
     }
 
@@ -134,8 +269,10 @@ impl fmt::Display for Answer<'_> {
     fn fmt(&self, f: &mut fmt::Formatter<'_>) -> fmt::Result {
         match self {
             Answer::Closing => f.write_str("the session closes"),
-            Answer::Handled { bytes: [], signal } => write!(f, "taken, no bytes, {signal}"),
-            Answer::Handled { bytes, signal } => match self.error() {
+            Answer::NoPage { signal } => write!(f, "taken, no bytes, {signal}, no guest page to feed it from"),
+            Answer::Handled { bytes: [], signal, feed: Feed::None } => write!(f, "taken, no bytes, {signal}"),
+            Answer::Handled { bytes: [], signal, feed } => write!(f, "taken, no bytes, {signal}, {feed}"),
+            Answer::Handled { bytes, signal, .. } => match self.error() {
                 Some(error) => write!(f, "{error}, {} bytes, {signal}", bytes.len()),
                 None => write!(f, "done, {} bytes, {signal}", bytes.len()),
             },
@@ -145,13 +282,21 @@ impl fmt::Display for Answer<'_> {
 
 impl fmt::Debug for Answer<'_> {
     fn fmt(&self, f: &mut fmt::Formatter<'_>) -> fmt::Result {
-        let Answer::Handled { bytes, signal } = self else { return f.write_str("Closing") };
+        let (bytes, signal, feed) = match self {
+            Answer::Handled { bytes, signal, feed } => (bytes, signal, feed),
+            Answer::Closing => return f.write_str("Closing"),
+            Answer::NoPage { signal } => return f.debug_struct("NoPage").field("signal", signal).finish(),
+        };
         let mut list = f.debug_struct("Handled");
         show::header(&mut list, bytes);
         if let Some(error) = self.error() {
             list.field("error", &error);
         }
-        list.field("bytes", &Hex(bytes)).field("signal", signal).finish()
+        list.field("bytes", &Hex(bytes)).field("signal", signal);
+        if *feed != Feed::None {
+            list.field("feed", feed);
+        }
+        list.finish()
     }
 }
 
@@ -159,7 +304,8 @@ impl fmt::Debug for Answer<'_> {
 ///
 /// What a host does, in this order: what the used messages name to hardware, and where it is [`closing`](Batch::closing) every guard off
 /// the guest; [`signals`](Batch::signals); [`bytes`](Batch::bytes) to the tool, and where it is closing the connection ends; last
-/// [`resume`](Batch::resume), and where it is closing every vCPU that waited goes on, with whatever event, as if there were no tool.
+/// [`resume`](Batch::resume), from a page fault with its [`feed`](Batch::feed), and where it is closing every vCPU that waited goes on,
+/// with whatever event, as if there were no tool.
 #[derive(Clone, Copy, PartialEq, Eq)]
 #[non_exhaustive]
 #[must_use = "the bytes go to the tool, the signals are to be followed, and the input may not be used up"]
@@ -177,13 +323,22 @@ pub struct Batch<'a> {
     pub resume: Signal,
     /// Whether the last message that was used closed the session.
     pub closing: bool,
+    /// What the instruction reads, where the resume is from a page fault.
+    pub feed: Feed<'a>,
+    /// Whether the last message that was used is one that is answered [`Answer::NoPage`] by itself. This is no refusal: the resume is
+    /// followed, and the host feeds the instruction by its own means.
+    pub no_page: bool,
 }
 
 impl<'a> Batch<'a> {
     /// Its number among the host answers.
     #[must_use]
     pub const fn number(&self) -> u32 {
-        self.closing as u32
+        match (self.closing, self.no_page) {
+            (true, _) => 1,
+            (false, true) => 12,
+            (false, false) => 0,
+        }
     }
 
     /// The kicks and crashes that are listed, in the messages' order: what the host is to do before it sends the bytes. The
@@ -205,7 +360,14 @@ impl fmt::Display for Batch<'_> {
         if self.listed.is_empty() || self.resume != Signal::None {
             write!(f, ", {}", self.resume)?;
         }
-        f.write_str(if self.closing { ", the session closes" } else { "" })
+        if self.feed != Feed::None {
+            write!(f, ", {}", self.feed)?;
+        }
+        f.write_str(match (self.closing, self.no_page) {
+            (true, _) => ", the session closes",
+            (false, true) => ", no guest page to feed it from",
+            (false, false) => "",
+        })
     }
 }
 
@@ -213,7 +375,14 @@ impl fmt::Debug for Batch<'_> {
     fn fmt(&self, f: &mut fmt::Formatter<'_>) -> fmt::Result {
         let mut list = f.debug_struct("Batch");
         list.field("used", &self.used).field("messages", &show::Messages(self.bytes)).field("bytes", &Hex(self.bytes));
-        list.field("signals", &self.signals()).field("resume", &self.resume).field("closing", &self.closing).finish()
+        list.field("signals", &self.signals()).field("resume", &self.resume).field("closing", &self.closing);
+        if self.feed != Feed::None {
+            list.field("feed", &self.feed);
+        }
+        if self.no_page {
+            list.field("no_page", &self.no_page);
+        }
+        list.finish()
     }
 }
 

@@ -39,8 +39,11 @@ pub struct Outcome {
     pub wait: u64,
     pub action: u64,
     pub value: u64,
+    pub source: u64,
+    pub at: u64,
+    pub length: u64,
     /// Kept for later; 0 in every answer.
-    pub reserved: [u64; 5],
+    pub reserved: [u64; 2],
 }
 
 /// What a batch tells; as large as an [`Outcome`].
@@ -54,8 +57,11 @@ pub struct BatchOutcome {
     pub vcpu: u64,
     pub action: u64,
     pub value: u64,
+    pub source: u64,
+    pub at: u64,
+    pub length: u64,
     /// Kept for later; 0 in every answer.
-    pub reserved: [u64; 5],
+    pub reserved: [u64; 2],
 }
 
 /// A vCPU's record in a list that the host keeps.
@@ -87,6 +93,7 @@ const _: () = {
     assert!(core::mem::size_of::<Session>() == 72);
     assert!(core::mem::size_of::<Outcome>() == 96);
     assert!(core::mem::size_of::<BatchOutcome>() == 96);
+    assert!(core::mem::offset_of!(Outcome, source) == 56 && core::mem::offset_of!(BatchOutcome, source) == 56);
     assert!(core::mem::size_of::<Vcpu>() == 56);
 };
 
@@ -122,6 +129,7 @@ extern "C" {
     pub fn semblurick_raw_enter(
         session: *mut Session,
         vcpus: *mut Vcpus,
+        pages: *const Pages,
         vcpu: u32,
         state: *const u8,
         state_size: usize,

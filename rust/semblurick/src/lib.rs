@@ -38,8 +38,9 @@
 //! # Ok::<(), semblurick::Refusal>(())
 //! ```
 //!
-//! What the guest does and the tool may watch, a write to CR3 for one, the host offers as an event: [`Session::enter_event`].
-//! Several messages that came at once, it hands over at once: [`Session::batch`].
+//! What the guest does and the tool may watch, a write to CR3 for one, the host offers as an event: [`Session::enter_event`]. Where it
+//! is a read of a guarded page, the tool may say what the guest reads there: [`Feed`]. Several messages that came at once, the host
+//! hands over at once: [`Session::batch`].
 //!
 //! # Building
 //! `build.rs` links `libsemblurick.a` from the folder that `SEMBLURICK_LIB_DIR` names, or from the repository's `target/staticlib`, where
@@ -67,7 +68,7 @@ mod settings;
 mod show;
 pub mod vcpu_list;
 
-pub use answer::{Answer, Batch, Entry, Refusal, Signal, Signals};
+pub use answer::{Answer, Batch, Entry, Feed, Refusal, Signal, Signals};
 pub use lookup::{Access, Page, Pages};
 pub use names::{Action, Command, CommandSet, Errno, Event, EventSet};
 pub use session::Session;
@@ -84,7 +85,7 @@ pub const PAGE_BYTES: usize = 4096;
 pub const HEADER_BYTES: usize = 8;
 /// The bytes of the longest message that a header can state.
 pub const MESSAGE_MAX: usize = HEADER_BYTES + u16::MAX as usize;
-/// The bytes of the longest event, header included: that of a CR or an MSR.
+/// The bytes of the longest event, header included: that of a CR, an MSR or a page fault.
 pub const EVENT_MAX: usize = 576;
 /// The least output for [`Session::message`], and for each message of a [`Session::batch`].
 pub const MESSAGE_OUT: usize = 4112;
@@ -106,6 +107,7 @@ const _: () = {
     is_shared::<Settings>();
     is_shared::<Answer<'_>>();
     is_shared::<Batch<'_>>();
+    is_shared::<Feed<'_>>();
     is_shared::<Signals<'_>>();
     is_shared::<Entry<'_>>();
     is_shared::<Refusal>();
@@ -113,7 +115,8 @@ const _: () = {
     is_shared::<Vcpu>();
 };
 
-/// What must not compile: settings that name every field, a `match` that knows every signal, and answers that are dropped.
+/// What must not compile: settings that name every field, a `match` that knows every signal or every source of bytes, an answer that
+/// outlives what was lent, and answers that are dropped.
 ///
 /// ```compile_fail,E0639
 /// let settings = semblurick::Settings { vcpus: 2, ..semblurick::Settings::new(1) };
@@ -124,6 +127,28 @@ const _: () = {
 ///         semblurick::Signal::None | semblurick::Signal::Kick { .. } => {}
 ///         semblurick::Signal::Crash { .. } | semblurick::Signal::Resume { .. } => {}
 ///     }
+/// }
+/// ```
+/// ```compile_fail,E0004
+/// fn feed(feed: semblurick::Feed<'_>) {
+///     match feed {
+///         semblurick::Feed::None | semblurick::Feed::Supplied(_) => {}
+///         semblurick::Feed::Page(_) | semblurick::Feed::PageAt { .. } => {}
+///     }
+/// }
+/// ```
+/// ```compile_fail,E0506
+/// fn take(session: &mut semblurick::Session, message: &mut [u8], out: &mut [u8]) -> Result<usize, semblurick::Refusal> {
+///     let answer = session.message(message, out, &mut [])?;
+///     message[0] = 0;
+///     Ok(answer.feed().bytes().map_or(0, <[u8]>::len))
+/// }
+/// ```
+/// ```compile_fail,E0506
+/// fn take(session: &mut semblurick::Session, out: &mut [u8], guest: &mut [u8]) -> Result<usize, semblurick::Refusal> {
+///     let answer = session.message(&[], out, guest)?;
+///     guest[0] = 0;
+///     Ok(answer.feed().bytes().map_or(0, <[u8]>::len))
 /// }
 /// ```
 /// ```compile_fail

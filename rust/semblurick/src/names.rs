@@ -105,8 +105,8 @@ impl From<Event> for u32 {
 }
 
 numbered! {
-    /// What a tool's reply to an event says of the vCPU. Every event can be continued or crashed; a breakpoint and a descriptor
-    /// event can also be retried.
+    /// What a tool's reply to an event says of the vCPU. Every event can be continued or crashed; a breakpoint, a descriptor event
+    /// and a page fault can also be retried.
     Action: u8 {
         Continue = 0 => "KVMI_EVENT_ACTION_CONTINUE",
         Retry = 1 => "KVMI_EVENT_ACTION_RETRY",

@@ -1,7 +1,7 @@
 //! The own bytes of the events that a host offers: what an event has behind the register block.
 //!
-//! The fields have kvmi.rst's names, and `bytes` lays them out as it does, with zeros for the padding. `KVMI_EVENT_HYPERCALL`,
-//! `KVMI_EVENT_XSETBV` and `KVMI_EVENT_CREATE_VCPU` have no own bytes: they are offered with `&[]`.
+//! The fields have kvmi.rst's names, but for a page fault's view, and `bytes` lays them out as it does, with zeros for the padding.
+//! `KVMI_EVENT_HYPERCALL`, `KVMI_EVENT_XSETBV` and `KVMI_EVENT_CREATE_VCPU` have no own bytes: they are offered with `&[]`.
 //!
 //! ```
 //! use semblurick::own;
@@ -93,6 +93,29 @@ own! {
         old_value: u64 as u64 @ 8,
         /// What the guest writes.
         new_value: u64 as u64 @ 16,
+    }
+}
+
+own! {
+    /// Of [`Event::Pf`](crate::Event::Pf): the guest accesses a page whose rights forbid it.
+    ///
+    /// ```
+    /// use semblurick::{own, Access};
+    ///
+    /// let read = own::Pf { gva: u64::MAX, gpa: 0x1234, access: Access::R.bits(), view: 3 };
+    /// let bytes = [[0xFF; 8], [0x34, 0x12, 0, 0, 0, 0, 0, 0], [1, 0, 3, 0, 0, 0, 0, 0]].concat();
+    /// assert_eq!(read.bytes(), bytes[..]);
+    /// ```
+    Pf: 24 {
+        /// The guest virtual address that faulted; [`u64::MAX`]: not known.
+        gva: u64 as u64 @ 0,
+        /// The guest physical address that it is. Where its page stands at rwx in the view the event is passed over.
+        gpa: u64 as u64 @ 8,
+        /// What the guest tried, R 1, W 2, X 4: [`Access::bits`](crate::Access::bits). With R it reads, and is fed where the tool
+        /// continues: [`Feed`](crate::Feed).
+        access: u8 as u8 @ 16,
+        /// The view whose page faulted. kvmi.rst has padding here: 0 is view 0, the usual one.
+        view: u16 as u16 @ 18,
     }
 }
 

@@ -1,6 +1,6 @@
 //! A session, and the calls on it.
 
-use crate::{ffi, Action, Answer, Batch, Entry, Refusal, Settings, Signal};
+use crate::{ffi, Action, Answer, Batch, Entry, Feed, Refusal, Settings, Signal};
 use core::mem::MaybeUninit;
 use core::ptr::addr_of_mut;
 
@@ -148,12 +148,13 @@ impl Session {
     /// The place is memory for a session, and this call alone uses it.
     #[inline]
     unsafe fn begin_at(place: *mut Session, settings: &Settings, image: Option<&[u8]>) -> Result<(), Refusal> {
+        let mut values = Place::uninit();
         // SAFETY: the caller lends the place, the image is only read, and of the session the library uses the settings alone,
         // which are written first.
         let told = unsafe {
             let (raw, vcpus, pages) = (addr_of_mut!((*place).raw), addr_of_mut!((*place).vcpus), addr_of_mut!((*place).pages));
             addr_of_mut!((*raw).settings).write(settings.raw());
-            Told::by(|result| match image {
+            Told::by(&mut values, |result| match image {
                 None => ffi::semblurick_raw_fresh(raw, vcpus, pages, result),
                 Some(image) => ffi::semblurick_raw_image_read(raw, vcpus, pages, image.as_ptr(), image.len(), result),
             })
@@ -167,29 +168,36 @@ impl Session {
     /// [`Refusal::Closed`], [`Refusal::BadVcpu`], tested in this order.
     #[inline]
     pub fn ready(&mut self, vcpu: u32) -> Result<(), Refusal> {
+        let mut place = Place::uninit();
         // SAFETY: the session is borrowed for this call alone.
-        let told = unsafe { Told::by(|result| ffi::semblurick_raw_ready(&mut self.raw, vcpu, result)) };
+        let told = unsafe { Told::by(&mut place, |result| ffi::semblurick_raw_ready(&mut self.raw, vcpu, result)) };
         told.done().map(|_| ())
     }
 
     /// Takes one message of the tool, header included. `guest` is the guest's physical memory from address 0; a page exists if it
-    /// lies wholly inside. The answer has the bytes of `out` that go to the tool.
+    /// lies wholly inside. The answer has the bytes of `out` that go to the tool; and where it resumes a vCPU from a page fault those of
+    /// `message` or of `guest` that the instruction reads: [`Feed`]. All three are borrowed until it is done with.
     ///
-    /// Nobody else may use that memory during the call, as `&mut` says; where the guest runs meanwhile, see
-    /// [`message_at`](Session::message_at).
+    /// Nobody else may use that memory meanwhile, as `&mut` says; where the guest runs, see [`message_at`](Session::message_at).
     ///
     /// # Errors
     /// [`Refusal::Closed`]; [`Refusal::ShortOut`] where `out` has less than [`MESSAGE_OUT`](crate::MESSAGE_OUT) bytes, whatever the
     /// message is. Tested in this order.
     #[inline]
-    pub fn message<'a>(&mut self, message: &[u8], out: &'a mut [u8], guest: &mut [u8]) -> Result<Answer<'a>, Refusal> {
-        // SAFETY: the memory is borrowed for this call alone.
-        unsafe { self.message_at(message, out, guest) }
+    pub fn message<'a>(&mut self, message: &'a [u8], out: &'a mut [u8], guest: &'a mut [u8]) -> Result<Answer<'a>, Refusal> {
+        let mut place = Place::uninit();
+        // SAFETY: the memory is borrowed, and nothing else uses it during this call.
+        let told = unsafe { self.told(&mut place, message, out, guest) };
+        if told.is_usual() {
+            return Ok(told.usual(out));
+        }
+        told.unusual(message, out, Some(guest))
     }
 
     /// [`message`](Session::message) on guest memory that no reference may stand for, since the guest's vCPUs or devices run
     /// meanwhile. Only `KVMI_VM_READ_PHYSICAL` and `KVMI_VM_WRITE_PHYSICAL` touch it, and nothing but the bytes that a read gives
-    /// depends on what stands in it.
+    /// depends on what stands in it. The reply to a page fault asks how long it is: the part that the instruction reads is told by its
+    /// place, [`Feed::PageAt`].
     ///
     /// # Safety
     /// The pointer is not null, and for all of its length the memory is mapped for reading and writing until the call ends and is no
@@ -200,13 +208,28 @@ impl Session {
     #[inline]
     pub unsafe fn message_at<'a>(
         &mut self,
-        message: &[u8],
+        message: &'a [u8],
         out: &'a mut [u8],
         guest: *mut [u8],
     ) -> Result<Answer<'a>, Refusal> {
+        let mut place = Place::uninit();
+        // SAFETY: the caller lends the memory.
+        let told = unsafe { self.told(&mut place, message, out, guest) };
+        if told.is_usual() {
+            return Ok(told.usual(out));
+        }
+        told.unusual(message, out, None)
+    }
+
+    /// What the library tells of a message.
+    ///
+    /// # Safety
+    /// As for [`message_at`](Session::message_at).
+    #[inline]
+    unsafe fn told<'t>(&mut self, place: &'t mut Place, message: &[u8], out: &mut [u8], guest: *mut [u8]) -> Told<'t> {
         // SAFETY: the slices are borrowed for this call, what is `&mut` overlaps nothing else, and the caller lends the memory.
-        let told = unsafe {
-            Told::by(|result| {
+        unsafe {
+            Told::by(place, |result| {
                 ffi::semblurick_raw_message(
                     &mut self.raw,
                     &mut self.vcpus,
@@ -220,19 +243,7 @@ impl Session {
                     result,
                 )
             })
-        };
-        if told.number == 1 {
-            return Ok(Answer::Closing);
         }
-        let count = told.done()?;
-        let vcpu = told.values.vcpu as u32;
-        let signal = match told.values.signal {
-            0 => Signal::None,
-            1 => Signal::Kick { vcpu, wait: told.values.wait != 0 },
-            2 => Signal::Crash { vcpu },
-            number => resume(number, vcpu, told.values.action, told.values.value),
-        };
-        Ok(Answer::Handled { bytes: &out[..count], signal })
     }
 
     /// Takes several messages of the tool that stand end to end, as one write of it may have them. The session, its tables and the bytes
@@ -253,8 +264,8 @@ impl Session {
     /// One message after the other is taken, until the input is used up, or
     /// - a message closes the session: [`Batch::closing`]. It is used, the bytes behind it are not, and what those before it wrote and
     ///   signalled is there;
-    /// - a message resumes a vCPU from an event: [`Batch::resume`]. It is used, and the resume is followed before the rest is handed
-    ///   over;
+    /// - a message resumes a vCPU from an event: [`Batch::resume`], from a page fault with [`Batch::feed`] or [`Batch::no_page`]. It is
+    ///   used, and the resume is followed before the rest is handed over;
     /// - before a message, whatever it would write or signal, less than [`MESSAGE_OUT`](crate::MESSAGE_OUT) bytes of `out` or no place
     ///   of `signals` are left.
     ///
@@ -263,8 +274,8 @@ impl Session {
     ///
     /// A host follows it in this order: first what the used messages name goes to hardware; then what is listed, so that every vCPU
     /// that is kicked with `wait` is out of the guest before any of the bytes are sent; then the bytes go to the tool; last the resume,
-    /// since a vCPU that goes on may write its next event. [`Batch`] says what differs where the session closes. A vCPU that is to be
-    /// crashed is not let into the guest any more.
+    /// since a vCPU that goes on may write its next event; what it is fed from a page fault is a part of `input` or of `guest`.
+    /// [`Batch`] says what differs where the session closes. A vCPU that is to be crashed is not let into the guest any more.
     ///
     /// ```
     /// use semblurick::{Session, Settings, Signal, MESSAGE_OUT};
@@ -313,13 +324,17 @@ impl Session {
     #[inline]
     pub fn batch<'a>(
         &mut self,
-        input: &[u8],
+        input: &'a [u8],
         out: &'a mut [u8],
         signals: &'a mut [u32],
-        guest: &mut [u8],
+        guest: &'a mut [u8],
     ) -> Result<Batch<'a>, Refusal> {
-        // SAFETY: the memory is borrowed for this call alone.
-        unsafe { self.batch_at(input, out, signals, guest) }
+        // SAFETY: the memory is borrowed, and nothing else uses it during this call.
+        let batch = unsafe { self.batch_at(input, out, signals, guest) }?;
+        Ok(match batch.feed {
+            Feed::PageAt { at, length } => Batch { feed: Feed::Page(&guest[at..at + length]), ..batch },
+            _ => batch,
+        })
     }
 
     /// [`batch`](Session::batch) on guest memory that no reference may stand for, since the guest's vCPUs or devices run meanwhile, as
@@ -333,7 +348,7 @@ impl Session {
     #[inline]
     pub unsafe fn batch_at<'a>(
         &mut self,
-        input: &[u8],
+        input: &'a [u8],
         out: &'a mut [u8],
         signals: &'a mut [u32],
         guest: *mut [u8],
@@ -358,7 +373,7 @@ impl Session {
         };
         // SAFETY: the call has written every word.
         let told = unsafe { told.assume_init() };
-        if number > 1 {
+        if number > 1 && number != NO_PAGE {
             return Err(Refusal::of(number, 0));
         }
         let resume = match told.signal {
@@ -371,6 +386,8 @@ impl Session {
             used: told.used as usize,
             resume,
             closing: number == 1,
+            feed: Feed::of(told.source, told.at, told.length, input, None),
+            no_page: number == NO_PAGE,
         })
     }
 
@@ -391,10 +408,13 @@ impl Session {
     /// number; a bare number is written `5u32`. After it has offered, the vCPU asks again by [`enter`](Session::enter).
     ///
     /// The event is written exactly if its switch is on: the vCPU's, of `KVMI_EVENT_CREATE_VCPU` the VM's, and of a CR and an MSR also
-    /// that of the register which the own bytes name. The vCPU then waits until a message's answer signals [`Signal::Resume`] or
-    /// [`Signal::Crash`]; resumed, it calls [`enter`](Session::enter) before it runs, and does not offer the same event again: that
-    /// would be another one. Where the session closes no signal comes, and the answer is [`Refusal::Closed`]: the vCPU goes on as if
-    /// the event had been off.
+    /// that of the register which the own bytes name. A page fault is written exactly if the vCPU's switch is on and the page stands below
+    /// rwx in the view that the own bytes name, for whatever access, and whether guest memory has that page or not.
+    ///
+    /// The vCPU then waits until a message's answer signals [`Signal::Resume`] or [`Signal::Crash`]; resumed, from a page fault with what
+    /// it is fed ([`Feed`]), it calls [`enter`](Session::enter) before it runs, and does not offer the same event again: that would be
+    /// another one. After a retry of a page fault the instruction is executed again, and faults or not by the page's rights of that time.
+    /// Where the session closes no signal comes, and the answer is [`Refusal::Closed`]: the vCPU goes on as if the event had been off.
     ///
     /// An event that is off is passed over: the host carries out at once what it was about, as if there were no tool. A queued pause
     /// goes instead, with the register block that was lent, from before that operation; else there are no bytes. [`Entry::event`]
@@ -432,8 +452,8 @@ impl Session {
     ///
     /// # Errors
     /// As [`enter`](Session::enter), in the same order; [`Refusal::BadState`] also where no such event can be offered, or its own bytes
-    /// have another length, whether it is switched on or off. Events 3, 4, 5, 7, 8, 9, 11, 12 and 14 can be offered, and 0, with no
-    /// bytes, for none.
+    /// have another length, whether it is switched on or off. Events 3, 4, 5, 7 to 12 and 14 can be offered, and 0, with no bytes,
+    /// for none.
     #[inline]
     pub fn enter_event<'a>(
         &mut self,
@@ -443,12 +463,14 @@ impl Session {
         own: &[u8],
         out: &'a mut [u8],
     ) -> Result<Entry<'a>, Refusal> {
+        let mut place = Place::uninit();
         // SAFETY: the session and the slices are borrowed for this call, and what is `&mut` overlaps nothing else.
         let told = unsafe {
-            Told::by(|result| {
+            Told::by(&mut place, |result| {
                 ffi::semblurick_raw_enter(
                     &mut self.raw,
                     &mut self.vcpus,
+                    &self.pages,
                     vcpu,
                     state.as_ptr(),
                     state.len(),
@@ -480,9 +502,10 @@ impl Session {
     /// [`image_size`](Session::image_size) bytes. Tested in this order.
     #[inline]
     pub fn write_image(&self, out: &mut [u8]) -> Result<usize, Refusal> {
+        let mut place = Place::uninit();
         // SAFETY: the session is only read, and the output overlaps nothing else.
         let told = unsafe {
-            Told::by(|result| {
+            Told::by(&mut place, |result| {
                 ffi::semblurick_raw_image_write(&self.raw, &self.vcpus, &self.pages, out.as_mut_ptr(), out.len(), result)
             })
         };
@@ -496,6 +519,9 @@ impl Session {
     }
 }
 
+/// The number of the answer that is no refusal and has no page.
+const NO_PAGE: u32 = 12;
+
 /// A resume. The library promises that no signal but those before it has another number.
 #[inline]
 fn resume(number: u64, vcpu: u32, action: u64, value: u64) -> Signal {
@@ -504,21 +530,61 @@ fn resume(number: u64, vcpu: u32, action: u64, value: u64) -> Signal {
     Signal::Resume { vcpu, action, value }
 }
 
+/// Where a call of the library writes an answer's values. They stay there, since to copy them costs as much as what is read of them.
+type Place = MaybeUninit<ffi::Outcome>;
+
 /// What a call of the library told: the answer's number, and its values.
-struct Told {
+#[derive(Clone, Copy)]
+struct Told<'t> {
     number: u32,
-    values: ffi::Outcome,
+    values: &'t ffi::Outcome,
 }
 
-impl Told {
+impl<'t> Told<'t> {
     /// # Safety
     /// The call is one of the library's, with the result that it is handed: they write every word of it, whatever they answer.
     #[inline]
-    unsafe fn by(call: impl FnOnce(*mut ffi::Outcome) -> u32) -> Told {
-        let mut values = MaybeUninit::uninit();
-        let number = call(values.as_mut_ptr());
+    unsafe fn by(place: &'t mut Place, call: impl FnOnce(*mut ffi::Outcome) -> u32) -> Told<'t> {
+        let number = call(place.as_mut_ptr());
         // SAFETY: the call has written every word.
-        Told { number, values: unsafe { values.assume_init() } }
+        Told { number, values: unsafe { place.assume_init_ref() } }
+    }
+
+    /// Whether a message was taken, as almost every one is, and nothing is fed: one test for both.
+    #[inline]
+    fn is_usual(&self) -> bool {
+        self.number | self.values.source as u32 == 0
+    }
+
+    /// The answer then.
+    #[inline]
+    fn usual<'a>(&self, out: &'a [u8]) -> Answer<'a> {
+        Answer::Handled { bytes: &out[..self.values.count as usize], signal: self.signal(), feed: Feed::None }
+    }
+
+    /// The answer to any message, or the refusal. The guest's memory is there where a reference stands for it.
+    #[cold]
+    fn unusual<'a>(self, message: &'a [u8], out: &'a [u8], guest: Option<&'a [u8]>) -> Result<Answer<'a>, Refusal> {
+        let &ffi::Outcome { source, at, length, .. } = self.values;
+        match self.number {
+            1 => Ok(Answer::Closing),
+            NO_PAGE => Ok(Answer::NoPage { signal: self.signal() }),
+            _ => {
+                let (bytes, feed) = (&out[..self.done()?], Feed::of(source, at, length, message, guest));
+                Ok(Answer::Handled { bytes, signal: self.signal(), feed })
+            }
+        }
+    }
+
+    #[inline]
+    fn signal(&self) -> Signal {
+        let vcpu = self.values.vcpu as u32;
+        match self.values.signal {
+            0 => Signal::None,
+            1 => Signal::Kick { vcpu, wait: self.values.wait != 0 },
+            2 => Signal::Crash { vcpu },
+            number => resume(number, vcpu, self.values.action, self.values.value),
+        }
     }
 
     /// The count of answer 0, or the refusal.

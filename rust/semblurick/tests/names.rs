@@ -1,6 +1,6 @@
 //! What a support engineer reads.
 use semblurick::{
-    own, Action, Answer, Command, CommandSet, Errno, Event, EventSet, Refusal, Session, Settings, Signal, ENTRY_OUT,
+    own, Action, Answer, Command, CommandSet, Errno, Event, EventSet, Feed, Refusal, Session, Settings, Signal, ENTRY_OUT,
     MESSAGE_OUT, STATE_BYTES,
 };
 
@@ -158,7 +158,8 @@ fn batches_say_what_happened() {
     assert!(line.ends_with(", kick vCPU 7 and 1 more, resume vCPU 0: continue, value 0x0"), "{line}");
     let off = [15, 0, 8, 0, 4, 0, 0, 0, 0, 1, 1, 0, 0, 0, 0, 0];
     let (line, shown) = {
-        let batch = session.batch(&[&off[..], &pause(7, 0, 0), &[9]].concat(), &mut out, &mut signals, &mut []).unwrap();
+        let input = [&off[..], &pause(7, 0, 0), &[9]].concat();
+        let batch = session.batch(&input, &mut out, &mut signals, &mut []).unwrap();
         (batch.to_string(), format!("{batch:?}"))
     };
     assert_eq!(line, "used 41 bytes, wrote 568, no signal, the session closes");
@@ -205,9 +206,70 @@ fn an_offered_event_says_what_it_is() {
     let entry = session.enter_event(1, &[0; STATE_BYTES], Event::Breakpoint, &int3, &mut out).unwrap();
     assert_eq!(entry.to_string(), "KVMI_EVENT_BREAKPOINT, 568 bytes");
 
-    let refused = session.enter_event(1, &[0; STATE_BYTES], Event::Pf, &[0; 24], &mut out).unwrap_err();
+    let refused = session.enter_event(1, &[0; STATE_BYTES], Event::Trap, &[0; 24], &mut out).unwrap_err();
     let text = "the register block is not 536 bytes, or no event of that number and length can be offered";
     assert_eq!((refused, refused.to_string()), (Refusal::BadState, text.to_owned()));
+}
+
+/// The answer to a page fault's reply, with so many bytes of guest memory, and that of a batch behind a pause.
+fn fed(gva: u64, gpa: u64, access: u8, guest: usize) -> [String; 4] {
+    let mut session = Session::fresh(&Settings::allowing_all(2)).unwrap();
+    session.ready(1).unwrap();
+    let guard = [&[13, 0, 24, 0, 1, 0, 0, 0, 1][..], &[0; 8], &[0x10, 0, 0, 0, 0, 0, 0, 1], &[0; 7]].concat();
+    for message in [on_vcpu(10, 1, 1, [10, 0, 1, 0, 0, 0, 0, 0]), guard] {
+        assert_eq!(said(&mut session, &message).0, "done, 16 bytes, no signal");
+    }
+    let (mut out, mut signals, mut guest) = ([0; 2 * MESSAGE_OUT], [0; 16], vec![0xAB; guest]);
+    let read = own::Pf { gva, gpa, access, view: 0 }.bytes();
+    let entry = session.enter_event(1, &[0; STATE_BYTES], Event::Pf, &read, &mut out).unwrap();
+    assert_eq!(entry.to_string(), "KVMI_EVENT_PF, 576 bytes");
+    assert!(format!("{session:?}").contains("awaits_reply_to: KVMI_EVENT_PF, seq: 0"), "{session:?}");
+    let mut reply = on_vcpu(16, 0, 1, [0, 10, 0, 0, 0, 0, 0, 0]);
+    (reply[2], reply[3]) = (32, 1);
+    reply.extend([&0x7000u64.to_le_bytes()[..], &[12, 0, 0, 0, 0, 1, 0, 0], b"bytes for it"].concat());
+    reply.resize(296, 0);
+    let input = [on_vcpu(9, 7, 1, [0; 8]), reply.clone()].concat();
+    let mut twin = session.clone();
+    let answer = session.message(&reply, &mut out, &mut guest).unwrap();
+    let [line, shown] = [answer.to_string(), format!("{answer:?}")];
+    let batch = twin.batch(&input, &mut out, &mut signals, &mut guest).unwrap();
+    [line, shown, batch.to_string(), format!("{batch:?}")]
+}
+
+#[test]
+fn what_is_fed_is_said() {
+    let taken = "taken, no bytes, resume vCPU 1: continue, value 0x1";
+    let resume = "Resume { vcpu: 1, action: KVMI_EVENT_ACTION_CONTINUE, value: 1 }";
+    let batch = "used 320 bytes, wrote 16, kick vCPU 1, resume vCPU 1: continue, value 0x1";
+    let shown = format!(
+        "Batch {{ used: 320, messages: [KVMI_VCPU_PAUSE 7], bytes: [09 00 08 00 07 00 00 00 00 00 00 00 00 00 00 00], signals: \
+         [Kick {{ vcpu: 1, wait: false }}], resume: {resume}, closing: false"
+    );
+    let page = format!("Page([{}ab and 32 more])", "ab ".repeat(31));
+    for (gva, gpa, access, guest, line, feed) in [
+        (0x7008, 0x1FC0, 1, 0x2000, ", fed 4 bytes of the message", ", feed: Supplied([72 20 69 74])"),
+        (0x700C, 0x1FC0, 1, 0x2000, ", fed 64 bytes of guest memory", &format!(", feed: {page}")),
+        (0x7008, 0x1FC0, 2, 0x2000, "", ""),
+    ] {
+        let said = fed(gva, gpa, access, guest);
+        assert_eq!(said[0], format!("{taken}{line}"));
+        assert_eq!(said[1], format!("Handled {{ bytes: [], signal: {resume}{feed} }}"));
+        assert_eq!(said[2], format!("{batch}{line}"));
+        assert_eq!(said[3], format!("{shown}{feed} }}"));
+    }
+    // no page
+    let said = fed(0x700C, 0x1FC0, 1, 0x1FFF);
+    assert_eq!(said[0], format!("{taken}, no guest page to feed it from"));
+    assert_eq!(said[1], format!("NoPage {{ signal: {resume} }}"));
+    assert_eq!(said[2], format!("{batch}, no guest page to feed it from"));
+    assert_eq!(said[3], format!("{shown}, no_page: true }}"));
+
+    let at = Feed::PageAt { at: 0x1FC0, length: 64 };
+    assert_eq!(
+        (at.to_string(), format!("{at:?}")),
+        ("fed 64 bytes of guest memory at 0x1fc0".into(), "PageAt { at: 8128, length: 64 }".into())
+    );
+    assert_eq!((Feed::None.to_string(), format!("{:?}", Feed::None)), ("fed nothing".to_owned(), "None".to_owned()));
 }
 
 #[test]

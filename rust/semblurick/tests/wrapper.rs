@@ -1,8 +1,9 @@
-//! The wrapper's own promises: settings by name, lookups, events that are offered, batches, the list form, in place and on threads.
+//! The wrapper's own promises: settings by name, lookups, events that are offered, page faults, batches, the list form, in place and on
+//! threads.
 use semblurick::{
-    own, vcpu_list, Access, Action, Answer, Batch, Command, CommandSet, Entry, Errno, Event, EventSet, Features, Page, Pages,
-    Refusal, Session, Settings, Signal, Signals, Vcpu, ENTRY_OUT, EVENT_MAX, IMAGE_MAX, MAX_VCPUS, MAX_VIEWS, MESSAGE_OUT,
-    PAGE_LIMIT, PAUSE_LIMIT, STATE_BYTES,
+    own, vcpu_list, Access, Action, Answer, Batch, Command, CommandSet, Entry, Errno, Event, EventSet, Features, Feed, Page,
+    Pages, Refusal, Session, Settings, Signal, Signals, Vcpu, ENTRY_OUT, EVENT_MAX, IMAGE_MAX, MAX_VCPUS, MAX_VIEWS,
+    MESSAGE_OUT, PAGE_LIMIT, PAUSE_LIMIT, STATE_BYTES,
 };
 use std::error::Error;
 use std::mem::{size_of, MaybeUninit};
@@ -75,8 +76,8 @@ fn nothing_is_allowed_at_first() {
     session.ready(0).unwrap();
     let (mut out, mut guest) = ([0; MESSAGE_OUT], [0; 4096]);
     for id in 4..16 {
-        let answer = session.message(&message(id, &[]), &mut out, &mut guest).unwrap();
-        assert_eq!(answer.error(), Some(Errno::Eperm), "message {id}");
+        let error = session.message(&message(id, &[]), &mut out, &mut guest).unwrap().error();
+        assert_eq!(error, Some(Errno::Eperm), "message {id}");
     }
     assert_eq!(session.message(&message(1, &[]), &mut out, &mut guest).unwrap().error(), None);
 }
@@ -183,26 +184,51 @@ fn reply(vcpu: u16, seq: u32, action: Action, event: Event, more: &[u8]) -> Vec<
     [&[16, 0][..], &(data.len() as u16).to_le_bytes(), &seq.to_le_bytes(), &data].concat()
 }
 
-/// The events that can be offered, with own bytes, and whether they can be retried and have a value.
-fn offered() -> [(Event, Vec<u8>, bool, bool); 9] {
+/// What a reply to a page fault has behind the action and the event: what the tool supplies from an address on, and rep_complete.
+fn context(address: u64, supplied: &[u8], rep: u8) -> Vec<u8> {
+    let size = (supplied.len() as u32).to_le_bytes();
+    let mut bytes = [&address.to_le_bytes()[..], &size, &[0, rep, 0, 0], supplied].concat();
+    // past the size anything
+    bytes.resize(272, 0xEE);
+    bytes
+}
+
+/// An event that can be offered: its own bytes, whether it can be retried, what a reply has more, and the value that this gives.
+struct Offered {
+    event: Event,
+    own: Vec<u8>,
+    retried: bool,
+    more: Vec<u8>,
+    value: u64,
+}
+
+fn offered() -> [Offered; 10] {
     let (old_value, new_value) = (0x1122_3344_5566_7788, 0x99AA_BBCC_DDEE_FF00);
+    let plain = |event, own: &[u8]| Offered { event, own: own.into(), retried: false, more: vec![], value: 0 };
+    let retried = |event, own: &[u8]| Offered { retried: true, ..plain(event, own) };
+    let valued =
+        |event, own: &[u8]| Offered { more: vec![8, 7, 6, 5, 4, 3, 2, 1], value: 0x0102_0304_0506_0708, ..plain(event, own) };
+    let fault = own::Pf { gva: old_value, gpa: 0x5678, access: Access::W.bits(), view: 0 }.bytes();
     [
-        (Event::Hypercall, vec![], false, false),
-        (Event::Breakpoint, own::Breakpoint { gpa: old_value, insn_len: 1 }.bytes().into(), true, false),
-        (Event::Cr, own::Cr { cr: 4, old_value, new_value }.bytes().into(), false, true),
-        (Event::Xsetbv, vec![], false, false),
-        (Event::Descriptor, own::Descriptor { descriptor: 2, write: true }.bytes().into(), true, false),
-        (Event::Msr, own::Msr { msr: 0xC000_0082, old_value, new_value }.bytes().into(), false, true),
-        (Event::Singlestep, own::Singlestep { failed: true }.bytes().into(), false, false),
-        (Event::CreateVcpu, vec![], false, false),
-        (Event::Cpuid, own::Cpuid { function: 1, index: 2, insn_length: 2 }.bytes().into(), false, false),
+        plain(Event::Hypercall, &[]),
+        retried(Event::Breakpoint, &own::Breakpoint { gpa: old_value, insn_len: 1 }.bytes()),
+        valued(Event::Cr, &own::Cr { cr: 4, old_value, new_value }.bytes()),
+        plain(Event::Xsetbv, &[]),
+        retried(Event::Descriptor, &own::Descriptor { descriptor: 2, write: true }.bytes()),
+        valued(Event::Msr, &own::Msr { msr: 0xC000_0082, old_value, new_value }.bytes()),
+        Offered { more: context(old_value, &[7; 256], 1), value: 1, ..retried(Event::Pf, &fault) },
+        plain(Event::Singlestep, &own::Singlestep { failed: true }.bytes()),
+        plain(Event::CreateVcpu, &[]),
+        plain(Event::Cpuid, &own::Cpuid { function: 1, index: 2, insn_length: 2 }.bytes()),
     ]
 }
 
 #[test]
 fn own_bytes() {
-    let sizes = offered().map(|(event, own, ..)| (event.number(), own.len()));
-    assert_eq!(sizes, [(3, 0), (4, 16), (5, 24), (7, 0), (8, 8), (9, 24), (11, 8), (12, 0), (14, 16)]);
+    let sizes = offered().map(|one| (one.event.number(), one.own.len()));
+    assert_eq!(sizes, [(3, 0), (4, 16), (5, 24), (7, 0), (8, 8), (9, 24), (10, 24), (11, 8), (12, 0), (14, 16)]);
+    let most = own::Pf { gva: u64::MAX, gpa: u64::MAX, access: 255, view: u16::MAX };
+    assert_eq!(most.bytes(), [[255; 8], [255; 8], [255, 0, 255, 255, 0, 0, 0, 0]].concat()[..]);
     let most = own::Breakpoint { gpa: u64::MAX, insn_len: 255 };
     assert_eq!(most.bytes(), [255, 255, 255, 255, 255, 255, 255, 255, 255, 0, 0, 0, 0, 0, 0, 0]);
     let most = own::Cr { cr: u16::MAX, old_value: u64::MAX, new_value: u64::MAX };
@@ -220,10 +246,11 @@ fn events_that_are_offered() {
     let mut session = Session::fresh(&Settings::allowing_all(2)).unwrap();
     session.ready(1).unwrap();
     send(&mut session, &[on_vcpu(11, 1, [1, 0, 0, 0, 4, 0, 0, 0]), on_vcpu(12, 1, [1, 0, 0, 0, 0x82, 0, 0, 0xC0])]);
+    send(&mut session, &[access(0, &[(5, 5)])]);
     let state: Vec<u8> = (0..STATE_BYTES).map(|i| i as u8).collect();
     let (mut out, mut event_out) = ([0; MESSAGE_OUT], [0; ENTRY_OUT]);
     let mut seq = 0;
-    for (event, own, retried, valued) in offered() {
+    for Offered { event, own, retried, more, value } in offered() {
         // passed over, and then, with a pause that is queued, the pause instead
         let entry = session.enter_event(1, &state, event, &own, &mut event_out).unwrap();
         assert_eq!((entry.may_run(), session.awaited(1)), (true, None), "{event}");
@@ -245,8 +272,6 @@ fn events_that_are_offered() {
                 _ => on_vcpu(10, 1, [number, 0, 1, 0, 0, 0, 0, 0]),
             }],
         );
-        let value = if valued { 0x0102_0304_0506_0708 } else { 0 };
-        let more = if valued { &0x0102_0304_0506_0708u64.to_le_bytes()[..] } else { &[] };
         let resumes = [Some(Action::Continue), retried.then_some(Action::Retry)];
         for action in resumes.into_iter().flatten().chain([Action::Crash]) {
             let entry = session.enter_event(1, &state, u32::from(event), &own, &mut event_out).unwrap();
@@ -256,17 +281,19 @@ fn events_that_are_offered() {
             assert_eq!((session.awaited(1), session.pauses(1)), (Some(event), 1));
             assert_eq!(session.enter(1, &state, &mut event_out), Err(Refusal::Waiting));
             assert_eq!(session.write_image(&mut out), Err(Refusal::Busy));
-            let answer = session.message(&reply(1, seq, action, event, more), &mut out, &mut []).unwrap();
+            let reply = reply(1, seq, action, event, &more);
+            let answer = session.message(&reply, &mut out, &mut []).unwrap();
             let signal = match action {
                 Action::Crash => Signal::Crash { vcpu: 1 },
                 _ => Signal::Resume { vcpu: 1, action, value },
             };
             assert_eq!((answer.signal(), answer.bytes(), session.awaited(1)), (signal, &[][..], None), "{event} {action}");
+            assert_eq!((answer.number(), answer.feed(), answer.feed().bytes()), (0, Feed::None, None), "{event} {action}");
             seq += 1;
         }
         // one that it has not, and a reply of another size, close
-        let wrong = if valued { &[][..] } else { &[0; 8] };
-        for (action, more) in [(Action::Retry, more), (Action::Continue, wrong)] {
+        let wrong = if more.is_empty() { &[0; 8][..] } else { &[] };
+        for (action, more) in [(Action::Retry, &more[..]), (Action::Continue, wrong)] {
             if action == Action::Continue || !retried {
                 let mut session = session.clone();
                 assert!(!session.enter_event(1, &state, event, &own, &mut event_out).unwrap().may_run());
@@ -288,7 +315,7 @@ fn refused_offers() {
     let (state, mut out) = ([0; STATE_BYTES], [0; ENTRY_OUT]);
     let numbers = (0u32..70).chain([1 << 8, 1 << 16, 1 << 16 | 5, 1 << 31 | 3, u32::MAX]);
     for number in numbers {
-        let taken = offered().into_iter().find(|(event, ..)| u32::from(*event) == number).map(|(_, own, ..)| own.len());
+        let taken = offered().into_iter().find(|one| u32::from(one.event) == number).map(|one| one.own.len());
         let taken = if number == 0 { Some(0) } else { taken };
         for size in 0..40 {
             let own = vec![0xFF; size];
@@ -309,6 +336,261 @@ fn refused_offers() {
     assert_eq!(session.enter_event(0, &state, Event::CreateVcpu, &[], &mut out), Err(Refusal::Waiting));
     assert!(session.message(&[], &mut [0; MESSAGE_OUT], &mut []).unwrap().is_closing());
     assert_eq!(session.enter_event(9, &[], 2u32, &[1], &mut []), Err(Refusal::Closed));
+}
+
+/// A fresh session of two views: vCPU 1 has page faults on, and what is guarded is page 1 of view 0, pages 1 and 3 of view 1, and in both
+/// the last page that there is.
+fn faulting() -> Session {
+    let mut session = Session::fresh(&Settings::allowing_all(2).views(2)).unwrap();
+    session.ready(1).unwrap();
+    let last = u64::MAX >> 12;
+    let guards = [access(0, &[(1, 4), (last, 0)]), access(1, &[(1, 5), (3, 1), (last, 3)])];
+    send(&mut session, &[&guards[..], &[on_vcpu(10, 1, [10, 0, 1, 0, 0, 0, 0, 0])]].concat());
+    session
+}
+
+/// The event is written, and vCPU 1 waits.
+fn fault(session: &mut Session, gva: u64, gpa: u64, access: u8, view: u16) {
+    let mut out = [0; ENTRY_OUT];
+    let own = own::Pf { gva, gpa, access, view }.bytes();
+    let entry = session.enter_event(1, &[0; STATE_BYTES], Event::Pf, &own, &mut out).unwrap();
+    assert_eq!((entry.event(), entry.bytes.len(), &entry.bytes[552..]), (Some(Event::Pf), EVENT_MAX, &own[..]));
+    assert_eq!(session.awaited(1), Some(Event::Pf));
+}
+
+/// The resume of vCPU 1.
+fn resume(action: Action, value: u64) -> Signal {
+    Signal::Resume { vcpu: 1, action, value }
+}
+
+const UNKNOWN: u64 = u64::MAX;
+
+/// A page fault goes out by the vCPU's switch, and by what the view that its bytes name says of the page, for whatever access.
+#[test]
+fn faults_that_are_written() {
+    let (state, mut out) = ([0; STATE_BYTES], [0; ENTRY_OUT]);
+    for (gpa, view, is_written) in [
+        (0x1000, 0, true),
+        (0x1FFF, 0, true),
+        (0xFFF, 0, false),
+        (0x2000, 0, false),
+        (0x3000, 0, false),
+        (0x1000, 1, true),
+        (0x3FFF, 1, true),
+        (u64::MAX, 0, true),
+        (u64::MAX - 4095, 1, true),
+        (u64::MAX - 4096, 1, false),
+        (0x1000, 2, false),
+        (0x3000, 257, false),
+        (0x1000, 256, false),
+        (u64::MAX, u16::MAX, false),
+    ] {
+        for access in [0, 1, 2, 3, 4, 7, 8, 255] {
+            let mut session = faulting();
+            let own = own::Pf { gva: UNKNOWN, gpa, access, view }.bytes();
+            assert_eq!(session.enter_event(0, &state, Event::Pf, &own, &mut out).unwrap().event(), None);
+            let entry = session.enter_event(1, &state, Event::Pf, &own, &mut out).unwrap();
+            assert_eq!(entry.event(), is_written.then_some(Event::Pf), "{gpa:#x} in view {view}");
+        }
+    }
+    let own = own::Pf { gva: 0, gpa: 0x1000, access: 1, view: 0 }.bytes();
+    for off in [on_vcpu(10, 1, [10, 0, 0, 0, 0, 0, 0, 0]), access(0, &[(1, 7)])] {
+        let mut session = faulting();
+        send(&mut session, &[off, on_vcpu(9, 1, [0; 8])]);
+        let entry = session.enter_event(1, &state, Event::Pf, &own, &mut out).unwrap();
+        assert_eq!(entry.event(), Some(Event::PauseVcpu));
+    }
+}
+
+/// What a continued read is fed: the place in the reply or in two pages of guest memory, or that there is no page.
+#[derive(Clone, Copy)]
+enum Fed {
+    Reply(usize, usize),
+    Guest(usize, usize),
+    NoPage,
+}
+
+#[test]
+fn what_a_fault_is_fed() {
+    let top = u64::MAX;
+    let data: Vec<u8> = (0..=255).collect();
+    for (gva, gpa, address, size, fed) in [
+        // what is supplied, from the address that faulted on
+        (0x1004, 0x1000, 0x1000, 16, Fed::Reply(4, 16)),
+        (0x1000, 0x1000, 0x1000, 16, Fed::Reply(0, 16)),
+        (0x100F, 0x1000, 0x1000, 16, Fed::Reply(15, 16)),
+        (0x10FF, 0x1000, 0x1000, 256, Fed::Reply(255, 256)),
+        (0, 0x1000, 0, 1, Fed::Reply(0, 1)),
+        (top - 1, 0x1000, top - 3, 256, Fed::Reply(2, 256)),
+        // whether there is a page or not
+        (0x1004, top, 0x1000, 16, Fed::Reply(4, 16)),
+        // past it, before it, and none
+        (0x1010, 0x1000, 0x1000, 16, Fed::Guest(0x1000, 0x2000)),
+        (0xFFF, 0x1800, 0x1000, 16, Fed::Guest(0x1800, 0x2000)),
+        (0x1000, 0x1FFF, 0x1000, 0, Fed::Guest(0x1FFF, 0x2000)),
+        // an address that is not known, and a range that would wrap
+        (UNKNOWN, 0x1001, top - 255, 256, Fed::Guest(0x1001, 0x2000)),
+        (UNKNOWN, 0x1001, top, 256, Fed::Guest(0x1001, 0x2000)),
+        (1, 0x1000, top - 3, 256, Fed::Guest(0x1000, 0x2000)),
+        (0, 0x1000, top, 256, Fed::Guest(0x1000, 0x2000)),
+        // pages that are not there
+        (UNKNOWN, top, 0, 256, Fed::NoPage),
+        (0x1010, top - 4095, 0x1000, 16, Fed::NoPage),
+    ] {
+        for rep in [0, 1] {
+            let mut session = faulting();
+            fault(&mut session, gva, gpa, 5, 0);
+            let message = reply(1, 0, Action::Continue, Event::Pf, &context(address, &data[..size], rep));
+            let mut twin = session.clone();
+            let (mut out, mut guest) = ([0; MESSAGE_OUT], [0xCC; 0x2000]);
+            guest[0x1FFF] = 0xDD;
+            let lent = guest;
+            let place = guest.as_ptr();
+            let answer = session.message(&message, &mut out, &mut guest).unwrap();
+            assert_eq!((answer.signal(), answer.bytes()), (resume(Action::Continue, rep.into()), &[][..]));
+            let is_part = |bytes: &[u8], whole: *const u8, at| bytes.as_ptr() == whole.wrapping_add(at);
+            match (fed, answer) {
+                (Fed::Reply(from, to), Answer::Handled { feed: Feed::Supplied(bytes), .. }) => {
+                    assert!(bytes == &data[from..to] && is_part(bytes, message.as_ptr(), 40 + from));
+                    assert_eq!(answer.feed().bytes(), Some(bytes));
+                }
+                (Fed::Guest(from, to), Answer::Handled { feed: Feed::Page(bytes), .. }) => {
+                    assert!(bytes == &lent[from..to] && is_part(bytes, place, from));
+                    assert_eq!(answer.feed().bytes(), Some(bytes));
+                }
+                (Fed::NoPage, Answer::NoPage { signal, .. }) => assert_eq!(signal, answer.signal()),
+                _ => panic!("{answer:?}"),
+            }
+            let number = if let Fed::NoPage = fed { 12 } else { 0 };
+            assert_eq!((answer.number(), answer.is_closing(), answer.error()), (number, false, None));
+            assert_eq!((session.awaited(1), session.is_open(), guest == lent), (None, true, true));
+
+            // without memory there is no page, and the session moves all the same
+            let told = twin.message(&message, &mut out, &mut []).unwrap();
+            match fed {
+                Fed::Reply(from, to) => assert_eq!(told.feed().bytes(), Some(&data[from..to])),
+                _ => assert_eq!(
+                    (told.number(), told.feed(), told.signal()),
+                    (12, Feed::None, resume(Action::Continue, rep.into()))
+                ),
+            }
+            assert!(all(&twin) == all(&session));
+        }
+    }
+}
+
+/// Bytes are wanted for a continue of a read alone, by the access that was offered. What closes does so for every action.
+#[test]
+fn replies_to_a_fault() {
+    let (mut out, mut guest) = ([0; MESSAGE_OUT], [0; 0x2000]);
+    for access in 0..=255 {
+        for (action, rep) in [(Action::Continue, 0), (Action::Continue, 1), (Action::Retry, 0), (Action::Retry, 1)] {
+            // page 3 is not in memory
+            let mut session = faulting();
+            fault(&mut session, UNKNOWN, 0x3123, access, 1);
+            // what changes meanwhile does not matter
+            send(&mut session, &[on_vcpu(10, 1, [10, 0, 0, 0, 0, 0, 0, 0]), self::access(1, &[(3, 7)])]);
+            let message = reply(1, 0, action, Event::Pf, &context(0, &[1; 256], rep));
+            let answer = session.message(&message, &mut out, &mut guest).unwrap();
+            let is_wanted = access & 1 == 1 && action == Action::Continue;
+            assert_eq!((answer.number(), answer.feed()), (if is_wanted { 12 } else { 0 }, Feed::None), "access {access}");
+            assert_eq!((answer.signal(), session.awaited(1)), (resume(action, rep.into()), None));
+        }
+    }
+    for action in [Action::Continue, Action::Retry, Action::Crash] {
+        let right = context(0x1000, &[3; 256], 1);
+        let with = |at: usize, bytes: &[u8]| [&right[..at], bytes, &right[at + bytes.len()..]].concat();
+        let wrong = [
+            with(8, &257u32.to_le_bytes()),
+            with(8, &[0xFF; 4]),
+            with(12, &[1]),
+            with(13, &[2]),
+            with(14, &[1]),
+            with(15, &[1]),
+        ];
+        let sizes = [right[..271].to_vec(), [&right[..], &[0]].concat(), vec![], vec![0; 8]];
+        for more in wrong.iter().chain(&sizes) {
+            let mut session = faulting();
+            fault(&mut session, 0x1000, 0x1000, 1, 0);
+            assert!(session.message(&reply(1, 0, action, Event::Pf, more), &mut out, &mut guest).unwrap().is_closing());
+        }
+        let mut session = faulting();
+        fault(&mut session, 0x1000, 0x1000, 1, 0);
+        let message = reply(1, 0, action, Event::Pf, &right);
+        let answer = session.message(&message, &mut out, &mut guest).unwrap();
+        match action {
+            Action::Continue => assert_eq!(answer.feed(), Feed::Supplied(&[3; 256])),
+            Action::Retry => assert_eq!((answer.signal(), answer.feed()), (resume(action, 1), Feed::None)),
+            _ => assert_eq!((answer.signal(), answer.feed()), (Signal::Crash { vcpu: 1 }, Feed::None)),
+        }
+    }
+}
+
+/// In a batch the part is of the input. Where there is no page it ends as it ends with a resume.
+#[test]
+fn a_batch_is_fed() {
+    let (pause, version) = (on_vcpu(9, 1, [1, 0, 0, 0, 0, 0, 0, 0]), message(1, &[]));
+    let supplied = reply(1, 0, Action::Continue, Event::Pf, &context(0x1000, b"what the guest is to read", 1));
+    let write = message(7, &[&0x1FFBu64.to_le_bytes()[..], &5u64.to_le_bytes(), b"hello"].concat());
+    let (mut out, mut signals) = ([0; 2 * MESSAGE_OUT], [0; 16]);
+
+    let (mut session, mut guest) = (faulting(), [0; 0x2000]);
+    fault(&mut session, 0x1009, 0x1009, 1, 0);
+    let input = [&pause[..], &supplied, &version].concat();
+    let done = session.batch(&input, &mut out, &mut signals, &mut guest).unwrap();
+    assert_eq!((done.number(), done.used, done.bytes.len(), done.listed), (0, 24 + 296, 16, &[259][..]));
+    assert_eq!((done.resume, done.closing, done.no_page), (resume(Action::Continue, 1), false, false));
+    assert_eq!(done.feed, Feed::Supplied(b"guest is to read"));
+    assert_eq!(done.feed.bytes().unwrap().as_ptr(), input[24 + 40 + 9..].as_ptr());
+
+    // the page, with what was written before in the same batch
+    let mut session = faulting();
+    fault(&mut session, UNKNOWN, 0x1FFC, 1, 1);
+    let input = [&write[..], &supplied].concat();
+    let done = session.batch(&input, &mut out, &mut signals, &mut guest).unwrap();
+    assert_eq!((done.number(), done.used, done.feed), (0, input.len(), Feed::Page(b"ello")));
+
+    // no page: it is used, ends the batch, and what those before it wrote and signalled is there
+    for (before, count, listed) in [(&[][..], 0, &[][..]), (&pause[..], 16, &[259]), (&version, 32, &[])] {
+        let mut session = faulting();
+        fault(&mut session, 5, u64::MAX, 7, 0);
+        let input = [before, &supplied, &pause].concat();
+        let done = session.batch(&input, &mut out, &mut signals, &mut guest).unwrap();
+        assert_eq!((done.number(), done.used, done.bytes.len(), done.listed), (12, before.len() + 296, count, listed));
+        assert_eq!((done.resume, done.closing, done.no_page), (resume(Action::Continue, 1), false, true));
+        assert_eq!((done.feed, done.feed.bytes()), (Feed::None, None));
+        let rest = &input[done.used..];
+        assert_eq!((session.is_open(), session.awaited(1)), (true, None));
+        let done = session.batch(rest, &mut out, &mut signals, &mut guest).unwrap();
+        assert_eq!((done.number(), done.used, done.listed, done.no_page), (0, 24, &[259][..], false));
+    }
+}
+
+/// Where no reference stands for guest memory, the page's part is told by its place.
+#[test]
+fn fed_from_behind_a_pointer() {
+    let mut guest = vec![0u8; 0x2000];
+    let lent = std::ptr::slice_from_raw_parts_mut(guest.as_mut_ptr(), guest.len());
+    let (mut out, mut signals) = ([0; 2 * MESSAGE_OUT], [0; 1]);
+    for (gva, gpa, feed) in [
+        (UNKNOWN, 0x1ABC, Feed::PageAt { at: 0x1ABC, length: 0x544 }),
+        (UNKNOWN, 0x1FFF, Feed::PageAt { at: 0x1FFF, length: 1 }),
+        (7, 0x1ABC, Feed::Supplied(b"plied")),
+        (UNKNOWN, u64::MAX, Feed::None),
+    ] {
+        let mut session = faulting();
+        fault(&mut session, gva, gpa, 1, 0);
+        let mut twin = session.clone();
+        let message = reply(1, 0, Action::Continue, Event::Pf, &context(4, b"supplied", 0));
+        // SAFETY: nothing else uses the memory while the calls run.
+        let answer = unsafe { session.message_at(&message, &mut out, lent) }.unwrap();
+        let number = if gpa == u64::MAX { 12 } else { 0 };
+        assert_eq!((answer.number(), answer.feed(), answer.signal()), (number, feed, resume(Action::Continue, 0)));
+        assert_eq!(answer.feed().bytes(), (gva == 7).then_some(&b"plied"[..]));
+        // SAFETY: as before.
+        let done = unsafe { twin.batch_at(&message, &mut out, &mut signals, lent) }.unwrap();
+        assert_eq!((done.number(), done.used, done.feed, done.no_page), (number, 296, feed, number == 12));
+    }
 }
 
 /// What a batch is lent.
@@ -568,7 +850,8 @@ fn execute_only_pages() {
     let mut session = Session::fresh(&lacks).unwrap();
     send(&mut session, &[access(0, &[(1, 5)])]);
     for entries in [[(1, 1), (2, 1), (3, 4)], [(1, 4), (2, 1), (3, 1)], [(1, 7), (1, 4), (1, 7)]] {
-        let answer = session.message(&access(0, &entries), &mut out, &mut guest).unwrap();
+        let message = access(0, &entries);
+        let answer = session.message(&message, &mut out, &mut guest).unwrap();
         assert_eq!((answer.error(), answer.bytes().len(), answer.signal()), (Some(Errno::Einval), 16, Signal::None));
         let pages: Vec<_> = session.pages().map(|page| (page.page, page.access.bits())).collect();
         assert_eq!(pages, [(1, 5)]);
@@ -707,6 +990,7 @@ fn send_and_sync() {
     both::<Settings>();
     both::<Answer<'static>>();
     both::<Batch<'static>>();
+    both::<Feed<'static>>();
     both::<Signals<'static>>();
     both::<Entry<'static>>();
     both::<Refusal>();

@@ -12,19 +12,21 @@ use std::sync::atomic::Ordering;
 pub const KINDS: [(&str, &[u64]); 10] = [
     ("fresh", &[0, 7]),
     ("ready", &[0, 2, 4]),
-    ("message", &[0, 1, 2, 3]),
+    ("message", &[0, 1, 2, 3, 12]),
     ("enter", &[0, 2, 3, 4, 5, 6]),
     ("image_write", &[0, 2, 3, 10]),
     ("image_read", &[0, 7, 8, 9]),
     ("image_size", &[]),
     ("list_ready", &[0, 4]),
     ("list_cr", &[0, 4, 14]),
-    ("batch", &[0, 1, 2, 3, 11]),
+    ("batch", &[0, 1, 2, 3, 11, 12]),
 ];
 
 pub const SIGNALS: [&str; 5] = ["none", "kick", "crash", "resume to continue", "resume to retry"];
 
 pub const ENDS: [&str; 4] = ["the input is used up", "a resume", "short output", "no place in the list"];
+
+pub const FED: [&str; 3] = ["nothing", "the message", "guest memory"];
 
 pub const LOOKUPS: [&str; 12] = [
     "is_open",
@@ -52,6 +54,8 @@ pub struct Hostile {
     pub signals: [u64; 5],
     /// By what ended a batch with answer 0.
     pub ends: [u64; 4],
+    /// Of messages that resume a vCPU from a page fault, and of batches that a resume ends, by what it is fed from.
+    pub fed: [[u64; 3]; 2],
     /// Messages that ask for execute-only pages, access 4: refused without the flag, and taken with it.
     pub execute_only: [u64; 2],
     /// By event that was offered: passed over, written.
@@ -76,6 +80,7 @@ impl Hostile {
             answers: [[0; 15]; 10],
             signals: [0; 5],
             ends: [0; 4],
+            fed: [[0; 3]; 2],
             execute_only: [0; 2],
             events: [[0; 2]; 15],
             lookups: [[0; 2]; 12],
@@ -163,7 +168,7 @@ impl Hostile {
         // SAFETY: any bits are numbers.
         let [first, second] = [&self.end, &self.beginning].map(|side| unsafe { side.result.cast::<[u64; 12]>().read() });
         assert_eq!(first, second, "the two results");
-        assert_eq!(first[7..], [0; 5], "the reserved words");
+        assert_eq!(first[10..], [0; 2], "the reserved words");
         self.note(kind, answer);
         (answer, first)
     }
@@ -171,12 +176,16 @@ impl Hostile {
     /// A call with a result, but for a batch.
     fn told(&mut self, kind: usize, reads: impl Fn(u64) -> Reads, call: impl Fn(&Side) -> u64) -> (u64, [u64; 12]) {
         let (answer, first) = self.called(kind, reads, call);
-        let [count, offset, signal, vcpu, wait, action, value, ..] = first;
+        let [count, offset, signal, vcpu, wait, action, value, source, ..] = first;
         assert!(signal <= 3 && wait <= 1 && action <= 1, "{first:?}");
         assert!((signal != 0 || vcpu == 0) && (signal == 1 || wait == 0), "{first:?}");
         assert!(signal == 3 || (action, value) == (0, 0), "{first:?}");
-        if answer != 0 {
-            assert_eq!((count, signal), (0, 0));
+        assert!(if source == 0 { first[7..10] == [0; 3] } else { (answer, signal, action) == (0, 3, 0) }, "{first:?}");
+        match answer {
+            0 => {}
+            // a resume, and no refusal
+            12 => assert_eq!((count, signal, action), (0, 3, 0)),
+            _ => assert_eq!((count, signal), (0, 0)),
         }
         if !matches!(answer, 8 | 9) {
             assert_eq!(offset, 0);
@@ -251,19 +260,24 @@ impl Hostile {
 
     fn message(&mut self) {
         let message = lent::message(&mut self.random, self.awaited);
+        self.take(&message);
+    }
+
+    fn take(&mut self, message: &[u8]) {
         let out = match self.random.below(30) {
             0 => self.random.pick(&[0, 1, 16, 552, 4111]),
             1 => 4113 + self.random.below(100),
             _ => 4112,
         };
         let guest = self.random.pick(&[0, 1, PAGE - 1, PAGE, PAGE + 1, 4 * PAGE, 4 * PAGE, 5 * PAGE - 1]);
-        self.lend_input(&message);
+        self.lend_input(message);
         self.lend_out(out);
         for side in [&self.end, &self.beginning] {
             // SAFETY: inside the room, which holds nothing else.
             unsafe { copy_nonoverlapping(self.guest.as_ptr(), side.guest(guest), guest) };
         }
         let size = message.len();
+        let fed = Fault::awaited(message, self.end.vcpus).map(|fault| fault.fed(message, guest));
         let (answer, result) = self.told(2, refusal, |s| unsafe {
             let (input, to, memory) = (s.input(size), s.out(out), s.guest(guest));
             semblurick_raw_message(s.session, s.vcpus, s.pages, input, size, to, out, memory, guest, s.result).into()
@@ -271,7 +285,7 @@ impl Hostile {
         let written = self.same_out(out, result[0]);
         let is_done = written.get(8..12) == Some(&[0; 4]);
         let is_invalid = written.get(8..12) == Some(&(-22i32).to_le_bytes()[..]);
-        self.same_input(&message);
+        self.same_input(message);
         let mut entries = message.get(16..).unwrap_or_default().chunks_exact(16);
         if answer == 0 && message[..2] == [13, 0] && entries.any(|entry| entry[8] == 4) {
             let has_flag = self.session().flags[7] != 0;
@@ -284,13 +298,20 @@ impl Hostile {
         if message.first() != Some(&7) || answer != 0 {
             assert!(ours == &self.guest[..guest], "guest memory changed");
         }
-        if answer == 0 {
-            let [_, _, signal, _, _, action, value, ..] = result;
+        if matches!(answer, 0 | 12) {
+            let [_, _, signal, _, _, action, value, source, at, length, ..] = result;
             self.signals[(signal + action) as usize] += 1;
             if signal == 3 {
                 // what the reply says: its action, and its value, if it has one
-                let said = message.get(24..).map_or(0, |bytes| bytes.iter().rev().fold(0, |n, byte| n << 8 | u64::from(*byte)));
+                let said = match (&message[24..], message[17]) {
+                    (context, 10) => context[13].into(),
+                    (value, _) => value.iter().rev().fold(0, |n, byte| n << 8 | u64::from(*byte)),
+                };
                 assert_eq!((message[0], action, value), (16, message[16].into(), said), "a resume");
+                assert_eq!(fed.unwrap_or_default(), (answer, [source, at, length]), "what it is fed");
+                if fed.is_some() && answer == 0 {
+                    self.fed[0][source as usize] += 1;
+                }
             }
         }
         if answer == 1 || message.first() == Some(&16) {
@@ -298,19 +319,34 @@ impl Hostile {
         }
     }
 
-    /// Several messages, and beside it the same ones by single calls on a copy of all that is lent.
     fn batch(&mut self) {
         let mut input: Vec<u8> = Vec::new();
         for _ in 0..self.random.below(7) {
             input.extend(lent::message(&mut self.random, self.awaited));
         }
+        self.take_batch(&input);
+    }
+
+    /// The reply to a page fault, or what is nearly one: alone, or in a batch behind another message, or before one.
+    fn reply(&mut self, awaited: Awaited) {
+        let reply = lent::reply(&mut self.random, awaited);
+        let other = lent::message(&mut self.random, None);
+        match self.random.below(3) {
+            0 => self.take(&reply),
+            1 => self.take_batch(&[other, reply].concat()),
+            _ => self.take_batch(&[reply, other].concat()),
+        }
+    }
+
+    /// Several messages, and beside it the same ones by single calls on a copy of all that is lent.
+    fn take_batch(&mut self, input: &[u8]) {
         let out = match self.random.below(30) {
             0 => self.random.pick(&[0, 1, 16, 552, 4111]),
             _ => 4112 + self.random.pick(&[0, 15, 16, 17, 100, 700, 5000, 20_000]),
         };
         let places = if self.random.percent(4) { 0 } else { self.random.pick(&[1, 1, 2, 3, 16]) };
         let guest = self.random.pick(&[0, PAGE - 1, PAGE, 4 * PAGE, 4 * PAGE, 5 * PAGE - 1]);
-        self.lend_input(&input);
+        self.lend_input(input);
         self.lend_out(out);
         for side in [&self.end, &self.beginning] {
             // SAFETY: inside the rooms, which hold nothing else.
@@ -320,7 +356,7 @@ impl Hostile {
             }
         }
         let mut alone = Alone::new(&self.end, &self.guest[..guest], out);
-        let number = alone.take(&input, places);
+        let number = alone.take(input, places);
 
         let size = input.len();
         let (answer, result) = self.called(9, refusal, |s| unsafe {
@@ -329,11 +365,11 @@ impl Hostile {
                 .into()
         });
         assert_eq!(answer, number.into(), "the answer to a batch");
-        let Alone { used, count, listed, resume: [signal, vcpu, action, value], .. } = &alone;
-        let told = [*used as u64, *count as u64, listed.len() as u64, *signal, *vcpu, *action, *value];
-        assert_eq!(result[..7], told, "the result of a batch");
+        let Alone { used, count, listed, resume: [signal, ..], .. } = &alone;
+        let told = [&[*used as u64, *count as u64, listed.len() as u64][..], &alone.resume].concat();
+        assert_eq!(result[..10], told, "the result of a batch");
         assert!(self.same_out(out, result[1]) == &alone.out[..*count], "the output of a batch");
-        self.same_input(&input);
+        self.same_input(input);
         let mut codes: Vec<u8> = listed.iter().flat_map(|code| code.to_le_bytes()).collect();
         codes.resize(4 * places, BLANK);
         for side in [&self.end, &self.beginning] {
@@ -349,6 +385,7 @@ impl Hostile {
             }
         }
         if answer == 0 {
+            self.fed[1][result[7] as usize] += signal / 3;
             self.ends[if *used == size {
                 0
             } else if *signal != 0 {
@@ -359,12 +396,30 @@ impl Hostile {
                 3
             }] += 1;
         }
-        if answer < 2 && *used > 0 {
+        if matches!(answer, 0 | 1 | 12) && *used > 0 {
             self.awaited = None;
         }
     }
 
     fn enter(&mut self, vcpu: u32) {
+        let (event, own) = lent::offer(&mut self.random);
+        self.offer(vcpu, event, &own);
+    }
+
+    /// A page fault, mostly of a page that stands below rwx.
+    fn fault(&mut self, vcpu: u32) {
+        let mut own = [&self.random.address().to_le_bytes()[..], &self.random.bytes(16)].concat();
+        if let Some((view, page)) = self.guarded() {
+            let gpa = (page << 12) + self.random.pick(&[0, 1, 2048, 4094, 4095]);
+            own[8..16].copy_from_slice(&gpa.to_le_bytes());
+            // another view, of the same low byte, has no such page
+            let high = if self.random.percent(10) { self.random.word() as u8 } else { 0 };
+            own[18..20].copy_from_slice(&[view as u8, high]);
+        }
+        self.offer(vcpu, 10, &own);
+    }
+
+    fn offer(&mut self, vcpu: u32, event: u32, own: &[u8]) {
         let size = match self.random.below(12) {
             0 => self.random.pick(&[0, 1, 535, 537]),
             _ => 536,
@@ -375,17 +430,17 @@ impl Hostile {
             _ => 576,
         };
         let state = self.random.bytes(size);
-        let (event, own) = lent::offer(&mut self.random);
         self.lend_input(&state);
-        self.lend_own(&own);
+        self.lend_own(own);
         self.lend_out(out);
-        let is_on = self.is_on(vcpu, event, &own);
+        let is_on = self.is_on(vcpu, event, own);
         let (answer, result) = self.told(3, refusal, |s| unsafe {
             let (block, bytes, to) = (s.input(size), s.own(own.len()), s.out(out));
-            semblurick_raw_enter(s.session, s.vcpus, vcpu, block, size, event, bytes, own.len(), to, out, s.result).into()
+            semblurick_raw_enter(s.session, s.vcpus, s.pages, vcpu, block, size, event, bytes, own.len(), to, out, s.result)
+                .into()
         });
         self.same_input(&state);
-        self.same_own(&own);
+        self.same_own(own);
         // 2 and 4 come before 5, then 3, and then 6
         let is_bad = size != 536 || lent::own_size(event) != Some(own.len());
         assert!(matches!(answer, 2 | 4) || (answer == 5) == is_bad, "answer {answer} to event {event}, {} bytes", own.len());
@@ -393,7 +448,7 @@ impl Hostile {
         let written = self.same_out(out, result[0]);
         let sent = written.get(12).copied();
         if let Some(sent) = sent {
-            let own = if u32::from(sent) == event { &own[..] } else { &[] };
+            let own = if u32::from(sent) == event { own } else { &[] };
             let size = (544 + own.len() as u16).to_le_bytes();
             assert!(u32::from(sent) == event || sent == 2, "event {sent} where {event} was offered");
             assert_eq!(written[..4], [17, 0, size[0], size[1]], "an event's header");
@@ -402,7 +457,8 @@ impl Hostile {
             assert_eq!(written[8..16], [0x20, 2, low, high, sent, 0, 0, 0], "an event's beginning");
             assert!(written[16..552] == state && written[552..] == *own, "an event's bytes");
             let seq = u32::from_le_bytes([written[4], written[5], written[6], written[7]]);
-            self.awaited = Some(Awaited { vcpu, event: sent, seq });
+            let gva = own.get(..8).map_or(0, little);
+            self.awaited = Some(Awaited { vcpu, event: sent, seq, gva });
         }
         if answer == 0 && event != 0 {
             assert_eq!(sent.map(u32::from) == Some(event), is_on, "event {event} is written exactly if it is on");
@@ -410,9 +466,21 @@ impl Hostile {
         }
     }
 
+    /// View and number of a page that stands below rwx.
+    fn guarded(&mut self) -> Option<(u64, u64)> {
+        let (session, pages) = (self.end.session, self.end.pages);
+        let mut page = [0u64; 3];
+        // SAFETY: the session and its tables are only read, and there are three words.
+        let access = unsafe {
+            let i = self.random.below(semblurick_raw_page_count(session));
+            semblurick_raw_page_at(session, pages, i, page.as_mut_ptr().cast())
+        };
+        (access != 7).then_some((page[0], page[1]))
+    }
+
     /// Whether an event that is offered is switched on, as the lookups tell.
     fn is_on(&self, vcpu: u32, event: u32, own: &[u8]) -> bool {
-        let (session, vcpus) = (self.end.session, self.end.vcpus);
+        let (session, vcpus, pages) = (self.end.session, self.end.vcpus, self.end.pages);
         let number = own.iter().take(if event == 5 { 2 } else { 4 }).rev().fold(0, |n, byte| n << 8 | u32::from(*byte));
         // SAFETY: the session and its tables are only read.
         unsafe {
@@ -421,6 +489,10 @@ impl Hostile {
                 12 => semblurick_raw_vm_event(session, event) != 0,
                 5 => for_vcpu && semblurick_raw_cr(session, vcpus, vcpu, number) != 0,
                 9 => for_vcpu && semblurick_raw_msr(session, vcpus, vcpu, number) != 0,
+                10 => {
+                    let [view, gpa] = [18..20, 8..16].map(|at| own.get(at).map_or(0, little));
+                    for_vcpu && semblurick_raw_access(session, pages, view as u32, gpa / PAGE as u64) != 7
+                }
                 _ => for_vcpu,
             }
         }
@@ -658,6 +730,13 @@ impl Hostile {
                         self.ready(vcpu);
                     }
                 }
+                // a fault needs both a switch and a page, which by chance are rarely there
+                if self.session().opened != 0 && self.random.percent(50) {
+                    let guards = lent::guards(&mut self.random);
+                    self.take(&guards);
+                    let vcpus = self.session().vcpus.min(16) as u8;
+                    (0..vcpus).for_each(|vcpu| self.take(&lent::faults_on(vcpu)));
+                }
             }
         }
     }
@@ -689,6 +768,11 @@ impl Hostile {
             _ if self.random.percent(50) => self.random.below(self.session().vcpus.clamp(1, 16) as usize) as u32,
             _ => self.random.vcpu(),
         };
+        if let Some(awaited) = self.awaited.filter(|awaited| awaited.event == 10) {
+            if self.random.percent(40) {
+                return self.reply(awaited);
+            }
+        }
         match self.random.below(1000) {
             0..3 => self.fresh(),
             3..40 => self.ready(vcpu),
@@ -699,6 +783,7 @@ impl Hostile {
             175..400 => self.lookup(),
             400..450 => self.list(),
             450..490 => self.batch(),
+            490..540 => self.fault(vcpu),
             _ => self.message(),
         }
     }
@@ -730,8 +815,8 @@ struct Alone {
     used: usize,
     count: usize,
     listed: Vec<u32>,
-    /// Signal, vCPU, action and value.
-    resume: [u64; 4],
+    /// Signal, vCPU, action and value, and of what it is fed source, place and length.
+    resume: [u64; 7],
 }
 
 impl Alone {
@@ -745,7 +830,7 @@ impl Alone {
             copy_nonoverlapping(side.pages, to.add(SESSION + VCPU_BYTES), PAGE_BYTES);
         }
         let (guest, out) = (guest.to_vec(), vec![BLANK; out]);
-        Alone { words, guest, out, used: 0, count: 0, listed: Vec::new(), resume: [0; 4] }
+        Alone { words, guest, out, used: 0, count: 0, listed: Vec::new(), resume: [0; 7] }
     }
 
     /// Gives the number of the batch's answer.
@@ -776,14 +861,16 @@ impl Alone {
                 let (bytes, to, room) = (message.as_mut_ptr(), out.as_mut_ptr(), out.len());
                 semblurick_raw_message(session, vcpus, pages, bytes, size, to, room, memory, self.guest.len(), told)
             };
-            let [count, _, signal, vcpu, wait, action, value, ..] = result;
+            let [count, _, signal, vcpu, wait, action, value, source, at, length, ..] = result;
+            // a part of the message is one of the input
+            let at = if source == 1 { self.used as u64 + at } else { at };
             self.used += size;
             self.count += count as usize;
             match signal {
                 1 => self.listed.push(256 + 2 * vcpu as u32 + wait as u32),
                 2 => self.listed.push(512 + vcpu as u32),
                 3 => {
-                    self.resume = [signal, vcpu, action, value];
+                    self.resume = [signal, vcpu, action, value, source, at, length];
                     return number;
                 }
                 _ => {}
@@ -796,6 +883,50 @@ impl Alone {
     }
 }
 
+/// A little-endian number.
+fn little(bytes: &[u8]) -> u64 {
+    bytes.iter().rev().fold(0, |n, byte| n << 8 | u64::from(*byte))
+}
+
+/// The page fault whose reply a vCPU awaits.
+struct Fault {
+    gva: u64,
+    gpa: u64,
+    access: u64,
+}
+
+impl Fault {
+    /// The one to which a message is the reply, if it is one, as it stands among the words of the vCPUs.
+    fn awaited(message: &[u8], vcpus: Bytes) -> Option<Fault> {
+        let (vcpu, words) = (little(message.get(8..10)?) as usize, VCPU_BYTES / 16);
+        if message[..2] != [16, 0] || message.len() != 296 || vcpu >= 16 {
+            return None;
+        }
+        // SAFETY: the words are only read.
+        let block = unsafe { &seen(vcpus, VCPU_BYTES)[vcpu * words..] };
+        let [event, _seq, gva, gpa, access] = [0, 1, 2, 3, 4].map(|i| little(&block[AWAITED + 8 * i..][..8]));
+        (event == 10).then_some(Fault { gva, gpa, access })
+    }
+
+    /// The answer to a reply that is taken, with so many bytes of guest memory; and of what feeds the instruction source, place and
+    /// length.
+    fn fed(&self, reply: &[u8], guest: usize) -> (u64, [u64; 3]) {
+        let (address, size) = (little(&reply[24..32]), little(&reply[32..36]));
+        if reply[16] != 0 || self.access & 1 == 0 {
+            return (0, [0; 3]);
+        }
+        match self.gva.checked_sub(address) {
+            Some(from) if self.gva != u64::MAX && from < size => return (0, [1, 40 + from, size - from]),
+            _ => {}
+        }
+        let left = PAGE as u64 - self.gpa % PAGE as u64;
+        match self.gpa.checked_add(left) {
+            Some(end) if end <= guest as u64 => (0, [2, self.gpa, left]),
+            _ => (12, [0; 3]),
+        }
+    }
+}
+
 /// What a call must not change.
 pub enum Reads {
     Nothing,
@@ -803,16 +934,16 @@ pub enum Reads {
     All,
 }
 
-/// Refusals change nothing.
+/// Refusals change nothing; 12 is none.
 pub fn refusal(answer: u64) -> Reads {
     match answer {
-        2.. => Reads::All,
-        _ => Reads::Nothing,
+        0 | 1 | 12 => Reads::Nothing,
+        _ => Reads::All,
     }
 }
 
 /// What stands in an output before it is written.
 pub const BLANK: u8 = 0xC3;
 
-/// Where among the words of a vCPU the event stands whose reply is awaited.
+/// Where among the words of a vCPU the event stands whose reply is awaited; then its seq, and of a page fault addresses and access.
 const AWAITED: usize = 4 * 8;

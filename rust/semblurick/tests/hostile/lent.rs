@@ -37,6 +37,8 @@ pub struct Awaited {
     pub vcpu: u32,
     pub event: u8,
     pub seq: u32,
+    /// Of a page fault, the address.
+    pub gva: u64,
 }
 
 /// How many own bytes an event has, if it can be offered.
@@ -45,7 +47,7 @@ pub fn own_size(event: u32) -> Option<usize> {
         0 | 3 | 7 | 12 => Some(0),
         8 | 11 => Some(8),
         4 | 14 => Some(16),
-        5 | 9 => Some(24),
+        5 | 9 | 10 => Some(24),
         _ => None,
     }
 }
@@ -55,7 +57,7 @@ pub fn offer(random: &mut Random) -> (u32, Vec<u8>) {
     let event = match random.below(12) {
         0 => random.word() as u32 >> random.below(32),
         1 => random.below(17) as u32 | random.pick(&[0, 1 << 5, 1 << 8, 1 << 16, 1 << 31]),
-        _ => random.pick(&[0, 0, 0, 0, 3, 4, 5, 5, 5, 7, 8, 9, 9, 9, 11, 12, 14]),
+        _ => random.pick(&[0, 0, 0, 0, 3, 4, 5, 5, 5, 7, 8, 9, 9, 9, 10, 11, 12, 14]),
     };
     let size = match own_size(event) {
         Some(size) if random.percent(90) => size,
@@ -65,9 +67,51 @@ pub fn offer(random: &mut Random) -> (u32, Vec<u8>) {
     match (event, &mut own[..]) {
         (5, [low, high, ..]) if random.percent(90) => (*low, *high) = (random.pick(&[0, 3, 4]), 0),
         (9, [_, _, _, _, ..]) => own[..4].copy_from_slice(&random.msr().to_le_bytes()),
+        (10, [_, _, _, _, _, _, _, _, ..]) => own[..8].copy_from_slice(&random.address().to_le_bytes()),
         _ => {}
     }
     (event, own)
+}
+
+/// KVMI_VM_SET_PAGE_ACCESS: the first pages of a view below rwx, and the last one.
+pub fn guards(random: &mut Random) -> Vec<u8> {
+    let pages = [0, 1, 2, 3, 4, 5, u64::MAX >> 12];
+    let mut message = vec![13, 0, 8 + 16 * 7, 0, 0, 0, 0, 0, 7, 0, random.pick(&[0, 0, 1, 7]), 0, 0, 0, 0, 0];
+    for page in pages {
+        message.extend((page << 12).to_le_bytes());
+        message.extend([random.pick(&[0, 1, 3, 5]), 0, 0, 0, 0, 0, 0, 0]);
+    }
+    message
+}
+
+/// KVMI_VCPU_CONTROL_EVENTS: page faults.
+pub fn faults_on(vcpu: u8) -> Vec<u8> {
+    vec![10, 0, 16, 0, 0, 0, 0, 0, vcpu, 0, 0, 0, 0, 0, 0, 0, 10, 0, 1, 0, 0, 0, 0, 0]
+}
+
+/// What a reply to a page fault has behind the action: mostly as it should be, with an address a little below another, or past it.
+fn context(random: &mut Random, gva: u64) -> Vec<u8> {
+    let size = if random.percent(95) { random.below(257) } else { 257 + random.below(3) };
+    let rep = if random.percent(95) { random.below(2) as u8 } else { random.word() as u8 };
+    let address = match random.below(8) {
+        0 => random.address(),
+        1 => gva.wrapping_add(1),
+        _ => gva.wrapping_sub(random.below(size + 2) as u64),
+    };
+    [&address.to_le_bytes()[..], &[size as u8, (size >> 8) as u8, 0, 0, 0, rep, 0, 0], &random.bytes(256)].concat()
+}
+
+/// The reply to a page fault, mostly.
+pub fn reply(random: &mut Random, awaited: Awaited) -> Vec<u8> {
+    let [low, high] = (awaited.vcpu as u16).to_le_bytes();
+    let begins = [16, 0, 32, 1].into_iter().chain(awaited.seq.to_le_bytes()).chain([low, high, 0, 0, 0, 0, 0, 0]);
+    let mut reply: Vec<u8> = begins.chain([random.pick(&[0, 0, 0, 0, 1, 2]), 10, 0, 0, 0, 0, 0, 0]).collect();
+    reply.extend(context(random, awaited.gva));
+    if random.percent(4) {
+        let at = random.below(40);
+        reply[at] ^= 1 << random.below(8);
+    }
+    reply
 }
 
 /// A message: any bytes, or the layout of one with fields that mostly fit.
@@ -122,7 +166,10 @@ pub fn message(random: &mut Random, awaited: Option<Awaited>) -> Vec<u8> {
         16 => {
             let event = awaited.filter(|_| random.percent(95)).map_or(random.below(16) as u8, |awaited| awaited.event);
             data.extend([random.pick(&[0, 0, 2, 1]), event, 0, 0, 0, 0, 0, 0]);
-            if matches!(event, 5 | 9) != random.percent(3) {
+            if event == 10 && random.percent(97) {
+                let gva = random.address();
+                data.extend(context(random, gva));
+            } else if matches!(event, 5 | 9) != random.percent(3) {
                 data.extend(random.bytes(8));
             }
         }

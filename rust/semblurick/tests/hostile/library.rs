@@ -64,6 +64,7 @@ extern "C" {
     pub fn semblurick_raw_enter(
         session: Bytes,
         vcpus: Bytes,
+        pages: Bytes,
         vcpu: u32,
         state: Bytes,
         state_size: usize,

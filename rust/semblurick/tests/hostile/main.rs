@@ -12,7 +12,7 @@ mod library;
 mod memory;
 mod random;
 
-use calls::{Hostile, ENDS, KINDS, LOOKUPS, SIGNALS};
+use calls::{Hostile, ENDS, FED, KINDS, LOOKUPS, SIGNALS};
 use library::{_exit, fork, signal, waitpid, write};
 use memory::{Room, PAGE};
 // the library comes with it
@@ -109,6 +109,12 @@ fn memory_of_any_bits() {
     for (name, count) in ENDS.iter().zip(&hostile.ends) {
         println!("{count:>9}  batch: ended by {name}");
         assert!(*count > 0, "no batch was ended by {name} with seed {seed}");
+    }
+    for (call, fed) in ["message", "batch"].iter().zip(&hostile.fed) {
+        for (name, count) in FED.iter().zip(fed) {
+            println!("{count:>9}  {call}: fed from {name}");
+            assert!(*count > 0, "no {call} was fed from {name} with seed {seed}");
+        }
     }
     let [refused, taken] = hostile.execute_only;
     println!("{refused:>9}  execute-only pages: refused without the flag\n{taken:>9}  execute-only pages: taken with it");

@@ -63,10 +63,21 @@ impl Random {
     }
 
     pub fn page(&mut self) -> u64 {
-        match self.below(4) {
+        match self.below(5) {
             0 => self.word(),
             1 => self.pick(&[0, 1, (1 << 52) - 1, 1 << 52, 1 << 63, u64::MAX]),
+            // guest memory has some of these
+            2 => self.below(6) as u64,
             _ => self.below(2000) as u64,
+        }
+    }
+
+    /// A guest virtual address: near those of which some wrap, or one that is not known, mostly.
+    pub fn address(&mut self) -> u64 {
+        match self.below(8) {
+            0 => self.word(),
+            1 => u64::MAX,
+            _ => self.pick(&[0, 0x1000, u64::MAX - 200, u64::MAX]).wrapping_add(self.below(300) as u64),
         }
     }
 }
