@@ -22,11 +22,11 @@ trait Filter: Sized {
     fn from_image(image: &[u8]) -> Self;
 }
 
-/// A message that is not simply taken; out of line, so that what is counted is the call.
+/// A call that is not simply answered 0, of either filter; out of line, so that what is counted is the call.
 #[cold]
 #[inline(never)]
 fn unexpected() -> ! {
-    panic!("a message of the bench is not answered 0")
+    panic!("a call of the bench is not answered 0")
 }
 
 fn proved_settings() -> semblurick::Settings {
@@ -85,7 +85,7 @@ fn reference_settings() -> reference::Settings {
 fn count(answer: reference::Answer) -> usize {
     match answer {
         reference::Answer::Handled { count, .. } => count,
-        other => panic!("{other:?}"),
+        _ => unexpected(),
     }
 }
 
