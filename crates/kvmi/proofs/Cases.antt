@@ -11,10 +11,10 @@ use Rattle.kvmi.specs.Row.{writeRow, readRow}
 use Rattle.kvmi.specs.Settings.{inRange, isSet, allowsCommand, allowsEvent, canSinglestep, uncatchable, heldByHost, hasExecuteOnly}
 use Rattle.kvmi.specs.Tables.{isCr, crBit, vmEventOn, eventOn, crOn, msrIn, msrOn, accessIn, access}
 use Rattle.kvmi.specs.Model.{nextSeq}
-use Rattle.kvmi.specs.Message.{layoutOf, sizeFits, namesVcpu, vcpuOf, enableAt, enables, switchesAt, eventOf, registerOf, gpaOf, sizeOf, countOf, countFits, viewOf, entryOf, entriesOf, entryPadding, padding, firstNonZero, firstOfRuns, firstPadding, isVmEvent, isVcpuEvent, takesEvent}
+use Rattle.kvmi.specs.Message.{layoutOf, sizeFits, namesVcpu, vcpuOf, enableAt, enables, switchesAt, eventOf, registerOf, gpaOf, sizeOf, countOf, countFits, viewOf, entryOf, entriesOf, entryPadding, paddingRuns, firstNonZero, firstOfRuns, firstPadding, isVmEvent, isVcpuEvent, takesEvent}
 use Rattle.kvmi.specs.Event.{eventRowOf, offerFits, asksFor, isAskedFor}
 use Rattle.kvmi.specs.Feed.{keptOf, contextFits, wantsBytes, inContext, pageExists, pageFeed, chosenFeed, feedOf}
-use Rattle.kvmi.specs.Verdict.{isAccess, takesAccess, inOnePage, isInvalid, isUnready, isDenied, isUnsupported, isBusy, isAbsent, changeOf, losesErrors, commandVerdict, isAwaited, replyFits, eventReplyVerdict, verdict}
+use Rattle.kvmi.specs.Verdict.{isAccess, takesAccess, inOnePage, invalidBy, isInvalid, isUnready, isDenied, isUnsupported, isBusy, isAbsent, changeOf, losesErrors, commandVerdictBy, commandVerdict, isAwaited, replyFits, eventReplyVerdict, verdict, reachesTest6, reportedPadding}
 use Rattle.kvmi.specs.Change.{isSkipped, setPage, takeEntry, takeEntries, setMsr, apply}
 use Rattle.kvmi.specs.Reply.{messageBytes, replyBytes, replyData, eventBytes, pauseEvent, commandErrorEvent, answerBytes, answerSeq, answerOf}
 use Rattle.kvmi.specs.Record.{kindAt}
@@ -23,12 +23,13 @@ use Rattle.kvmi.specs.Call.{beginFresh, beginFrom, answering, judged, he
 use Rattle.kvmi.specs.Batch.{nextLength, refusalOf, goesOn, turnOf, turnsOf, batchBy, usedIn, usedBy, batchStep, usedOn}
 use Rattle.kvmi.specs.Case.{Case, seen, cases}
 use Rattle.kvmi.proofs.Edge.{Edge, outcome}
-use Rattle.kvmi.proofs.MessageEdges.{ofMessages, paddings, paddingsSeen}
+use Rattle.kvmi.proofs.MessageEdges.{ofMessages}
 use Rattle.kvmi.proofs.SessionEdges.{ofSessions, lookups, lookupsSeen, edgeLooks, edgeLooksSeen, edgeSets, edgeSetsSeen, accesses, accessesSeen, skips, skipsSeen}
 use Rattle.kvmi.proofs.EventEdges.{ofEvents}
 use Rattle.kvmi.proofs.FaultEdges.{ofFaults, ofFaultBatches, faultCalls, faultCallsSeen}
 use Rattle.kvmi.proofs.ImageEdges.{ofImages, pageLimitLoads, pageLimitSeen}
 use Rattle.kvmi.proofs.ExecuteOnlyEdges.{ofExecuteOnly, limitsLoad, limitsSeen}
+use Rattle.kvmi.proofs.PaddingEdges.{ofPadding, paddings, paddingsSeen}
 use Rattle.kvmi.proofs.BatchEdges.{BatchEdge, batchOutcome, usedAt, ofBatches, batchCalls, batchCallsSeen}
 
 abbrev Right : List Case → Type 0
@@ -40,9 +41,9 @@ As-expected es = map outcome es ≡ map (λ (e : Edge). e .expected) es
 abbrev In-one-write : List BatchEdge → Type 0
 In-one-write es = map batchOutcome es ≡ map (λ (e : BatchEdge). some (e .expected)) es
 
-computed : Right cases × As-expected ofMessages × As-expected ofSessions × As-expected ofEvents × As-expected ofImages × As-expected ofExecuteOnly × In-one-write ofBatches × (batchCalls ≡ batchCallsSeen) × As-expected ofFaults × In-one-write ofFaultBatches × (faultCalls ≡ faultCallsSeen)
-unfolding le num load store isWhole headerOf twos codeBytes bitOf isOn putBit bitsHave writeRow readRow inRange isSet allowsCommand allowsEvent canSinglestep uncatchable heldByHost hasExecuteOnly isCr crBit msrPlace isMsr nextSeq layoutOf sizeFits namesVcpu vcpuOf enableAt enables switchesAt eventOf registerOf gpaOf sizeOf countOf countFits viewOf entryOf entriesOf entryPadding padding firstNonZero firstOfRuns firstPadding isVmEvent isVcpuEvent takesEvent vmEventOn eventOn crOn msrIn msrOn accessIn access eventRowOf offerFits asksFor isAskedFor isAccess takesAccess inOnePage isInvalid isUnready isDenied isUnsupported isBusy keptOf contextFits wantsBytes inContext pageExists pageFeed chosenFeed feedOf isAbsent changeOf losesErrors commandVerdict isAwaited replyFits eventReplyVerdict verdict isSkipped setPage takeEntry takeEntries setMsr apply messageBytes replyBytes replyData eventBytes pauseEvent commandErrorEvent answerBytes answerSeq answerOf kindAt image vmForm isIdle vcForm msForm paForm vmMay mayEnable vcMay paMay loadImage beginFresh beginFrom answering judged headed messageStep readyStep sending pausing dequeuing entering enterStep imageStep step nextLength refusalOf goesOn turnOf turnsOf batchBy usedIn usedBy batchStep usedOn seen outcome batchOutcome usedAt
-computed = (refl, refl, refl, refl, refl, refl, refl, refl, refl, refl, refl)
+computed : Right cases × As-expected ofMessages × As-expected ofSessions × As-expected ofEvents × As-expected ofImages × As-expected ofExecuteOnly × In-one-write ofBatches × (batchCalls ≡ batchCallsSeen) × As-expected ofFaults × In-one-write ofFaultBatches × (faultCalls ≡ faultCallsSeen) × As-expected ofPadding
+unfolding le num load store isWhole headerOf twos codeBytes bitOf isOn putBit bitsHave writeRow readRow inRange isSet allowsCommand allowsEvent canSinglestep uncatchable heldByHost hasExecuteOnly isCr crBit msrPlace isMsr nextSeq layoutOf sizeFits namesVcpu vcpuOf enableAt enables switchesAt eventOf registerOf gpaOf sizeOf countOf countFits viewOf entryOf entriesOf entryPadding paddingRuns firstNonZero firstOfRuns firstPadding isVmEvent isVcpuEvent takesEvent vmEventOn eventOn crOn msrIn msrOn accessIn access eventRowOf offerFits asksFor isAskedFor isAccess takesAccess inOnePage invalidBy isInvalid isUnready isDenied isUnsupported isBusy keptOf contextFits wantsBytes inContext pageExists pageFeed chosenFeed feedOf isAbsent changeOf losesErrors commandVerdictBy commandVerdict isAwaited replyFits eventReplyVerdict verdict reachesTest6 reportedPadding isSkipped setPage takeEntry takeEntries setMsr apply messageBytes replyBytes replyData eventBytes pauseEvent commandErrorEvent answerBytes answerSeq answerOf kindAt image vmForm isIdle vcForm msForm paForm vmMay mayEnable vcMay paMay loadImage beginFresh beginFrom answering judged headed messageStep readyStep sending pausing dequeuing entering enterStep imageStep step nextLength refusalOf goesOn turnOf turnsOf batchBy usedIn usedBy batchStep usedOn seen outcome batchOutcome usedAt
+computed = (refl, refl, refl, refl, refl, refl, refl, refl, refl, refl, refl, refl)
 
 pub cases-right : Right cases
 cases-right = computed .0
@@ -77,6 +78,9 @@ of-fault-batches-right = computed .9
 pub fault-calls-right : faultCalls ≡ faultCallsSeen
 fault-calls-right = computed .10
 
+pub of-padding-right : As-expected ofPadding
+of-padding-right = computed .11
+
 -- the skip rule
 pub skips-right : skips ≡ skipsSeen
 unfolding isSkipped setPage takeEntry takeEntries
@@ -91,7 +95,7 @@ unfolding paForm paMay isAccess takesAccess isSet hasExecuteOnly
 limitsLoad-right = refl
 
 pub paddings-right : paddings ≡ paddingsSeen
-unfolding le num load countOf countFits entryPadding padding firstNonZero firstOfRuns firstPadding
+unfolding le num load countOf countFits entryPadding paddingRuns firstNonZero firstOfRuns firstPadding
 paddings-right = refl
 
 -- how tables are read

@@ -1,7 +1,7 @@
 -- Edges that a wrong reading would get wrong. An edge is a row as in `Case`, seen whole: its last call's answer, all of its output and guest memory,
 -- the image of the tables after it, and what stands beside them. Here are rows and what they are made of; the rows themselves are in
--- `MessageEdges`, `SessionEdges`, `EventEdges`, `ImageEdges`, `ExecuteOnlyEdges` and `FaultEdges`; those of several messages in one write,
--- which have a form of their own, in `BatchEdges` and `FaultEdges`.
+-- `MessageEdges`, `SessionEdges`, `EventEdges`, `ImageEdges`, `ExecuteOnlyEdges`, `FaultEdges` and `PaddingEdges`; those of several messages in
+-- one write, which have a form of their own, in `BatchEdges` and `FaultEdges`.
 use Prim.Native.Nat.{ℕ, _-_, _^_}
 use mathlib.Core.List.{List, [], _∷_, _++_}
 use mathlib.Core.Bool.{Bool, true, false}
@@ -12,13 +12,13 @@ use Rattle.kvmi.specs.declared.Settings.{Settings}
 use Rattle.kvmi.specs.declared.ReplyMode.{ReplyMode}
 use Rattle.kvmi.specs.declared.ReplyMode.the-variants.{On}
 use Rattle.kvmi.specs.declared.Signal.the-variants.{Quiet}
-use Rattle.kvmi.specs.Answer.{Paper, handled, plain}
+use Rattle.kvmi.specs.Answer.{Paper, handled, plain, withPadding}
 use Rattle.kvmi.specs.Feed.{noFault}
 use Rattle.kvmi.specs.Model.{Awaited, awaiting, Model}
 use Rattle.kvmi.specs.Reply.{messageBytes}
 use Rattle.kvmi.specs.Image.{image}
 use Rattle.kvmi.specs.Call.{Call, message, ready}
-use Rattle.kvmi.specs.Case.{Start, anew, End, unbegun, ended, endOf, two, out, page, send, vcpuHeader, flagData, registerData, reply, c0, vc, freshImage, readyImage}
+use Rattle.kvmi.specs.Case.{Start, anew, End, unbegun, ended, endOf, two, out, page, send, vcpuHeader, flagData, registerData, reply, c0, c22, vc, freshImage, readyImage}
 
 -- ---- rows
 pub record Beside : Type 0 where
@@ -255,6 +255,10 @@ taken id d image = afresh two (ready 0 ∷ send id d ∷ []) (answered id c0 ima
 
 abbrev pub fails : ℕ → List ℕ → List ℕ → Edge
 fails id d code = afresh two (ready 0 ∷ send id d ∷ []) (answered id code readyImage)
+
+-- with -22, and the message offset of its first padding byte that is not zero
+abbrev pub reports : ℕ → List ℕ → ℕ → Edge
+reports id d padding = afresh two (ready 0 ∷ send id d ∷ []) (told (withPadding padding (handled 16 Quiet)) (reply id c22) readyImage quiet)
 
 abbrev pub closes : ℕ → List ℕ → Edge
 closes id d = afresh two (ready 0 ∷ send id d ∷ []) closing

@@ -10,7 +10,7 @@ use Rattle.kvmi.specs.Record.{orderAt}
 use Rattle.kvmi.specs.Image.{Loaded, badForm as badFormAt, forbidden as forbiddenAt, paRecord, enRecord, loadRest}
 use Rattle.kvmi.specs.Call.{ready, writeImage}
 use Rattle.kvmi.specs.Case.{fromBytes, two, entry, accessData, setAccess, reply, c0, c22, vm, vc, en, freshImage, readyImage}
-use Rattle.kvmi.proofs.Edge.{Edge, nothing, everything, executing, lacking, sized, commanding, equipped, few, lent, responses, c1, c12, idle, ms, pa, failBytes, beside, nobody, quiet, told, gave, answered, started, begun, afresh, taken, fails, closes, under, behind}
+use Rattle.kvmi.proofs.Edge.{Edge, nothing, everything, executing, lacking, sized, commanding, equipped, few, lent, responses, c1, c12, idle, ms, pa, failBytes, beside, nobody, quiet, told, gave, answered, started, begun, afresh, taken, fails, reports, closes, under, behind}
 use Rattle.kvmi.proofs.MessageEdges.{asked, acted, replying}
 use Rattle.kvmi.proofs.SessionEdges.{pasFrom, holding, filled, stands}
 use Rattle.kvmi.proofs.ImageEdges.{loads, badForm, forbidden, wide, rich, tailed}
@@ -100,7 +100,7 @@ refusedEdges =
     ∷ fails 13 (accessData 0 0 (entry 0x6000 4)) c22
     ∷ fails 13 (accessData 2 0 (entry 0x6000 4)) c22
     -- with the flag 4 excuses nothing else: padding behind it, a view not below the count
-    ∷ fails 13 (set (wants 4) 17 1) c22
+    ∷ reports 13 (set (wants 4) 17 1) 25
     ∷ fails 13 (accessData 1 1 (entry 0x6000 4)) c22
     -- tests 2 and 4 come first: the command is not allowed, with replies off too; 7 bytes
     ∷ under (lacking (commanding (everything - 2 ^ 13))) (fails 13 (wants 4) c1)

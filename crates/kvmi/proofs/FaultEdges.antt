@@ -59,7 +59,7 @@ lacked = record { source = 3; at = 0; length = 0 }
 
 -- the answer's number, and its signal
 abbrev pub says : ℕ → Signal → Paper
-says number signal = record { number = number; count = 0; signal = signal; offset = 0 }
+says number signal = record { number = number; count = 0; signal = signal; offset = 0; padding = 0 }
 
 -- ---- entry: a page below rwx, the switch, and the view
 -- two vCPUs, vCPU 0 ready: its event bits and pauses, PAs, and the count of all records

@@ -9,3 +9,4 @@ mod ImageEdges
 mod ExecuteOnlyEdges
 mod BatchEdges
 mod FaultEdges
+mod PaddingEdges

@@ -9,11 +9,10 @@ use Rattle.kvmi.specs.declared.ReplyMode.the-variants.{On, Off, ErrorsOn
 use Rattle.kvmi.specs.declared.Signal.{Signal}
 use Rattle.kvmi.specs.declared.Signal.the-variants.{Quiet, Kick}
 use Rattle.kvmi.specs.Answer.{handled}
-use Rattle.kvmi.specs.Message.{firstPadding}
 use Rattle.kvmi.specs.Reply.{messageBytes}
 use Rattle.kvmi.specs.Call.{message, ready}
 use Rattle.kvmi.specs.Case.{two, out, page, send, vcpuHeader, physical, flagData, registerData, entry, accessData, pause, controlMsr, setAccess, reply, c0, c16, c22, vm, vc, en, freshImage, readyImage}
-use Rattle.kvmi.proofs.Edge.{Edge, left, given, everything, commanding, eventful, equipped, sized, without, few, naming, eventData, modeData, controlVmEvent, controlEvent, controlCr, singlestep, responses, to15, c1, c2, c11, c95, c1000, vmOf, vmHas, idle, ms, pa, joined, beside, nobody, quiet, over, told, answered, closing, afresh, taken, fails, closes, under, behind}
+use Rattle.kvmi.proofs.Edge.{Edge, left, given, everything, commanding, eventful, equipped, sized, without, few, naming, eventData, modeData, controlVmEvent, controlEvent, controlCr, singlestep, responses, to15, c1, c2, c11, c95, c1000, vmOf, vmHas, idle, ms, pa, joined, beside, nobody, quiet, over, told, answered, closing, afresh, taken, fails, reports, closes, under, behind}
 
 -- ---- each message once as it is taken
 -- its data; in the session of `two` with vCPU 0 ready, its reply's data, its signal, and guest memory and image after it
@@ -109,20 +108,8 @@ fieldEdges =
     ∷ taken 3 (naming 14) readyImage
     ∷ fails 3 (naming 15) c22
     ∷ fails 3 (naming 0x105) c22
-    -- the first and the last byte of each run of padding
-    ∷ invalidAt 2 (naming 5) 1 (2 ∷ 7 ∷ [])
-    ++ invalidAt 3 (naming 5) 1 (2 ∷ 7 ∷ [])
-    ++ invalidAt 5 (eventData 12 1) 1 (3 ∷ 7 ∷ [])
-    ++ invalidAt 8 (vcpuHeader 0) 1 (2 ∷ 7 ∷ [])
-    ++ invalidAt 9 (flagData 0 1) 1 (2 ∷ 7 ∷ 9 ∷ 15 ∷ [])
-    ++ invalidAt 10 (vcpuHeader 0 ++ eventData 9 1) 1 (2 ∷ 7 ∷ 11 ∷ 15 ∷ [])
-    ++ invalidAt 11 (registerData 0 4 1) 1 (2 ∷ 7 ∷ 9 ∷ 11 ∷ [])
-    ++ invalidAt 12 (registerData 0 0x1FFF 1) 1 (2 ∷ 7 ∷ 9 ∷ 11 ∷ [])
-    ++ invalidAt 13 (accessData 2 0 (entry 0x5000 1 ++ entry 0x6000 4)) 1 (4 ∷ 7 ∷ 17 ∷ 23 ∷ 33 ∷ 39 ∷ [])
-    ++ invalidAt 14 (flagData 0 1) 1 (2 ∷ 7 ∷ 9 ∷ 15 ∷ [])
-    ++ invalidAt 15 (modeData 0 0 1) 1 (3 ∷ 7 ∷ [])
     -- enable, wait, now and flags above 1
-    ++ invalidAt 5 (eventData 12 1) 2 (2 ∷ [])
+    ∷ invalidAt 5 (eventData 12 1) 2 (2 ∷ [])
     ++ invalidAt 9 (flagData 0 1) 2 (8 ∷ [])
     ++ invalidAt 10 (vcpuHeader 0 ++ eventData 9 1) 2 (10 ∷ [])
     ++ invalidAt 11 (registerData 0 4 1) 2 (8 ∷ [])
@@ -302,7 +289,7 @@ testEdges =
     ∷ afresh (without 13) (responses 0 0 0 ∷ []) (told (handled 16 Quiet) (reply 15 c0) freshImage (beside Off 0 nobody))
     ∷ under (without 13) (fails 15 (modeData 0 2 1) c22)
     ∷ under (without 13) (fails 15 (modeData 0 0 3) c22)
-    ∷ under (without 13) (fails 15 (set (modeData 0 0 1) 7 1) c22)
+    ∷ under (without 13) (reports 15 (set (modeData 0 0 1) 7 1) 15)
     ∷ afresh (given 2 2 everything (everything - 2 ^ 13) 1 1 0) (setAccess 1 1 (entry 0x5000 1) ∷ []) (answered 13 c0 (vm ++ idle 0 ++ idle 1 ++ pa 1 5 1 ++ en 4))
     ∷ afresh (eventful 0x2000) (responses 0 0 1 ∷ []) (told (handled 16 Quiet) (reply 15 c0) freshImage (beside ErrorsOnly 0 nobody))
     -- -11: vCPU 1 is not ready
@@ -352,9 +339,9 @@ testEdges =
     (told (handled 16 Quiet) (reply 14 c0) (vmOf 16 ++ joined (map idle (take 4 to15)) ++ vc 4 3 2 0 1 ++ idle 5 ++ idle 6 ++ idle 7 ++ vc 8 3 2 0 1 ++ joined (map idle (drop 9 to15)) ++ ms 4 0x10 ++ ms 8 0x10 ++ en 19) (beside On 0 (replicate 16 none)))
     -- the first code that applies: -22 before -11, -1, -95, -16 and -2; -11 before -1, -95 and -16; -1 before -95 and -16
     ∷ fails 10 (vcpuHeader 1 ++ eventData 6 1) c22
-    ∷ under few (fails 5 (set (eventData 12 1) 7 1) c22)
-    ∷ under few (fails 14 (set (flagData 0 1) 15 1) c22)
-    ∷ under (equipped 1 1 1) (fails 10 (vcpuHeader 0 ++ set (eventData 4 1) 7 1) c22)
+    ∷ under few (reports 5 (set (eventData 12 1) 7 1) 15)
+    ∷ under few (reports 14 (set (flagData 0 1) 15 1) 23)
+    ∷ under (equipped 1 1 1) (reports 10 (vcpuHeader 0 ++ set (eventData 4 1) 7 1) 23)
     ∷ fails 6 (physical 4096 0) c22
     ∷ under few (fails 10 (vcpuHeader 1 ++ eventData 5 1) c11)
     ∷ under few (fails 14 (flagData 1 1) c11)
@@ -365,19 +352,3 @@ testEdges =
 
 abbrev pub ofMessages : List Edge
 ofMessages = messageEdges ++ fieldEdges ++ switchEdges ++ accessEdges ++ memoryEdges ++ testEdges
-
--- the message offset of the first padding byte that is not zero: in the vCPU header, behind it in two places, in the second entry, nowhere, in an
--- entry whose count does not fit, where there are no bytes
-abbrev pub paddings : List ℕ
-paddings =
-    firstPadding 9 (set (flagData 0 1) 2 1)
-    ∷ firstPadding 9 (set (set (flagData 0 1) 15 1) 9 1)
-    ∷ firstPadding 9 (set (flagData 0 1) 15 1)
-    ∷ firstPadding 13 (set (accessData 2 0 (entry 0x5000 1 ++ entry 0x6000 1)) 39 1)
-    ∷ firstPadding 13 (accessData 2 0 (entry 0x5000 1 ++ entry 0x6000 1))
-    ∷ firstPadding 13 (set (accessData 2 0 (entry 0x5000 1)) 17 1)
-    ∷ firstPadding 9 []
-    ∷ []
-
-abbrev pub paddingsSeen : List ℕ
-paddingsSeen = 10 ∷ 17 ∷ 23 ∷ 47 ∷ 0 ∷ 0 ∷ 0 ∷ []

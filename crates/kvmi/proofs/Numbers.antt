@@ -12,16 +12,16 @@ use Rattle.kvmi.specs.Feed.{missing}
 -- the answers with values, by number; 12 is as 0, and there is no 11
 answersOf : Paper → List Answer
 answersOf p =
-    Handled (record { count = p .count; signal = p .signal })
+    Handled (record { count = p .count; signal = p .signal; padding = p .padding })
     ∷ Closing ∷ Closed ∷ ShortOut ∷ BadVcpu ∷ BadState ∷ Waiting ∷ BadSettings ∷ BadForm (p .offset) ∷ Forbidden (p .offset) ∷ Busy ∷ NotApplicable
-    ∷ Handled (record { count = p .count; signal = p .signal })
+    ∷ Handled (record { count = p .count; signal = p .signal; padding = p .padding })
     ∷ []
 
 -- the answer with a number and values
 answerOf : Paper → Answer
 answerOf p = getD (answersOf p) (p .number) NotApplicable
 
-taken-of-paper : (p : Paper) (lacks : Bool) → getD (answersOf p) (cond lacks 12 0) NotApplicable ≡ Handled (record { count = p .count; signal = p .signal })
+taken-of-paper : (p : Paper) (lacks : Bool) → getD (answersOf p) (cond lacks 12 0) NotApplicable ≡ Handled (record { count = p .count; signal = p .signal; padding = p .padding })
 unfolding answersOf
 taken-of-paper p true = refl
 taken-of-paper p false = refl
@@ -47,9 +47,9 @@ paper-injective a b e = sym (answer-of-paper a) ∙ ap answerOf e ∙ answer-of-
 -- the table's numbers, in its order
 pub as-in-the-table :
     map (λ (a : Answer). paper a .number) (
-    Handled (record { count = 5; signal = Quiet })
+    Handled (record { count = 5; signal = Quiet; padding = 0 })
     ∷ Closing ∷ Closed ∷ ShortOut ∷ BadVcpu ∷ BadState ∷ Waiting ∷ BadSettings ∷ BadForm 28 ∷ Forbidden 8 ∷ Busy
-    ∷ Handled (record { count = 0; signal = Resume 1 0 1 missing })
+    ∷ Handled (record { count = 0; signal = Resume 1 0 1 missing; padding = 0 })
     ∷ NotApplicable
     ∷ []
     )

@@ -18,14 +18,14 @@ use Rattle.kvmi.specs.declared.ReplyMode.{ReplyMode}
 use Rattle.kvmi.specs.declared.Verdict.{Verdict}
 use Rattle.kvmi.specs.declared.Verdict.the-variants.{Closes, Fails, Does}
 use Rattle.kvmi.specs.Limits.{leastOut, eventOut, stateBytes}
-use Rattle.kvmi.specs.Answer.{Paper, handled, plain, plainAt}
+use Rattle.kvmi.specs.Answer.{Paper, handled, plain, plainAt, withPadding}
 use Rattle.kvmi.specs.Settings.{inRange}
 use Rattle.kvmi.specs.Tables.{Tables, vcpuAt, withReady, withPauses}
 use Rattle.kvmi.specs.Model.{Awaited, awaiting, Model, begun, fresh, closedModel, withSeq, setAwaited, awaitedBy, onVcpu, nextSeq, isSome}
 use Rattle.kvmi.specs.Message.{layoutOf, vcpuOf}
 use Rattle.kvmi.specs.Event.{offerFits, isAskedFor}
 use Rattle.kvmi.specs.Feed.{Fault, noFault, keptOf}
-use Rattle.kvmi.specs.Verdict.{verdict, factsOf}
+use Rattle.kvmi.specs.Verdict.{verdict, factsOf, reportedPadding}
 use Rattle.kvmi.specs.Change.{apply, signalOf, modeFor}
 use Rattle.kvmi.specs.Reply.{replyData, eventBytes, pauseEvent, answerOf, answerSeq}
 use Rattle.kvmi.specs.Image.{Loaded, loaded, badForm, forbidden, image, loadImage}
@@ -48,6 +48,10 @@ closing s out guest = record { answer = plain 1; out = out; guest = guest; model
 -- answer 0 (or 12, which is as 0) with bytes written; "output past the count is untouched"
 abbrev pub writing : List ℕ → Signal → List ℕ → List ℕ → Model → Step
 writing bytes g out guest m = record { answer = handled (length bytes) g; out = bytes ++ drop (length bytes) out; guest = guest; model = m }
+
+-- W6: a step whose answer reports a padding byte; "Wire bytes stay", and so does all else
+abbrev pub reporting : ℕ → Step → Step
+reporting padding r = record { answer = withPadding padding (r .answer); out = r .out; guest = r .guest; model = r .model }
 
 -- ---- how a session begins
 -- its answer and, unless it is refused, its model
@@ -99,7 +103,8 @@ judged s m id seq d out guest (Does c) =
 -- The vCPU number is read from the data of every message and used only where the message names a vCPU.
 unfoldable pub headed : Settings → Model → List ℕ → List ℕ → List ℕ → Header → Step
 headed s m d out guest Broken = closing s out guest
-headed s m d out guest (Whole id size seq) = judged s m id seq d out guest (verdict s (factsOf m (length guest) (vcpuOf d)) id seq d)
+headed s m d out guest (Whole id size seq) =
+    reporting (reportedPadding s (m .mode) id d) (judged s m id seq d out guest (verdict s (factsOf m (length guest) (vcpuOf d)) id seq d))
 
 -- 2 closed; 3 short out, below 4,112; then the tests
 unfoldable pub messageStep : Settings → Model → List ℕ → List ℕ → List ℕ → Step

@@ -1,6 +1,6 @@
 -- Document 01's cases P1 to P12. A case is a row: settings, how the session begins, calls, and what the last of them gives (the beginning, where
 -- there are none): answer, bytes written, and the image of the tables after it. Further rows, seen whole, are in proofs/ (`MessageEdges`,
--- `SessionEdges`, `ImageEdges`, `EventEdges`, `ExecuteOnlyEdges`, `BatchEdges`, `FaultEdges`).
+-- `SessionEdges`, `ImageEdges`, `EventEdges`, `ExecuteOnlyEdges`, `BatchEdges`, `FaultEdges`, `PaddingEdges`).
 use Prim.Native.Nat.{ℕ}
 use mathlib.Core.List.{List, [], _∷_, _++_}
 use mathlib.Core.Bool.{true}

@@ -149,9 +149,9 @@ unfoldable pub entryPadding : ℕ → ℕ → List (ℕ × ℕ)
 entryPadding at zero = []
 entryPadding at (suc n) = (at, 7) ∷ entryPadding (at + 16) n
 
--- where the count of message 13 does not fit its size, which is -22 as well, no entry's padding is looked at
-unfoldable pub padding : ℕ → List ℕ → List (ℕ × ℕ)
-padding id d =
+-- by message number; of 13, W6: "Entries are looked at only if the count fits" (where it does not, that is -22 by itself)
+unfoldable pub paddingRuns : ℕ → List ℕ → List (ℕ × ℕ)
+paddingRuns id d =
     cond (among id (2 ∷ 3 ∷ 8 ∷ [])) ((2, 6) ∷ [])
     (cond (among id (5 ∷ 15 ∷ [])) ((3, 5) ∷ [])
     (cond (among id (9 ∷ 14 ∷ [])) ((2, 6) ∷ (9, 7) ∷ [])
@@ -171,9 +171,9 @@ unfoldable pub firstOfRuns : List ℕ → List (ℕ × ℕ) → ℕ
 firstOfRuns d [] = 0
 firstOfRuns d (r ∷ rs) = firstNonZero d (r .0) (r .1) (firstOfRuns d rs)
 
--- the message offset of the first padding byte that is not zero, or 0, which no padding byte has: test 6 asks only whether it is 0
+-- the message offset of the first padding byte that is not zero, or 0, which no padding byte has: test 6 asks whether it is 0, and W6 reports it
 unfoldable pub firstPadding : ℕ → List ℕ → ℕ
-firstPadding id d = firstOfRuns d (padding id d)
+firstPadding id d = firstOfRuns d (paddingRuns id d)
 
 -- ---- events
 -- "Message 5 takes events 1 and 12; message 10 takes 3, 4, 5, 7, 8, 9, 10, 11, 14."

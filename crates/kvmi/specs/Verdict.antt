@@ -1,4 +1,4 @@
--- "What is tested first": tests 2 to 6 of a message with a whole header, in their order, and the rule of EVENT_REPLY.
+-- "What is tested first": tests 2 to 6 of a message with a whole header, in their order, the rule of EVENT_REPLY, and W6's report of test 6.
 use Prim.Native.Nat.{ℕ, _+_, _%_}
 use mathlib.Core.List.{List, [], _∷_}
 use mathlib.Core.Bool.{Bool, true, false, cond, not, _&&_, _||_}
@@ -14,6 +14,7 @@ use Rattle.kvmi.specs.declared.Facts.{Facts}
 use Rattle.kvmi.specs.declared.Change.{Change}
 use Rattle.kvmi.specs.declared.Change.the-variants.{Nothing, SetVmEvent, WritePhysical, QueuePause, SetVcpuEvent, SetCr, SetMsr, SetPages, SetSinglestep, SetReplies, EndWait}
 use Rattle.kvmi.specs.declared.Verdict.{Verdict}
+use Rattle.kvmi.specs.declared.Judgement.{Judgement}
 use Rattle.kvmi.specs.declared.Verdict.the-variants.{Closes, Fails, Does}
 use Rattle.kvmi.specs.Limits.{pauseLimit}
 use Rattle.kvmi.specs.Bits.{among, every}
@@ -79,10 +80,10 @@ unfoldable pub inOnePage : ℕ → ℕ → Bool
 inOnePage gpa size = leb 1 size && leb (gpa % 4096 + size) 4096
 
 -- -22 EINVAL, mostly in the sentence's order: the response flags stand with the other bytes that are at most 1, and "a count that disagrees is -22"
--- is test 4's
-unfoldable pub isInvalid : Settings → ℕ → List ℕ → Bool
-isInvalid s id d =
-    not (eqb (firstPadding id d) 0)
+-- is test 4's. The padding test found `padding`, the message offset of a byte, or 0
+unfoldable pub invalidBy : ℕ → Settings → ℕ → List ℕ → Bool
+invalidBy padding s id d =
+    not (eqb padding 0)
     || namesVcpu id && leb (s .vcpus) (vcpuOf d)
     || not (every (λ at. leb (getD d at 0) 1) (switchesAt id))
     || among id (3 ∷ 5 ∷ 10 ∷ []) && not (takesEvent id (eventOf id d))
@@ -92,6 +93,10 @@ isInvalid s id d =
     || eqb id 13 && leb (s .views) (viewOf d)
     || eqb id 13 && not (countFits d && every (λ (e : Entry). takesAccess s (e .access)) (entriesOf (countOf d) (drop 8 d)))
     || among id (6 ∷ 7 ∷ []) && not (inOnePage (gpaOf d) (sizeOf d))
+
+-- by the message's own padding
+unfoldable pub isInvalid : Settings → ℕ → List ℕ → Bool
+isInvalid s id d = invalidBy (firstPadding id d) s id d
 
 -- -11 EAGAIN
 unfoldable pub isUnready : Facts → ℕ → Bool
@@ -139,16 +144,20 @@ unfoldable pub losesErrors : Settings → ℕ → List ℕ → Bool
 losesErrors s id d = eqb id 15 && not (enables id d) && hasFlag d && not (allowsEvent s 13)
 
 -- test 6: "errors, the first that applies" (-12 is known when the entries of message 13 have run); and test 5's second sentence, which asks whether
--- "test 6 would pass" and so stands behind it
-unfoldable pub commandVerdict : Settings → Facts → ℕ → List ℕ → Verdict
-commandVerdict s f id d =
-    cond (isInvalid s id d) (Fails EINVAL)
+-- "test 6 would pass" and so stands behind it. The padding test found `padding`
+unfoldable pub commandVerdictBy : ℕ → Settings → Facts → ℕ → List ℕ → Verdict
+commandVerdictBy padding s f id d =
+    cond (invalidBy padding s id d) (Fails EINVAL)
     (cond (isUnready f id) (Fails EAGAIN)
     (cond (isDenied s id d) (Fails EPERM)
     (cond (isUnsupported s id d) (Fails EOPNOTSUPP)
     (cond (isBusy s f id d) (Fails EBUSY)
     (cond (isAbsent f id d) (Fails ENOENT)
     (cond (losesErrors s id d) Closes (Does (changeOf id d))))))))
+
+-- by the message's own padding
+unfoldable pub commandVerdict : Settings → Facts → ℕ → List ℕ → Verdict
+commandVerdict s f id d = commandVerdictBy (firstPadding id d) s f id d
 
 -- ---- "An EVENT_REPLY closes unless padding is zero, the vCPU awaits one, seq and event match, and the action is 0 continue or 2 crash";
 -- W1: "Replies carry 24 data bytes for CR and MSR [..], and 16 otherwise", "Retry is taken for BREAKPOINT and DESCRIPTOR only", "a wrong reply closes"; W5: "288
@@ -195,3 +204,25 @@ verdict s f id seq d =
     -- 5: "Message 9 while event 2 is not allowed: closes."; its second sentence, and 6
     (cond (eqb id 9 && not (allowsEvent s 2)) Closes
     (commandVerdict s f id d))))))
+
+-- ---- W6: "Which padding byte was it?"
+-- test 6 is reached by a command that passes tests 2 to 4 and the first sentence of test 5; EVENT_REPLY is none
+unfoldable pub reachesTest6 : Settings → ReplyMode → ℕ → List ℕ → Bool
+reachesTest6 s mode id d =
+    (leb 1 id && leb id 15)
+    && allowsCommand s id
+    && not (not (repliesOn mode) && carriesData (layoutOf id .reply))
+    && sizeFits (layoutOf id .size) d
+    && not (eqb id 9 && not (allowsEvent s 2))
+
+-- "should report the message offset of the first non-zero padding byte [..]; 0 means padding fine or test 6 not reached"
+unfoldable pub reportedPadding : Settings → ReplyMode → ℕ → List ℕ → ℕ
+reportedPadding s mode id d = cond (reachesTest6 s mode id d) (firstPadding id d) 0
+
+-- a verdict with the padding byte that is reported
+abbrev pub judgement : Verdict → ℕ → Judgement
+judgement v padding = record { verdict = v; padding = padding }
+
+-- of a command that reaches test 6
+unfoldable pub commandJudgement : Settings → Facts → ℕ → List ℕ → Judgement
+commandJudgement s f id d = judgement (commandVerdict s f id d) (firstPadding id d)

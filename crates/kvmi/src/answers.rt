@@ -5,14 +5,18 @@ use crate::Signal;
 use crate::Values;
 ghost use mathlib.Core.Path.{_≡_};
 ghost use Rattle.kvmi.specs.declared.Signal.the-variants.{Quiet};
-ghost use Rattle.kvmi.specs.Answer.{paper, handled, lacksPage};
+ghost use Rattle.kvmi.specs.Answer.{paper, handled, withPadding, lacksPage};
 ghost use Rattle.kvmi.specs.Feed.{unfed};
 
 // Bytes written, and something for the host to do.
 pub fn signalled(count: usize, signal: Signal) -> Answer
     ensures { λ r. ⌜ paper r ≡ handled count signal ⌝ }
 {
-    Answer::Handled(Values { count, signal })
+    Answer::Handled(Values {
+        count,
+        signal,
+        padding: 0,
+    })
 }
 
 // Bytes written.
@@ -29,19 +33,30 @@ pub fn done() -> Answer
     wrote(0)
 }
 
-// No bytes, and nothing to do.
+// No bytes, nothing to do, and nothing reported.
 fn quiet() -> Values
-    ensures { λ r. ⌜ (r .count ≡ 0) × (r .signal ≡ Quiet) ⌝ }
+    ensures { λ r. ⌜ (r .count ≡ 0) × (r .signal ≡ Quiet) × (r .padding ≡ 0) ⌝ }
 {
     Values {
         count: 0,
         signal: Signal::Quiet,
+        padding: 0,
     }
 }
 
-// The values of an answer; one that has none of its own wrote nothing and signals nothing.
+// Bytes written for a command that failed, and where its first padding byte stands that is not zero (0: none).
+pub fn failed(count: usize, padding: usize) -> Answer
+    ensures { λ r. ⌜ paper r ≡ withPadding padding (handled count Quiet) ⌝ }
+{
+    let mut values = quiet();
+    values.count = count;
+    values.padding = padding;
+    Answer::Handled(values)
+}
+
+// The values of an answer; one that has none of its own wrote nothing, signals nothing and reports nothing.
 pub fn values(a: Answer) -> Values
-    ensures { λ r. ⌜ (r .count ≡ paper a .count) × (r .signal ≡ paper a .signal) ⌝ }
+    ensures { λ r. ⌜ (r .count ≡ paper a .count) × (r .signal ≡ paper a .signal) × (r .padding ≡ paper a .padding) ⌝ }
 {
     match a {
         Answer::Handled(values) => values,

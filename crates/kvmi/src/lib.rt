@@ -66,10 +66,12 @@ pub struct Feed {
     pub source: u32,
 }
 
-// The values of answers 0 and 12: what the host is to do, and how many bytes were written. The count stands last: a store of its own width ends
-// each answer with values, so that the compiler keeps answers in registers.
+// The values of answers 0 and 12: what the host is to do, where a command's first padding byte stands that is not zero (its message offset; 0: none),
+// and how many bytes were written. The count stands last: a store of its own width ends each answer with values, so that the compiler keeps answers in
+// registers.
 pub struct Values {
     pub signal: Signal,
+    pub padding: usize,
     pub count: usize,
 }
 
@@ -239,4 +241,12 @@ pub enum Verdict {
     Closes,
     Fails(i32),
     Does(Change),
+}
+
+// A verdict, and beside it what test 6 found: the message offset of the first padding byte that is not zero, or 0 where there is none or the test
+// was not reached. It stands beside the verdict and not in `Fails`: there it would share its place with a change, and the compiler would keep
+// neither in registers.
+pub struct Judgement {
+    pub verdict: Verdict,
+    pub padding: usize,
 }

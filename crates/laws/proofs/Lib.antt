@@ -8,6 +8,7 @@ pub mod Valid
 pub mod Load
 pub mod Write
 pub mod Verdicts
+pub mod Paddings
 pub mod Events
 pub mod Feeds
 pub mod Kept

@@ -23,7 +23,7 @@ use Rattle.kvmi.specs.Tables.{isCr}
 use Rattle.kvmi.specs.Message.{layoutOf, sizeFits, carriesData, namesVcpu, vcpuOf, switchesAt, actionOf, repliedEvent, eventOf, registerOf, gpaOf, sizeOf, countOf, countFits, viewOf, Entry, entriesOf, firstPadding, takesEvent}
 use Rattle.kvmi.specs.declared.Facts.{Facts}
 use Rattle.kvmi.specs.Event.{eventRowOf, valueOf}
-use Rattle.kvmi.specs.Verdict.{repliesOn, takesAccess, inOnePage, isInvalid, isUnready, isDenied, isUnsupported, isBusy, isAbsent, changeOf, losesErrors, commandVerdict, isAwaited, replyFits, feedBy, eventReplyVerdict, refuse, verdict}
+use Rattle.kvmi.specs.Verdict.{repliesOn, takesAccess, inOnePage, invalidBy, isInvalid, isUnready, isDenied, isUnsupported, isBusy, isAbsent, changeOf, losesErrors, commandVerdictBy, commandVerdict, isAwaited, replyFits, feedBy, eventReplyVerdict, refuse, verdict}
 use Rattle.laws.proofs.Bool.{and-l, and-r}
 
 pub or-false-l : (a b : Bool) → (a || b) ≡ false → a ≡ false
@@ -79,7 +79,7 @@ ending f d = EndWait (not (eqb (f .awaited) 2)) (vcpuOf d) (actionOf d) (valueOf
 -- a message closes, fails, does its change, or ends a vCPU's wait
 pub verdict-cases : (P : Verdict → Type 0) (s : Settings) (f : Facts) (id seq : ℕ) (d : List ℕ) → P Closes → ((code : ℤ) → isError code ≡ true → P (Fails code))
     → (Passed s f id d → P (Does (changeOf id d))) → (Replied s f id seq d → P (Does (ending f d))) → P (verdict s f id seq d)
-unfolding verdict commandVerdict eventReplyVerdict
+unfolding verdict commandVerdict commandVerdictBy isInvalid eventReplyVerdict
 verdict-cases P s f id seq d closes fails does ends =
     let refused : (code : ℤ) → isError code ≡ true → P (refuse (f .mode) code) = λ code e. pick P (repliesOn (f .mode)) (Fails code) Closes (λ _. fails code e) (λ _. closes) in
     pick P (not (leb 1 id && leb id 16)) _ _ (λ _. refused ENOSYS refl)
@@ -135,7 +135,7 @@ pub record Sound (s : Settings) (id : ℕ) (d : List ℕ) : Type 0 where
   pub range : (among id (6 ∷ 7 ∷ []) && not (inOnePage (gpaOf d) (sizeOf d))) ≡ false
 
 pub sound-of : (s : Settings) (id : ℕ) (d : List ℕ) → isInvalid s id d ≡ false → Sound s id d
-unfolding isInvalid
+unfolding isInvalid invalidBy
 sound-of s id d h =
     record {
       padding = search (or-false-l, or-false-r) depth 12;
