@@ -4,6 +4,7 @@ pub mod entries;
 
 ghost use mathlib.Core.Path.{_≡_};
 ghost use Prim.Native.Nat.{_+_, _*_, _≤_};
+ghost use lib.Dec.{eqb};
 ghost use lib.ListN.{length};
 ghost use Rattle.kvmi.specs.Message.{firstNonZero, firstOfRuns, entryPadding, firstPadding};
 
@@ -118,6 +119,23 @@ fn of_entries(d: &[u8], count: usize) -> usize
     0
 }
 
+// Whether every entry's padding is clean. The usual case asks this alone: a loop that keeps no place is a load and two tests for an entry.
+fn entries_clean(d: &[u8], count: usize) -> bool
+    requires { ⌜ 8 + 16 * count ≤ length (now d) ⌝ }
+    ensures { λ r. ⌜ r ≡ eqb (firstOfRuns (now (d .entry)) (entryPadding 17 count)) 0 ⌝ }
+{
+    let mut i = 0;
+    while i < count {
+        let a = 8 + 16 * i;
+        let b = a + 16;
+        if of_entry(&d[a..b]) != 0 {
+            return false;
+        }
+        i += 1;
+    }
+    true
+}
+
 // Of VM_SET_PAGE_ACCESS. Its entries are looked at only if their count fits the size.
 pub fn of_pages(d: &[u8]) -> usize
     ensures { λ r. ⌜ r ≡ firstPadding 13 (now (d .entry)) ⌝ }
@@ -126,9 +144,12 @@ pub fn of_pages(d: &[u8]) -> usize
     if head != 0 {
         return head;
     }
-    if entries::count_fits(d) {
-        of_entries(d, wire::load16(d, 0) as usize)
-    } else {
-        0
+    if !entries::count_fits(d) {
+        return 0;
     }
+    let count = wire::load16(d, 0) as usize;
+    if entries_clean(d, count) {
+        return 0;
+    }
+    of_entries(d, count)
 }

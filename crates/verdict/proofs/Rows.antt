@@ -18,13 +18,15 @@ use Rattle.kvmi.specs.declared.Layout.{Layout}
 use Rattle.kvmi.specs.declared.SizeRule.the-variants.{Exactly}
 use Rattle.kvmi.specs.declared.Change.the-variants.{Nothing}
 use Rattle.kvmi.specs.declared.Verdict.{Verdict}
+use Rattle.kvmi.specs.declared.Judgement.{Judgement}
 use Rattle.kvmi.specs.declared.Verdict.the-variants.{Does}
-use Rattle.kvmi.specs.Settings.{allowsCommand}
-use Rattle.kvmi.specs.Message.{sizeFits, carriesData, layoutOf, messages, unknown, namesVcpu, switchesAt, firstPadding, padding, firstOfRuns}
-use Rattle.kvmi.specs.Verdict.{repliesOn, verdict, commandVerdict, isInvalid, isUnready, isDenied, isUnsupported, isBusy, isAbsent, losesErrors, changeOf}
+use Rattle.kvmi.specs.Settings.{allowsCommand, allowsEvent}
+use Rattle.kvmi.specs.Message.{sizeFits, carriesData, layoutOf, messages, unknown, namesVcpu, switchesAt, firstPadding, paddingRuns, firstOfRuns}
+use Rattle.kvmi.specs.Verdict.{repliesOn, verdict, commandVerdictBy, commandVerdict, judgement, commandJudgement, reachesTest6, reportedPadding, invalidBy, isUnready, isDenied, isUnsupported, isBusy, isAbsent, losesErrors, changeOf}
 use Rattle.laws.proofs.Bool.{test, and-l, and-r}
+use Rattle.laws.proofs.Paddings.{command-ids}
 use Rattle.tests.specs.Known.{idOf, isKnown}
-use Rattle.verdict.specs.Handlers.{rowVerdict, factsFor, passesRow, refusal}
+use Rattle.verdict.specs.Handlers.{rowJudgement, factsFor, passesRow, refusal}
 use Rattle.verdict.specs.declared.Asked.{Asked}
 
 -- what a test says of each number below a bound
@@ -73,28 +75,51 @@ own-row id row e known =
     let own : idOf (row .handler) ≡ id = ap (λ r. idOf (r .handler)) e ∙ row-id id ∙ rw inside in
     ap layoutOf own ∙ sym e
 
--- `verdict` by the table's row: so the row tells all that the number does
-unfoldable byRow : Asked → List ℕ → Layout → ℕ → ℕ → List ℕ → Verdict
+-- what `judge` promises, by the table's row: so the row tells all that the number does
+unfoldable byRow : Asked → List ℕ → Layout → ℕ → ℕ → List ℕ → Judgement
 byRow a v row id seq d =
-    cond (isKnown (row .handler) && passesRow a row id d) (rowVerdict (a .settings) (factsFor a v d) (idOf (row .handler)) seq d) (refusal a (row .handler) id)
+    cond (isKnown (row .handler) && passesRow a row id d) (rowJudgement (a .settings) (factsFor a v d) (idOf (row .handler)) seq d)
+    (judgement (refusal a (row .handler) id) 0)
 
-by-row : (a : Asked) (v : List ℕ) (id seq : ℕ) (d : List ℕ) → byRow a v (layoutOf id) id seq d ≡ verdict (a .settings) (factsFor a v d) id seq d
-unfolding byRow verdict rowVerdict passesRow refusal
+abbrev pub byTests : Asked → List ℕ → ℕ → ℕ → List ℕ → Judgement
+byTests a v id seq d = judgement (verdict (a .settings) (factsFor a v d) id seq d) (reportedPadding (a .settings) (a .mode) id d)
+
+by-row : (a : Asked) (v : List ℕ) (id seq : ℕ) (d : List ℕ) → byRow a v (layoutOf id) id seq d ≡ byTests a v id seq d
+unfolding byRow verdict rowJudgement commandJudgement passesRow refusal reportedPadding reachesTest6
 by-row a v id seq d =
-    rw (row-known id)
+    rw (row-known id, command-ids id)
     (test (leb 1 id && leb id 16)
     (λ e.
     let h : idOf (layoutOf id .handler) ≡ id = row-id id ∙ rw e in
     rw (e, h)
+    (test (eqb id 16)
+    (λ k. rw k
     (test (allowsCommand (a .settings) id)
     (λ p. rw p (test (not (repliesOn (a .mode)) && carriesData (layoutOf id .reply)) (λ q. rw q) (λ q. rw q (test (sizeFits (layoutOf id .size) d) (λ z. rw z) (λ z. rw z)))))
     (λ p. rw p)))
+    (λ k. rw k
+    (test (allowsCommand (a .settings) id)
+    (λ p. rw p
+    (test (not (repliesOn (a .mode)) && carriesData (layoutOf id .reply)) (λ q. rw q)
+    (λ q. rw q
+    (test (sizeFits (layoutOf id .size) d) (λ z. rw z (test (eqb id 9 && not (allowsEvent (a .settings) 2)) (λ w. rw w) (λ w. rw w))) (λ z. rw z)))))
+    (λ p. rw p)))))
     (λ e. rw e))
 
--- messages 1 and 4 ask nothing and change nothing
-pub asks-nothing : (s : Settings) (f : Facts) (d : List ℕ) → (commandVerdict s f 1 d ≡ Does Nothing) × (commandVerdict s f 4 d ≡ Does Nothing)
-unfolding commandVerdict isInvalid isUnready isDenied isUnsupported isBusy isAbsent losesErrors changeOf namesVcpu switchesAt firstPadding padding firstOfRuns
+-- messages 1 and 4 ask nothing, change nothing and have no padding; 6 and 7 have none
+pub asks-nothing : (s : Settings) (f : Facts) (d : List ℕ) → (commandJudgement s f 1 d ≡ judgement (Does Nothing) 0) × (commandJudgement s f 4 d ≡ judgement (Does Nothing) 0)
+unfolding commandJudgement commandVerdict commandVerdictBy invalidBy isUnready isDenied isUnsupported isBusy isAbsent losesErrors changeOf namesVcpu switchesAt firstPadding paddingRuns firstOfRuns
 asks-nothing s f d = (refl, refl)
+
+pub unpadded : (s : Settings) (f : Facts) (d : List ℕ) → (commandJudgement s f 6 d ≡ judgement (commandVerdict s f 6 d) 0) × (commandJudgement s f 7 d ≡ judgement (commandVerdict s f 7 d) 0)
+unfolding commandJudgement firstPadding paddingRuns firstOfRuns
+unpadded s f d = (refl, refl)
+
+-- a command is handed what the padding test found
+pub judged-by : (s : Settings) (f : Facts) (id : ℕ) (d : List ℕ) {v : Verdict} {p : ℕ} → v ≡ commandVerdictBy p s f id d → p ≡ firstPadding id d
+    → judgement v p ≡ commandJudgement s f id d
+unfolding commandJudgement commandVerdict
+judged-by s f id d e h = rw (e, h)
 
 -- ---- the arms of a `match` on the handler of a message's row
 module _ (a : Asked) (id : ℕ) (row : Layout) (d : List ℕ) {b : Bool} (e : row ≡ layoutOf id) (p : b ≡ passesRow a row id d) where
@@ -112,21 +137,21 @@ module _ (a : Asked) (id : ℕ) (row : Layout) (d : List ℕ) {b : Bool} (e : ro
   module _ (v : List ℕ) (seq : ℕ) where
     -- a known message that passes gets what its own tests say
     pub taken : {f : Facts} → f ≡ factsFor a v d → (h : Handler) → isKnown h ≡ true → row .handler ≡ h → b ≡ true
-        → rowVerdict (a .settings) f (idOf h) seq d ≡ verdict (a .settings) (factsFor a v d) id seq d
+        → rowJudgement (a .settings) f (idOf h) seq d ≡ byTests a v id seq d
     unfolding byRow
-    taken k h known g z = ap (λ x. rowVerdict (a .settings) x (idOf h) seq d) k ∙ rw (← by-row a v id seq d, ← e, ← p, z, g, known)
+    taken k h known g z = ap (λ x. rowJudgement (a .settings) x (idOf h) seq d) k ∙ rw (← by-row a v id seq d, ← e, ← p, z, g, known)
 
     pub taken-part : {f : Facts} → f ≡ factsFor a v d → (h : Handler) (n : ℕ) → layoutOf (idOf h) .size ≡ Exactly n → isKnown h ≡ true → row .handler ≡ h → b ≡ true
-        → rowVerdict (a .settings) f (idOf h) seq (take n d) ≡ verdict (a .settings) (factsFor a v d) id seq d
-    taken-part {f} k h n fixed known g z = ap (λ x. rowVerdict (a .settings) f (idOf h) seq x) (part h n fixed known g z .1) ∙ taken k h known g z
+        → rowJudgement (a .settings) f (idOf h) seq (take n d) ≡ byTests a v id seq d
+    taken-part {f} k h n fixed known g z = ap (λ x. rowJudgement (a .settings) f (idOf h) seq x) (part h n fixed known g z .1) ∙ taken k h known g z
 
     -- one that does not pass is refused
-    pub left : b ≡ false → refusal a (row .handler) id ≡ verdict (a .settings) (factsFor a v d) id seq d
+    pub left : b ≡ false → judgement (refusal a (row .handler) id) 0 ≡ byTests a v id seq d
     unfolding byRow
     left z = rw (← by-row a v id seq d, ← e, ← p, z) (test (isKnown (row .handler)) (λ q. rw q) (λ q. rw q))
 
 -- and so is one that is not known
 pub unknown-left : (a : Asked) (id : ℕ) (row : Layout) (d v : List ℕ) (seq : ℕ) → row ≡ layoutOf id → row .handler ≡ Unknown
-    → refusal a (row .handler) id ≡ verdict (a .settings) (factsFor a v d) id seq d
+    → judgement (refusal a (row .handler) id) 0 ≡ byTests a v id seq d
 unfolding byRow
 unknown-left a id row d v seq e g = rw (← by-row a v id seq d, ← e, g)

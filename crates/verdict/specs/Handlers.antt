@@ -8,22 +8,23 @@ use Rattle.kvmi.specs.declared.Facts.{Facts}
 use Rattle.kvmi.specs.declared.Handler.{Handler}
 use Rattle.kvmi.specs.declared.Layout.{Layout}
 use Rattle.kvmi.specs.declared.Verdict.{Verdict}
+use Rattle.kvmi.specs.declared.Judgement.{Judgement}
 use Rattle.kvmi.specs.declared.Verdict.the-variants.{Closes}
 use Rattle.kvmi.specs.Bits.{isOn}
 use Rattle.kvmi.specs.Codes.{EPERM, ENOSYS}
 use Rattle.kvmi.specs.Settings.{allowsCommand, allowsEvent}
 use Rattle.kvmi.specs.Message.{sizeFits, carriesData, vcpuOf}
-use Rattle.kvmi.specs.Verdict.{repliesOn, refuse, commandVerdict, eventReplyVerdict}
+use Rattle.kvmi.specs.Verdict.{repliesOn, refuse, judgement, commandJudgement, eventReplyVerdict}
 use Rattle.store.specs.Words.{field, PAUSES, AWAITED, AWAITED-SEQ, FAULT-GVA, FAULT-GPA, FAULT-ACCESS}
 use Rattle.tests.specs.Known.{isKnown}
 use Rattle.verdict.specs.declared.Asked.{Asked}
 
--- what `verdict` tests once the data's size is the table's
-unfoldable pub rowVerdict : Settings → Facts → ℕ → ℕ → List ℕ → Verdict
-rowVerdict s f id seq d =
-    cond (eqb id 16) (eventReplyVerdict f seq d)
-    (cond (eqb id 9 && not (allowsEvent s 2)) Closes
-    (commandVerdict s f id d))
+-- what `verdict` tests once the data's size is the table's, and which padding byte is reported
+unfoldable pub rowJudgement : Settings → Facts → ℕ → ℕ → List ℕ → Judgement
+rowJudgement s f id seq d =
+    cond (eqb id 16) (judgement (eventReplyVerdict f seq d) 0)
+    (cond (eqb id 9 && not (allowsEvent s 2)) (judgement Closes 0)
+    (commandJudgement s f id d))
 
 -- what the tests ask, for the vCPU that a message names
 abbrev pub factsFor : Asked → List ℕ → List ℕ → Facts

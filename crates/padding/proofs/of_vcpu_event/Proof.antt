@@ -1,6 +1,6 @@
 -- The runs of this layout. Assumes nothing.
 use borrow.Author.Needs.{needs}
-use Rattle.kvmi.specs.Message.{firstPadding, padding, firstOfRuns}
+use Rattle.kvmi.specs.Message.{firstPadding, paddingRuns, firstOfRuns}
 use Rattle.padding.proofs.of_vcpu_event.Statement.{statement}
 use Rattle.padding.proofs.of_vcpu_event.Tie as tie
 
@@ -8,7 +8,7 @@ behind-vcpu-requires : tie.Need-behind-vcpu-requires
 behind-vcpu-requires c κs = search needs
 
 returns : tie.Need-returns
-unfolding firstPadding padding firstOfRuns
+unfolding firstPadding paddingRuns firstOfRuns
 returns c = c .behind-vcpu .ensures
 
 pub of-vcpu-event-spec : {M : Type 1} → statement M

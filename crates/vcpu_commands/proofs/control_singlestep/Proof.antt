@@ -2,9 +2,9 @@
 use mathlib.Core.Path.{_∙_}
 use mathlib.Core.Bool.{or-false, and-true}
 use borrow.Author.Needs.{needs}
-use Rattle.kvmi.specs.Message.{namesVcpu, switchesAt, vcpuOf, enables, enableAt, firstPadding, padding}
+use Rattle.kvmi.specs.Message.{namesVcpu, switchesAt, vcpuOf, enables, enableAt, firstPadding, paddingRuns}
 use Rattle.kvmi.specs.Settings.{canSinglestep}
-use Rattle.kvmi.specs.Verdict.{isInvalid, isUnready, isDenied, isUnsupported, isBusy, isAbsent, losesErrors, changeOf, commandVerdict}
+use Rattle.kvmi.specs.Verdict.{invalidBy, isUnready, isDenied, isUnsupported, isBusy, isAbsent, losesErrors, changeOf, commandVerdictBy}
 use Rattle.causes.specs.Causes.{decided}
 use Rattle.vcpu_commands.proofs.control_singlestep.Statement.{statement}
 use Rattle.vcpu_commands.proofs.control_singlestep.Tie as tie
@@ -14,9 +14,6 @@ load16-requires c κs = search needs
 
 byte-requires : tie.Need-byte-requires
 byte-requires c κs = search needs
-
-of-vcpu-switch-requires : tie.Need-of-vcpu-switch-requires
-of-vcpu-switch-requires c κs = search needs
 
 is-malformed-requires : tie.Need-is-malformed-requires
 is-malformed-requires c κs = search needs
@@ -31,9 +28,9 @@ decide-requires : tie.Need-decide-requires
 decide-requires c κs = search needs
 
 returns : tie.Need-returns
-unfolding commandVerdict isInvalid isUnready isDenied isUnsupported isBusy isAbsent losesErrors changeOf decided namesVcpu switchesAt vcpuOf enables enableAt firstPadding padding canSinglestep
+unfolding commandVerdictBy invalidBy isUnready isDenied isUnsupported isBusy isAbsent losesErrors changeOf decided namesVcpu switchesAt vcpuOf enables enableAt firstPadding paddingRuns canSinglestep
 returns c =
-    c .decide .ensures ∙ rw (c .before .before .new .ensures, ← c .before .before .before .before .before .before .byte .ensures, ← c .before .before .before .before .before .before .before .load16 .ensures, ← c .before .before .before .before .before .of-vcpu-switch .ensures, and-true, ← c .before .before .before .before .is-malformed .ensures, ← c .before .is-set .ensures) (simp or-false)
+    c .decide .ensures ∙ rw (c .before .before .new .ensures, ← c .before .before .before .before .before .byte .ensures, ← c .before .before .before .before .before .before .load16 .ensures, and-true, ← c .before .before .before .before .is-malformed .ensures, ← c .before .is-set .ensures) (simp or-false)
 
 pub control-singlestep-spec : {M : Type 1} → statement M
 control-singlestep-spec =
@@ -41,7 +38,6 @@ control-singlestep-spec =
     (tie.spec
     load16-requires
     byte-requires
-    of-vcpu-switch-requires
     is-malformed-requires
     new-requires
     is-set-requires

@@ -2,18 +2,15 @@
 use mathlib.Core.Path.{_∙_}
 use mathlib.Core.Bool.{or-false, and-true}
 use borrow.Author.Needs.{needs}
-use Rattle.kvmi.specs.Message.{namesVcpu, switchesAt, eventOf, takesEvent, firstPadding, padding}
+use Rattle.kvmi.specs.Message.{namesVcpu, switchesAt, eventOf, takesEvent, firstPadding, paddingRuns}
 use Rattle.kvmi.specs.Settings.{allowsEvent}
-use Rattle.kvmi.specs.Verdict.{isInvalid, isUnready, isDenied, isUnsupported, isBusy, isAbsent, losesErrors, changeOf, commandVerdict}
+use Rattle.kvmi.specs.Verdict.{invalidBy, isUnready, isDenied, isUnsupported, isBusy, isAbsent, losesErrors, changeOf, commandVerdictBy}
 use Rattle.causes.specs.Causes.{decided}
 use Rattle.vm_commands.proofs.check_event.Statement.{statement}
 use Rattle.vm_commands.proofs.check_event.Tie as tie
 
 load16-requires : tie.Need-load16-requires
 load16-requires c κs = search needs
-
-of-number-requires : tie.Need-of-number-requires
-of-number-requires c κs = search needs
 
 is-event-requires : tie.Need-is-event-requires
 is-event-requires c κs = search needs
@@ -28,16 +25,15 @@ decide-requires : tie.Need-decide-requires
 decide-requires c κs = search needs
 
 returns : tie.Need-returns
-unfolding commandVerdict isInvalid isUnready isDenied isUnsupported isBusy isAbsent losesErrors changeOf decided namesVcpu switchesAt eventOf takesEvent firstPadding padding allowsEvent
+unfolding commandVerdictBy invalidBy isUnready isDenied isUnsupported isBusy isAbsent losesErrors changeOf decided namesVcpu switchesAt eventOf takesEvent firstPadding paddingRuns allowsEvent
 returns c =
-    c .decide .ensures ∙ rw (c .before .before .new .ensures, ← c .before .before .before .before .before .load16 .ensures, ← c .before .before .before .before .of-number .ensures, ← c .before .before .before .is-event .ensures, ← c .before .allows-event .ensures) (simp (or-false, and-true))
+    c .decide .ensures ∙ rw (c .before .before .new .ensures, ← c .before .before .before .before .load16 .ensures, ← c .before .before .before .is-event .ensures, ← c .before .allows-event .ensures) (simp (or-false, and-true))
 
 pub check-event-spec : {M : Type 1} → statement M
 check-event-spec =
     tie.close
     (tie.spec
     load16-requires
-    of-number-requires
     is-event-requires
     new-requires
     allows-event-requires

@@ -2,9 +2,9 @@
 use mathlib.Core.Path.{_∙_}
 use mathlib.Core.Bool.{or-false, and-true}
 use borrow.Author.Needs.{needs}
-use Rattle.kvmi.specs.Message.{namesVcpu, switchesAt, enables, enableAt, firstPadding, padding}
+use Rattle.kvmi.specs.Message.{namesVcpu, switchesAt, enables, enableAt, firstPadding, paddingRuns}
 use Rattle.kvmi.specs.Settings.{allowsEvent}
-use Rattle.kvmi.specs.Verdict.{isInvalid, isUnready, isDenied, isUnsupported, isBusy, isAbsent, losesErrors, changeOf, commandVerdict}
+use Rattle.kvmi.specs.Verdict.{invalidBy, isUnready, isDenied, isUnsupported, isBusy, isAbsent, losesErrors, changeOf, commandVerdictBy}
 use Rattle.causes.specs.Causes.{decided}
 use Rattle.vm_commands.proofs.control_replies.Statement.{statement}
 use Rattle.vm_commands.proofs.control_replies.Tie as tie
@@ -27,9 +27,6 @@ is-switch-requires-2 c κs = search needs
 is-switch-requires-3 : tie.Need-is-switch-requires-3
 is-switch-requires-3 c κs = search needs
 
-of-switch-requires : tie.Need-of-switch-requires
-of-switch-requires c κs = search needs
-
 new-requires : tie.Need-new-requires
 new-requires c κs = search needs
 
@@ -43,9 +40,9 @@ decide-requires : tie.Need-decide-requires
 decide-requires c κs = search needs
 
 returns : tie.Need-returns
-unfolding commandVerdict isInvalid isUnready isDenied isUnsupported isBusy isAbsent losesErrors changeOf decided namesVcpu switchesAt enables enableAt firstPadding padding allowsEvent
+unfolding commandVerdictBy invalidBy isUnready isDenied isUnsupported isBusy isAbsent losesErrors changeOf decided namesVcpu switchesAt enables enableAt firstPadding paddingRuns allowsEvent
 returns c =
-    c .decide .ensures ∙ rw (c .before .before .before .new .ensures, ← c .before .before .before .before .before .before .before .before .before .before .byte .ensures, ← c .before .before .before .before .before .before .before .before .before .byte2 .ensures, ← c .before .before .before .before .before .before .before .before .byte3 .ensures, ← c .before .before .before .before .of-switch .ensures, ← c .before .before .before .before .before .before .before .is-switch .ensures, ← c .before .before .before .before .before .before .is-switch2 .ensures, ← c .before .before .before .before .before .is-switch3 .ensures, ← c .before .before .allows-event .ensures, ← c .before .mode-from .ensures) (simp (or-false, and-true))
+    c .decide .ensures ∙ rw (c .before .before .before .new .ensures, ← c .before .before .before .before .before .before .before .before .before .byte .ensures, ← c .before .before .before .before .before .before .before .before .byte2 .ensures, ← c .before .before .before .before .before .before .before .byte3 .ensures, ← c .before .before .before .before .before .before .is-switch .ensures, ← c .before .before .before .before .before .is-switch2 .ensures, ← c .before .before .before .before .is-switch3 .ensures, ← c .before .before .allows-event .ensures, ← c .before .mode-from .ensures) (simp (or-false, and-true))
 
 pub control-replies-spec : {M : Type 1} → statement M
 control-replies-spec =
@@ -57,7 +54,6 @@ control-replies-spec =
     is-switch-requires
     is-switch-requires-2
     is-switch-requires-3
-    of-switch-requires
     new-requires
     allows-event-requires
     mode-from-requires

@@ -4,7 +4,7 @@ use mathlib.Core.Bool.{or-false, and-true}
 use borrow.Author.Needs.{needs}
 use Rattle.kvmi.specs.Message.{namesVcpu, switchesAt, eventOf, takesEvent, enables, enableAt}
 use Rattle.kvmi.specs.Settings.{allowsEvent}
-use Rattle.kvmi.specs.Verdict.{isInvalid, isUnready, isDenied, isUnsupported, isBusy, isAbsent, losesErrors, changeOf, commandVerdict}
+use Rattle.kvmi.specs.Verdict.{invalidBy, isUnready, isDenied, isUnsupported, isBusy, isAbsent, losesErrors, changeOf, commandVerdictBy}
 use Rattle.causes.specs.Causes.{decided}
 use Rattle.vm_commands.proofs.control_vm_events.Statement.{statement}
 use Rattle.vm_commands.proofs.control_vm_events.Tie as tie
@@ -14,9 +14,6 @@ load16-requires c κs = search needs
 
 byte-requires : tie.Need-byte-requires
 byte-requires c κs = search needs
-
-of-switch-requires : tie.Need-of-switch-requires
-of-switch-requires c κs = search needs
 
 is-switch-requires : tie.Need-is-switch-requires
 is-switch-requires c κs = search needs
@@ -34,9 +31,9 @@ decide-requires : tie.Need-decide-requires
 decide-requires c κs = search needs
 
 returns : tie.Need-returns
-unfolding commandVerdict isInvalid isUnready isDenied isUnsupported isBusy isAbsent losesErrors changeOf decided namesVcpu switchesAt eventOf takesEvent enables enableAt allowsEvent
+unfolding commandVerdictBy invalidBy isUnready isDenied isUnsupported isBusy isAbsent losesErrors changeOf decided namesVcpu switchesAt eventOf takesEvent enables enableAt allowsEvent
 returns c =
-    c .decide .ensures ∙ rw (c .before .before .new .ensures, ← c .before .before .before .before .before .before .before .load16 .ensures, ← c .before .before .before .before .before .before .byte .ensures, ← c .before .before .before .before .before .of-switch .ensures, ← c .before .before .before .before .is-switch .ensures, ← c .before .before .before .is-vm-event .ensures, ← c .before .allows-event .ensures) (simp (or-false, and-true))
+    c .decide .ensures ∙ rw (c .before .before .new .ensures, ← c .before .before .before .before .before .before .load16 .ensures, ← c .before .before .before .before .before .byte .ensures, ← c .before .before .before .before .is-switch .ensures, ← c .before .before .before .is-vm-event .ensures, ← c .before .allows-event .ensures) (simp (or-false, and-true))
 
 pub control-vm-events-spec : {M : Type 1} → statement M
 control-vm-events-spec =
@@ -44,7 +41,6 @@ control-vm-events-spec =
     (tie.spec
     load16-requires
     byte-requires
-    of-switch-requires
     is-switch-requires
     is-vm-event-requires
     new-requires

@@ -3,7 +3,7 @@ use mathlib.Core.Path.{_∙_}
 use mathlib.Core.Bool.{or-false}
 use borrow.Author.Needs.{needs}
 use Rattle.kvmi.specs.Message.{namesVcpu, switchesAt, viewOf, countOf}
-use Rattle.kvmi.specs.Verdict.{isInvalid, isUnready, isDenied, isUnsupported, isBusy, isAbsent, losesErrors, changeOf, commandVerdict}
+use Rattle.kvmi.specs.Verdict.{invalidBy, isUnready, isDenied, isUnsupported, isBusy, isAbsent, losesErrors, changeOf, commandVerdictBy}
 use Rattle.causes.specs.Causes.{decided}
 use Rattle.vm_commands.proofs.set_page_access.Statement.{statement}
 use Rattle.vm_commands.proofs.set_page_access.Tie as tie
@@ -13,9 +13,6 @@ load16-requires c κs = search needs
 
 load16-requires-2 : tie.Need-load16-requires-2
 load16-requires-2 c κs = search needs
-
-of-pages-requires : tie.Need-of-pages-requires
-of-pages-requires c κs = search needs
 
 cast-malformed : tie.Need-cast-malformed
 cast-malformed c = search needs
@@ -30,9 +27,9 @@ decide-requires : tie.Need-decide-requires
 decide-requires c κs = search needs
 
 returns : tie.Need-returns
-unfolding commandVerdict isInvalid isUnready isDenied isUnsupported isBusy isAbsent losesErrors changeOf decided namesVcpu switchesAt viewOf countOf
+unfolding commandVerdictBy invalidBy isUnready isDenied isUnsupported isBusy isAbsent losesErrors changeOf decided namesVcpu switchesAt viewOf countOf
 returns c =
-    c .decide .ensures ∙ rw (c .before .new .ensures, ← c .before .before .entries-fit .ensures, ← c .before .before .before .before .of-pages .ensures, ← c .before .before .before .before .before .before .load16 .ensures, ← c .before .before .before .before .before .load162 .ensures) (simp or-false)
+    c .decide .ensures ∙ rw (c .before .new .ensures, ← c .before .before .entries-fit .ensures, ← c .before .before .before .before .before .load16 .ensures, ← c .before .before .before .before .load162 .ensures) (simp or-false)
 
 pub set-page-access-spec : {M : Type 1} → statement M
 set-page-access-spec =
@@ -40,7 +37,6 @@ set-page-access-spec =
     (tie.spec
     load16-requires
     load16-requires-2
-    of-pages-requires
     cast-malformed
     entries-fit-requires
     new-requires
