@@ -67,11 +67,11 @@ signalFeed (Resume vcpu action value feed) = shownFeed feed
 abbrev pub resultWordCount : ℕ
 resultWordCount = 12
 
--- an answer's values, as struct semblurick_result has them; two words are not used and 0
+-- an answer's values, as struct semblurick_result has them; W6's padding byte is the last but one, and the last word is not used and 0
 abbrev pub resultWords : Paper → List ℕ
 resultWords p =
     p .count ∷ p .offset ∷ signalNumber (p .signal) ∷ signalVcpu (p .signal) ∷ signalWaits (p .signal) ∷ signalAction (p .signal) ∷ signalValue (p .signal)
-    ∷ signalFeed (p .signal) .source ∷ signalFeed (p .signal) .at ∷ signalFeed (p .signal) .length ∷ 0 ∷ 0 ∷ []
+    ∷ signalFeed (p .signal) .source ∷ signalFeed (p .signal) .at ∷ signalFeed (p .signal) .length ∷ p .padding ∷ 0 ∷ []
 
 pub record Given : Type 0 where
   pub done : Returned

@@ -17,7 +17,7 @@ ghost use Rattle.message.specs.Moves.{messageMove, sessionAfter};
 ghost use Rattle.vcpu_list.specs.List.{one, oneReady, oneCr};
 ghost use Rattle.calls.specs.Given.{resultWords, given, freshGiven, readyGiven, messageGiven, enterGiven, sizeGiven, writeGiven, readGiven, oneGiven};
 
-// How many words are lent for an answer's values: its ten, and two that are 0.
+// How many words are lent for an answer's values: its eleven, and one that is 0.
 pub const RESULT_WORDS: usize = 12;
 
 pub type ResultWords = [u64; RESULT_WORDS];
@@ -46,6 +46,7 @@ fn put_result(result: &mut ResultWords, a: Answer) -> u32
         Answer::Handled(values) => {
             let signal = values.signal;
             result[0] = values.count as u64;
+            result[10] = values.padding as u64;
             match signal {
                 Signal::Quiet => {}
                 Signal::Kick { vcpu, wait } => {

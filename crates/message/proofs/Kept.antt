@@ -26,7 +26,8 @@ judged-moves st id seq d out guest (Does c) = moves (kept (change-keeps st guest
 headed-moves : (st : State) (d out guest : List ℕ) (h : Header) → Moves (λ s. withSettings s (st .session .settings)) (headedOf st d out guest h)
 unfolding headedOf
 headed-moves st d out guest Broken = moves refl
-headed-moves st d out guest (Whole id size seq) = judged-moves st id seq d out guest (verdict (st .session .settings) (factsIn st (length guest) (vcpuOf d)) id seq d)
+headed-moves st d out guest (Whole id size seq) =
+    moves (judged-moves st id seq d out guest (verdict (st .session .settings) (factsIn st (length guest) (vcpuOf d)) id seq d) .session)
 
 pub message-moves : (st : State) (msg out guest : List ℕ) → Moves (λ s. withSettings s (st .session .settings)) (messageOf st msg out guest)
 unfolding messageOf

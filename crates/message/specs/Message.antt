@@ -19,7 +19,8 @@ use Rattle.kvmi.specs.Codes.{OK}
 use Rattle.kvmi.specs.Limits.{leastOut}
 use Rattle.kvmi.specs.Mode.{modeOfNumber}
 use Rattle.kvmi.specs.Message.{layoutOf, vcpuOf}
-use Rattle.kvmi.specs.Verdict.{verdict}
+use Rattle.kvmi.specs.Answer.{withPadding}
+use Rattle.kvmi.specs.Verdict.{verdict, reportedPadding}
 use Rattle.kvmi.specs.Change.{signalOf, modeFor}
 use Rattle.kvmi.specs.Reply.{replyData, answerBytes, answerOf, answerSeq}
 use Rattle.store.specs.Words.{field, PAUSES, AWAITED, AWAITED-SEQ, FAULT-GVA, FAULT-GPA, FAULT-ACCESS}
@@ -65,10 +66,17 @@ judgedOf st id seq d out guest (Does c) =
     answeringOf (modeFor (modeOfNumber (st .session .tool .mode)) c) id seq (change st guest d c .code) d (signalOf c) out (change st guest d c .guest)
     (change st guest d c .state)
 
+-- W6: which padding byte is reported, and what is told with it
+abbrev pub reportedOf : State → ℕ → List ℕ → ℕ
+reportedOf st id d = reportedPadding (st .session .settings) (modeOfNumber (st .session .tool .mode)) id d
+
+abbrev pub reportingOf : ℕ → Told → Told
+reportingOf padding r = record { answer = withPadding padding (r .answer); state = r .state; out = r .out; guest = r .guest }
+
 unfoldable pub headedOf : State → List ℕ → List ℕ → List ℕ → Header → Told
 headedOf st d out guest Broken = toldClosing st out guest
 headedOf st d out guest (Whole id size seq) =
-    judgedOf st id seq d out guest (verdict (st .session .settings) (factsIn st (length guest) (vcpuOf d)) id seq d)
+    reportingOf (reportedOf st id d) (judgedOf st id seq d out guest (verdict (st .session .settings) (factsIn st (length guest) (vcpuOf d)) id seq d))
 
 unfoldable pub messageOf : State → List ℕ → List ℕ → List ℕ → Told
 messageOf st msg out guest =
@@ -81,13 +89,15 @@ messageOf st msg out guest =
 abbrev pub askedOf : Session → ReplyMode → ℕ → Asked
 askedOf s mode guest = record { settings = s .settings; mode = mode; guest = guest; ready = s .shared .ready }
 
--- a command that fails is answered by its code
-abbrev pub failedOf : State → ℕ → ℕ → ℤ → List ℕ → List ℕ → Told
-failedOf st id seq code out guest =
-    toldWritten (answerBytes (modeOfNumber (st .session .tool .mode)) (st .session .tool .seq) id seq code []) Quiet
+-- a command that fails is answered by its code, and by its padding byte that is reported
+abbrev pub failedOf : State → ℕ → ℕ → ℤ → ℕ → List ℕ → List ℕ → Told
+failedOf st id seq code padding out guest =
+    reportingOf padding
+    (toldWritten (answerBytes (modeOfNumber (st .session .tool .mode)) (st .session .tool .seq) id seq code []) Quiet
     (withSeqOf st (answerSeq (modeOfNumber (st .session .tool .mode)) (st .session .tool .seq) code))
     out
-    guest
+    guest)
 
 unfoldable pub handledOf : State → ℕ → ℕ → List ℕ → List ℕ → List ℕ → Told
-handledOf st id seq d out guest = judgedOf st id seq d out guest (verdict (st .session .settings) (factsIn st (length guest) (vcpuOf d)) id seq d)
+handledOf st id seq d out guest =
+    reportingOf (reportedOf st id d) (judgedOf st id seq d out guest (verdict (st .session .settings) (factsIn st (length guest) (vcpuOf d)) id seq d))

@@ -80,14 +80,14 @@ fn and_seq(moved: u32, took: bool) -> u32
     if took { moved + SEQ } else { moved }
 }
 
-// A command that fails is answered by its code, and changes nothing.
-fn fail(s: Session, out: &mut [u8], id: u16, seq: u32, code: i32) -> Received
+// A command that fails is answered by its code, and changes nothing; its answer says which padding byte was not zero, if one was.
+fn fail(s: Session, out: &mut [u8], id: u16, seq: u32, code: i32, padding: usize) -> Received
     ensures { λ r. ⌜ moveOf r ≡ move (andSeq 0 (tells (modeOfNumber (s .tool .mode)) code)) 0 ⌝ }
-    ensures { λ r. ⌜ ((v p guest : List ℕ) → told (doneBy s r) v p (now (out .exit)) guest ≡ failedOf (state s v p) id seq code (now (out .entry)) guest) ⌝ }
+    ensures { λ r. ⌜ ((v p guest : List ℕ) → told (doneBy s r) v p (now (out .exit)) guest ≡ failedOf (state s v p) id seq code padding (now (out .entry)) guest) ⌝ }
 {
     let a = reply::answer_code(out, s.tool.mode, s.tool.seq, id, seq, code);
     Received {
-        answer: kvmi::answers::wrote(a.count),
+        answer: kvmi::answers::failed(a.count, padding),
         moved: and_seq(0, a.took_seq),
         value: 0,
     }
@@ -116,10 +116,11 @@ fn handle(
         guest: guest.len(),
         ready: s.shared.ready,
     };
-    let v = verdict::judge(asked, vcpus, id, seq, d);
+    let judged = verdict::judge(asked, vcpus, id, seq, d);
+    let v = judged.verdict;
     let e = match v {
         Verdict::Closes => return close(vcpus, pages),
-        Verdict::Fails(code) => return fail(s, out, id, seq, code),
+        Verdict::Fails(code) => return fail(s, out, id, seq, code, judged.padding),
         Verdict::Does(c) => change::apply(s, vcpus, pages, guest, d, c),
     };
     let kind = e.kind;

@@ -11,59 +11,62 @@ enum-known-a c = search needs
 element-write-result : tie.Need-element-write-result
 element-write-result c = search needs
 
+element-write-result-2 : tie.Need-element-write-result-2
+element-write-result-2 c = search needs
+
 enum-told : tie.Need-enum-told
 enum-told c = search needs
 
 enum-known-signal : tie.Need-enum-known-signal
 enum-known-signal c = search needs
 
-element-write-result-2 : tie.Need-element-write-result-2
-element-write-result-2 c = search needs
+element-write-result-3 : tie.Need-element-write-result-3
+element-write-result-3 c = search needs
 
 cast-result : tie.Need-cast-result
 cast-result c = search needs
 
-element-write-result-3 : tie.Need-element-write-result-3
-element-write-result-3 c = search needs
+element-write-result-4 : tie.Need-element-write-result-4
+element-write-result-4 c = search needs
 
 cast-result-2 : tie.Need-cast-result-2
 cast-result-2 c = search needs
 
-element-write-result-4 : tie.Need-element-write-result-4
-element-write-result-4 c = search needs
+element-write-result-5 : tie.Need-element-write-result-5
+element-write-result-5 c = search needs
 
 enum-known-signal-2 : tie.Need-enum-known-signal-2
 enum-known-signal-2 c = search needs
 
-element-write-result-5 : tie.Need-element-write-result-5
-element-write-result-5 c = search needs
+element-write-result-6 : tie.Need-element-write-result-6
+element-write-result-6 c = search needs
 
 cast-result-3 : tie.Need-cast-result-3
 cast-result-3 c = search needs
 
-element-write-result-6 : tie.Need-element-write-result-6
-element-write-result-6 c = search needs
+element-write-result-7 : tie.Need-element-write-result-7
+element-write-result-7 c = search needs
 
 enum-known-signal-3 : tie.Need-enum-known-signal-3
 enum-known-signal-3 c = search needs
 
-element-write-result-7 : tie.Need-element-write-result-7
-element-write-result-7 c = search needs
+element-write-result-8 : tie.Need-element-write-result-8
+element-write-result-8 c = search needs
 
 cast-result-4 : tie.Need-cast-result-4
 cast-result-4 c = search needs
 
-element-write-result-8 : tie.Need-element-write-result-8
-element-write-result-8 c = search needs
+element-write-result-9 : tie.Need-element-write-result-9
+element-write-result-9 c = search needs
 
 cast-result-5 : tie.Need-cast-result-5
 cast-result-5 c = search needs
 
-element-write-result-9 : tie.Need-element-write-result-9
-element-write-result-9 c = search needs
-
 element-write-result-10 : tie.Need-element-write-result-10
 element-write-result-10 c = search needs
+
+element-write-result-11 : tie.Need-element-write-result-11
+element-write-result-11 c = search needs
 
 returns : tie.Need-returns
 returns c = rw (c .before .before .before .before .before .before .a .given .1, c .before .before .before .signal3 .given .1, eq-eqb _ _ (c .if1 .taken)) (refl, refl)
@@ -71,17 +74,17 @@ returns c = rw (c .before .before .before .before .before .before .a .given .1, 
 cast-result-6 : tie.Need-cast-result-6
 cast-result-6 c = search needs
 
-element-write-result-11 : tie.Need-element-write-result-11
-element-write-result-11 c = search needs
-
 element-write-result-12 : tie.Need-element-write-result-12
 element-write-result-12 c = search needs
+
+element-write-result-13 : tie.Need-element-write-result-13
+element-write-result-13 c = search needs
 
 cast-result-7 : tie.Need-cast-result-7
 cast-result-7 c = search needs
 
-element-write-result-13 : tie.Need-element-write-result-13
-element-write-result-13 c = search needs
+element-write-result-14 : tie.Need-element-write-result-14
+element-write-result-14 c = search needs
 
 enum-told-2 : tie.Need-enum-told-2
 enum-told-2 c = search needs
@@ -107,14 +110,14 @@ enum-told-8 c = search needs
 enum-known-a-2 : tie.Need-enum-known-a-2
 enum-known-a-2 c = search needs
 
-element-write-result-14 : tie.Need-element-write-result-14
-element-write-result-14 c = search needs
+element-write-result-15 : tie.Need-element-write-result-15
+element-write-result-15 c = search needs
 
 enum-known-a-3 : tie.Need-enum-known-a-3
 enum-known-a-3 c = search needs
 
-element-write-result-15 : tie.Need-element-write-result-15
-element-write-result-15 c = search needs
+element-write-result-16 : tie.Need-element-write-result-16
+element-write-result-16 c = search needs
 
 enum-told-9 : tie.Need-enum-told-9
 enum-told-9 c = search needs
@@ -173,30 +176,31 @@ put-result-spec =
     (tie.spec
     enum-known-a
     element-write-result
+    element-write-result-2
     enum-told
     enum-known-signal
-    element-write-result-2
-    cast-result
     element-write-result-3
-    cast-result-2
+    cast-result
     element-write-result-4
-    enum-known-signal-2
+    cast-result-2
     element-write-result-5
-    cast-result-3
+    enum-known-signal-2
     element-write-result-6
-    enum-known-signal-3
+    cast-result-3
     element-write-result-7
-    cast-result-4
+    enum-known-signal-3
     element-write-result-8
-    cast-result-5
+    cast-result-4
     element-write-result-9
+    cast-result-5
     element-write-result-10
+    element-write-result-11
     returns
     cast-result-6
-    element-write-result-11
     element-write-result-12
-    cast-result-7
     element-write-result-13
+    cast-result-7
+    element-write-result-14
     enum-told-2
     enum-told-3
     enum-told-4
@@ -205,9 +209,9 @@ put-result-spec =
     enum-told-7
     enum-told-8
     enum-known-a-2
-    element-write-result-14
-    enum-known-a-3
     element-write-result-15
+    enum-known-a-3
+    element-write-result-16
     enum-told-9
     enum-told-10
     returns-2

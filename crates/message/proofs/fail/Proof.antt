@@ -11,8 +11,8 @@ use Rattle.message.proofs.fail.Tie as tie
 answer-code-requires : tie.Need-answer-code-requires
 answer-code-requires c κs = search needs
 
-wrote-requires : tie.Need-wrote-requires
-wrote-requires c κs = search needs
+failed-requires : tie.Need-failed-requires
+failed-requires c κs = search needs
 
 and-seq-requires : tie.Need-and-seq-requires
 and-seq-requires c κs = search needs
@@ -24,9 +24,9 @@ returns : tie.Need-returns
 returns c =
     let w = rw (toZ-ofZ (c .before .before .before .before .before .before .before .fits .code)) at (c .before .before .before .before .answer-code .ensures) in (
       ap (λ (n : ℕ). move n 0) (c .and-seq .ensures ∙ ap (andSeq 0) (w .took)),
-      λ v p guest. failed-as (c .before .before .before .before .before .before .before .args .s) (c .before .before .before .before .answer-code .result) v p _ _ guest _ _ _ (record { answer = c .before .wrote .result; moved = c .and-seq .result; value = 0 }) w (c .and-seq .ensures) (c .before .wrote .ensures),
+      λ v p guest. failed-as (c .before .before .before .before .before .before .before .args .s) (c .before .before .before .before .answer-code .result) v p _ _ guest _ _ _ _ (record { answer = c .before .failed .result; moved = c .and-seq .result; value = 0 }) w (c .and-seq .ensures) (c .before .failed .ensures),
     )
 
 pub fail-spec : {M : Type 1} → statement M
 fail-spec =
-    tie.close (tie.spec answer-code-requires wrote-requires and-seq-requires same-length returns)
+    tie.close (tie.spec answer-code-requires failed-requires and-seq-requires same-length returns)
