@@ -15,21 +15,23 @@ use Rattle.wire.proofs.Laws.{num-le}
 use Rattle.kvmi.specs.declared.Settings.{Settings}
 use Rattle.kvmi.specs.declared.Facts.{Facts}
 use Rattle.kvmi.specs.declared.Change.the-variants.{SetCr}
+use Rattle.kvmi.specs.declared.ReplyMode.{ReplyMode}
 use Rattle.kvmi.specs.declared.Verdict.{Verdict}
-use Rattle.kvmi.specs.declared.Verdict.the-variants.{Fails, Does}
+use Rattle.kvmi.specs.declared.Verdict.the-variants.{Closes, Fails, Does}
 use Rattle.kvmi.specs.Bits.{bit, isOn, putBit, every}
 use Rattle.kvmi.specs.Codes.{EAGAIN, EINVAL}
 use Rattle.kvmi.specs.Settings.{inRange, allowsCommand}
 use Rattle.kvmi.specs.Tables.{isCr, crBit}
-use Rattle.kvmi.specs.Message.{layoutOf, sizeFits, namesVcpu, vcpuOf, enableAt, enables, switchesAt, registerOf, padding, firstNonZero, firstOfRuns, firstPadding}
-use Rattle.kvmi.specs.Verdict.{isInvalid, isUnready, isDenied, isUnsupported, isBusy, isAbsent, changeOf, losesErrors, commandVerdict, verdict}
+use Rattle.kvmi.specs.Message.{layoutOf, sizeFits, namesVcpu, vcpuOf, enableAt, enables, switchesAt, registerOf, paddingRuns, firstNonZero, firstOfRuns, firstPadding}
+use Rattle.kvmi.specs.Mode.{modeOfNumber}
+use Rattle.kvmi.specs.Verdict.{invalidBy, isUnready, isDenied, isUnsupported, isBusy, isAbsent, changeOf, losesErrors, commandVerdictBy, commandVerdict, verdict, reachesTest6, reportedPadding}
 use Rattle.kvmi.specs.Reply.{messageBytes}
 use Rattle.kvmi.specs.Case.{registerData}
 use Rattle.store.specs.Words.{field, setField, putBit64, CRS, vcpuWordCount}
 use Rattle.session.specs.State.{State, isClosed}
 use Rattle.session.specs.Calls.{Told, readyOf}
 use Rattle.change.specs.Change.{change}
-use Rattle.message.specs.Message.{factsIn, answeringOf, judgedOf, headedOf, messageOf}
+use Rattle.message.specs.Message.{factsIn, answeringOf, reportingOf, judgedOf, headedOf, messageOf}
 use Rattle.laws.proofs.Bool.{test}
 use Rattle.laws.proofs.Bits.{bit-eqb}
 use Rattle.refine.proofs.Words.{few-vcpus}
@@ -94,7 +96,7 @@ module _ (vcpu cr : ℕ) (on : Bool) (v : vcpu < 2 ^ 16) (c : cr < 2 ^ 32) where
   on-there = bit-eqb on
 
   clean : firstPadding 11 d ≡ 0
-  unfolding firstPadding padding firstOfRuns firstNonZero le
+  unfolding firstPadding paddingRuns firstOfRuns firstNonZero le
   clean = refl
 
   flags : every (λ at. leb (getD d at 0) 1) (switchesAt 11) ≡ true
@@ -110,7 +112,7 @@ module _ (vcpu cr : ℕ) (on : Bool) (v : vcpu < 2 ^ 16) (c : cr < 2 ^ 32) where
   whole = refl
 
   cr-verdict : (s : Settings) (f : Facts) (seq : ℕ) → allowsCommand s 11 ≡ true → verdict s f 11 seq d ≡ judgedBy (s .vcpus) vcpu cr on (f .ready)
-  unfolding verdict layoutOf commandVerdict isInvalid isUnready isDenied isUnsupported isBusy isAbsent losesErrors changeOf namesVcpu
+  unfolding verdict layoutOf commandVerdict commandVerdictBy invalidBy isUnready isDenied isUnsupported isBusy isAbsent losesErrors changeOf namesVcpu
   cr-verdict s f seq a = rw (a, and-no, whole, clean, flags, vcpu-there, cr-there, on-there) (settled (leb (s .vcpus) vcpu) (not (isCr cr)) (f .ready))
     where
       settled : (a b r : Bool)
@@ -120,6 +122,11 @@ module _ (vcpu cr : ℕ) (on : Bool) (v : vcpu < 2 ^ 16) (c : cr < 2 ^ 32) where
       settled false true r = refl
       settled false false true = refl
       settled false false false = refl
+
+  -- its padding is fine, so that none is reported
+  none-reported : (s : Settings) (mode : ReplyMode) → reportedPadding s mode 11 d ≡ 0
+  unfolding reportedPadding
+  none-reported s mode = rw clean (test (reachesTest6 s mode 11 d) (λ e. rw e) (λ e. rw e))
 
   cr-header : (seq : ℕ) → seq < 2 ^ 32 → headerOf (crMessage seq vcpu cr on) ≡ Whole 11 16 seq
   unfolding headerOf isWhole crMessage messageBytes load le num
@@ -182,6 +189,13 @@ module _ (st : State) (ok : So (inRange (st .session .settings))) (words : lengt
     agreed : Agreed d out guest seq (judgedBy size vcpu cr on isReady)
     agreed = test (ltb vcpu size) (λ t. there (ltb-true vcpu size t) (isCr cr) isReady refl refl) (λ t. past (ltb-false vcpu size t))
 
+-- where none is reported, a message is told as it is judged
+unreported : (st : State) (id seq : ℕ) (d out guest : List ℕ) (v : Verdict) → reportingOf 0 (judgedOf st id seq d out guest v) ≡ judgedOf st id seq d out guest v
+unfolding judgedOf answeringOf
+unreported st id seq d out guest Closes = refl
+unreported st id seq d out guest (Fails code) = refl
+unreported st id seq d out guest (Does c) = refl
+
 -- an open session with settings in range, that allows command 11, and an output that a message can have
 module _ (st : State) (ok : So (inRange (st .session .settings))) (words : length (st .vcpus) ≡ vcpuWordCount) (lives : isClosed st ≡ false)
     (allowed : allowsCommand (st .session .settings) 11 ≡ true) (seq vcpu cr : ℕ) (on : Bool) (s : seq < 2 ^ 32) (v : vcpu < 2 ^ 16) (c : cr < 2 ^ 32)
@@ -197,7 +211,9 @@ module _ (st : State) (ok : So (inRange (st .session .settings))) (words : lengt
         cr-data vcpu cr on v c seq,
         vcpu-there vcpu cr on v c,
         cr-verdict vcpu cr on v c (st .session .settings) (factsIn st (length guest) vcpu) seq allowed,
+        none-reported vcpu cr on v c (st .session .settings) (modeOfNumber (st .session .tool .mode)),
       )
+      (unreported st 11 seq (registerData vcpu cr (bit on)) out guest _)
 
   pub cr-agrees : CrAgrees st seq vcpu cr on out guest
   cr-agrees =

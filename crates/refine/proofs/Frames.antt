@@ -36,7 +36,7 @@ use Rattle.store.specs.Words.{field, PAUSES, AWAITED}
 use Rattle.session.specs.State.{State, isClosed}
 use Rattle.session.specs.Calls.{Told, toldSame, toldWritten, toldClosing, readyOf}
 use Rattle.change.specs.Change.{change}
-use Rattle.message.specs.Message.{factsIn, answeringOf, judgedOf, headedOf, messageOf}
+use Rattle.message.specs.Message.{factsIn, answeringOf, judgedOf, reportingOf, headedOf, messageOf}
 use Rattle.entry.specs.Entry.{isAskedForOf, Sent, sendingOf, pausingOf, dequeuingOf, sentOf, enteredOf, enterOf}
 use Rattle.laws.proofs.Bool.{and-l, and-r, test}
 use Rattle.laws.proofs.Verdicts.{pick, Passed, ending, verdict-cases, sound-of}
@@ -120,6 +120,10 @@ pub written-past : (bytes : List ℕ) (g : Signal) (st : State) (out guest : Lis
 written-past bytes g st out guest h =
     record { inside = h; long = length-store out 0 bytes; rest = drop-store (length bytes) out 0 bytes (omega arith) }
 
+-- what is reported of padding stands in none of these
+reporting-past : (padding : ℕ) (out : List ℕ) (r : Told) → Past out r → Past out (reportingOf padding r)
+reporting-past padding out r h = record { inside = h .inside; long = h .long; rest = h .rest }
+
 module _ (st : State) (d out guest : List ℕ) (long : 4112 ≤ length out) where
   does-past : (id seq : ℕ) (c : Change) → (inOnePage (gpaOf d) (sizeOf d) ≡ true) ⊎ (id ≡ 6 → ⊥) → Past out (judgedOf st id seq d out guest (Does c))
   unfolding judgedOf answeringOf
@@ -144,9 +148,10 @@ module _ (st : State) (d out guest : List ℕ) (long : 4112 ≤ length out) wher
   headed-past Broken = closes-past
   headed-past (Whole id size seq) =
       let f = factsIn st (length guest) (vcpuOf d) in
-      verdict-cases (λ v. Past out (judgedOf st id seq d out guest v)) (st .session .settings) f id seq d closes-past (λ code e. fails-past id seq code e)
+      reporting-past _ out _
+      (verdict-cases (λ v. Past out (judgedOf st id seq d out guest v)) (st .session .settings) f id seq d closes-past (λ code e. fails-past id seq code e)
       (λ p. does-past id seq (changeOf id d) (data-fits (st .session .settings) f id d p))
-      (λ p. let e = p .reply in does-past id seq (ending f d) (inr (λ q. omega arith)))
+      (λ p. let e = p .reply in does-past id seq (ending f d) (inr (λ q. omega arith))))
 
 pub message-past : (st : State) (msg out guest : List ℕ) → Past out (messageOf st msg out guest)
 unfolding messageOf

@@ -24,7 +24,7 @@ use Rattle.kvmi.specs.declared.Change.{Change}
 use Rattle.kvmi.specs.declared.Change.the-variants.{SetVmEvent, QueuePause, SetVcpuEvent, SetCr, SetMsr, SetPages, SetSinglestep}
 use Rattle.kvmi.specs.declared.Verdict.{Verdict}
 use Rattle.kvmi.specs.declared.Verdict.the-variants.{Closes, Fails, Does}
-use Rattle.kvmi.specs.Answer.{Paper, handled}
+use Rattle.kvmi.specs.Answer.{Paper, handled, withPadding}
 use Rattle.kvmi.specs.Bits.{every, among, putBit}
 use Rattle.kvmi.specs.Codes.{isError}
 use Rattle.kvmi.specs.Settings.{inRange}
@@ -48,7 +48,7 @@ use Rattle.session.specs.State.{State, state, freshSession, closedSession, clea
 use Rattle.session.specs.Calls.{Told, toldSame, toldWritten, toldClosing, freshOf, readyOf}
 use Rattle.change.specs.Change.{StateChanged, changed, change}
 use Rattle.change.proofs.Laws.{change-keeps}
-use Rattle.message.specs.Message.{factsIn, answeringOf, judgedOf, headedOf, messageOf}
+use Rattle.message.specs.Message.{factsIn, answeringOf, judgedOf, reportingOf, headedOf, messageOf}
 use Rattle.entry.specs.Entry.{Sent, awaitingWords, sendingOf, pausingOf, dequeuingOf, sentOf, toldSent, enteredOf, enterOf}
 use Rattle.session.specs.Meaning.{awaitedOf, tablesOf, modelOf, WordsGood, WellFormed}
 use Rattle.laws.proofs.Bool.{and-l, and-r, every-imp}
@@ -229,6 +229,11 @@ answering-simulates st st′ mode id seq code d sig out guest h e g =
       words = seq-kept st′ _ g;
     }
 
+-- what is reported of padding is the answer's alone
+reporting-simulates : (st : State) (padding : ℕ) (r : Told) (q : model.Step) → Simulates st r q → Simulates st (reportingOf padding r) (model.reporting padding q)
+reporting-simulates st padding r q h =
+    record { answer = ap (withPadding padding) (h .answer); out = h .out; guest = h .guest; model = h .model; settings = h .settings; words = h .words }
+
 -- ---- a message
 module _ (st : State) (f : WellFormed st) (out guest : List ℕ) where
   abbrev S : Told → model.Step → Type 0
@@ -274,7 +279,11 @@ module _ (st : State) (f : WellFormed st) (out guest : List ℕ) where
   headed-simulates : (d : List ℕ) → 4112 ≤ length out → (h : Header) → S (headedOf st d out guest h) (model.headed cfg (modelOf st) d out guest h)
   unfolding headedOf model.headed
   headed-simulates d long Broken = closing-simulates st out guest (f .words)
-  headed-simulates d long (Whole id size seq) = rw (facts-mean st (f .words) (length guest) (vcpuOf d)) (judged-simulates id seq d long)
+  headed-simulates d long (Whole id size seq) =
+      let v = verdict cfg (factsIn st (length guest) (vcpuOf d)) id seq d in
+      let w = verdict cfg (factsOf (modelOf st) (length guest) (vcpuOf d)) id seq d in
+      let here : S (judgedOf st id seq d out guest v) (model.judged cfg (modelOf st) id seq d out guest w) = rw (facts-mean st (f .words) (length guest) (vcpuOf d)) (judged-simulates id seq d long) in
+      reporting-simulates st _ _ _ here
 
   pub message-simulates : (msg : List ℕ) → S (messageOf st msg out guest) (model.messageStep cfg (modelOf st) msg out guest)
   unfolding messageOf model.messageStep

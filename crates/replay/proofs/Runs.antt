@@ -8,8 +8,8 @@ use Rattle.wire.specs.Header.{isWhole, headerOf}
 use Rattle.wire.specs.Code.{twos, codeBytes}
 use Rattle.kvmi.specs.Bits.{bitOf, isOn, putBit, bitsHave}
 use Rattle.kvmi.specs.Settings.{inRange, isSet, allowsCommand, allowsEvent}
-use Rattle.kvmi.specs.Message.{layoutOf, sizeFits, namesVcpu, vcpuOf, switchesAt, padding, firstNonZero, firstOfRuns, firstPadding, countFits}
-use Rattle.kvmi.specs.Verdict.{isInvalid, isUnready, isDenied, isUnsupported, isBusy, isAbsent, changeOf, losesErrors, commandVerdict, verdict}
+use Rattle.kvmi.specs.Message.{layoutOf, sizeFits, namesVcpu, vcpuOf, switchesAt, paddingRuns, firstNonZero, firstOfRuns, firstPadding, countFits}
+use Rattle.kvmi.specs.Verdict.{invalidBy, isInvalid, isUnready, isDenied, isUnsupported, isBusy, isAbsent, changeOf, losesErrors, commandVerdictBy, commandVerdict, verdict, reachesTest6, reportedPadding}
 use Rattle.kvmi.specs.Reply.{messageBytes, replyBytes, replyData, answerBytes, answerSeq, answerOf}
 use Rattle.store.specs.Words.{field, putBit64, cleared}
 use Rattle.kvmi.specs.Mode.{modeOfNumber}
@@ -57,5 +57,5 @@ rows =
     ∷ []
 
 pub rows-right : map (λ r. printedOf (r .input)) rows ≡ map (λ r. ascii (r .printed)) rows
-unfolding le num load store isWhole headerOf twos codeBytes bitOf isOn putBit bitsHave inRange isSet allowsCommand allowsEvent layoutOf sizeFits namesVcpu vcpuOf switchesAt padding firstNonZero firstOfRuns firstPadding countFits isInvalid isUnready isDenied isUnsupported isBusy isAbsent changeOf losesErrors commandVerdict verdict messageBytes replyBytes replyData answerBytes answerSeq answerOf field cleared modeOfNumber putBit64 change freshOf answeringOf judgedOf headedOf messageOf readyOf totalOf cutOf extentOf signedOf lineId seqOf isCommandError errorAt errorOf lineOf digits decimal signedText numberText codeText lineText endText startOf passedOf toldOf turnBy turnOf runOf printedOf
+unfolding le num load store isWhole headerOf twos codeBytes bitOf isOn putBit bitsHave inRange isSet allowsCommand allowsEvent layoutOf sizeFits namesVcpu vcpuOf switchesAt paddingRuns firstNonZero firstOfRuns firstPadding countFits invalidBy isInvalid isUnready isDenied isUnsupported isBusy isAbsent changeOf losesErrors commandVerdictBy commandVerdict verdict reachesTest6 reportedPadding messageBytes replyBytes replyData answerBytes answerSeq answerOf field cleared modeOfNumber putBit64 change freshOf answeringOf judgedOf headedOf messageOf readyOf totalOf cutOf extentOf signedOf lineId seqOf isCommandError errorAt errorOf lineOf digits decimal signedText numberText codeText lineText endText startOf passedOf toldOf turnBy turnOf runOf printedOf
 rows-right = refl
