@@ -17,6 +17,7 @@ use Rattle.kvmi.specs.declared.Signal.the-variants.{Quiet}
 use Rattle.kvmi.specs.declared.Verdict.{Verdict}
 use Rattle.kvmi.specs.declared.Verdict.the-variants.{Closes, Fails, Does}
 use Rattle.kvmi.specs.Answer.{plainAt, lacksPage}
+use Rattle.kvmi.specs.Message.{vcpuOf}
 use Rattle.kvmi.specs.Change.{signalOf}
 use Rattle.kvmi.specs.declared.EventRow.{EventRow}
 use Rattle.kvmi.specs.Bits.{among}
@@ -30,7 +31,7 @@ use Rattle.store.specs.Words.{field, AWAITED}
 use Rattle.session.specs.State.{State, isClosed}
 use Rattle.session.specs.Calls.{Told, toldSame, toldWritten, toldClosing, freshOf, readyOf}
 use Rattle.session.specs.Meaning.{awaitedOf, modelOf}
-use Rattle.message.specs.Message.{answeringOf, judgedOf, headedOf, messageOf}
+use Rattle.message.specs.Message.{factsIn, answeringOf, reportedOf, judgedOf, headedOf, messageOf}
 use Rattle.entry.specs.Entry.{enteredOf, enterOf}
 use Rattle.image_writer.specs.Write.{statedVcpus, statedTables, imageOf}
 use Rattle.image_reader.specs.Read.{toldLoaded, readOf}
@@ -39,6 +40,7 @@ use Rattle.history.proofs.BatchAnswers.{batch-answers}
 use Rattle.history.specs.Demand1.{Answers, OneOf, Closed, Open, IsVcpu, NoVcpu, offers, ownLength, Offer, Lent, Awaits, AwaitsAny, imageLength, InRange, saidOf, RuleCloses, NeedsPage, FreshAnswers, ReadyAnswers, MessageAnswers, EntryAnswers, WriterAnswers, ReaderAnswers, Demand1}
 use Rattle.wire.proofs.Laws.{le-or-lt}
 use Rattle.laws.proofs.Bool.{and-l, and-r, either, or-l, or-r, test, clash, same-test, among-every}
+use Rattle.laws.proofs.Paddings.{reported}
 use Rattle.laws.proofs.Verdicts.{pick}
 use Rattle.reply.proofs.Data.{below}
 use Rattle.refine.proofs.Awaited.{awaited-length, awaited-at, awaited-there}
@@ -126,7 +128,9 @@ module _ (st : State) (msg out guest : List ℕ) where
   rule-closes : (closing : closing-when) → r-message ≡ toldClosing st out guest
   unfolding messageOf headedOf judgedOf
   rule-closes (o, l, inl e) = rw (o, le-ltb (length out) leastOut l, e)
-  rule-closes (o, l, inr (id, size, seq, h, e)) = rw (o, le-ltb (length out) leastOut l, h, e)
+  rule-closes (o, l, inr (id, size, seq, h, e)) =
+      let none : reportedOf st id (drop 8 msg) ≡ 0 = rw e at (reported (st .session .settings) (factsIn st (length guest) (vcpuOf (drop 8 msg))) id (drop 8 msg) seq) in
+      rw (o, le-ltb (length out) leastOut l, h, e, none)
 
   -- a message that needs the guest page
   page-lacks : lacking-when → Answers r-message 12

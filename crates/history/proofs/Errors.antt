@@ -33,7 +33,7 @@ use Rattle.kvmi.specs.Codes.{isError, EPERM, EINVAL, ENOMEM, ENOSYS, OK}
 use Rattle.kvmi.specs.Settings.{allowsCommand, allowsEvent}
 use Rattle.kvmi.specs.Mode.{modeOfNumber}
 use Rattle.kvmi.specs.Message.{layoutOf, sizeFits, carriesData, vcpuOf, gpaOf, sizeOf, firstPadding, repliedEvent, entriesOf}
-use Rattle.kvmi.specs.Verdict.{repliesOn, refuse, isInvalid, isUnready, isDenied, isUnsupported, isBusy, isAbsent, losesErrors, isAwaited, replyFits, inOnePage, changeOf, commandVerdict, eventReplyVerdict, verdict}
+use Rattle.kvmi.specs.Verdict.{repliesOn, refuse, isInvalid, isUnready, isDenied, isUnsupported, isBusy, isAbsent, losesErrors, isAwaited, replyFits, inOnePage, changeOf, commandVerdictBy, commandVerdict, eventReplyVerdict, verdict}
 use Rattle.kvmi.specs.Change.{modeFor}
 use Rattle.kvmi.specs.Reply.{messageBytes, replyBytes, replyData, commandErrorEvent, answerBytes, answerOf}
 use Rattle.page_words.specs.PageWords.{runEntries}
@@ -60,7 +60,7 @@ Fits-by (Does c) = Unit {0}
 
 -- those of the tests
 verdict-fits : (s : Settings) (f : Facts) (id seq : ℕ) (d : List ℕ) → Fits-by (verdict s f id seq d)
-unfolding verdict commandVerdict eventReplyVerdict
+unfolding verdict commandVerdict commandVerdictBy isInvalid eventReplyVerdict
 verdict-fits s f id seq d =
     let refused : (code : ℤ) → SFits w32 code → Fits-by (refuse (f .mode) code) = λ code e. pick Fits-by (repliesOn (f .mode)) (Fails code) Closes (λ _. e) (λ _. tt) in
     pick Fits-by (not (leb 1 id && leb id 16)) _ _ (λ _. refused ENOSYS (sfits-lit tt))

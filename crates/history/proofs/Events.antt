@@ -14,6 +14,7 @@ use Rattle.wire.specs.Bytes.{load}
 use Rattle.wire.specs.Header.{headerOf}
 use Rattle.wire.specs.declared.Header.{Header}
 use Rattle.wire.specs.declared.Header.the-variants.{Whole, Broken}
+use Rattle.kvmi.specs.declared.ReplyMode.{ReplyMode}
 use Rattle.kvmi.specs.declared.Settings.{Settings}
 use Rattle.kvmi.specs.declared.Facts.{Facts}
 use Rattle.kvmi.specs.declared.EventRow.{EventRow}
@@ -23,7 +24,7 @@ use Rattle.kvmi.specs.declared.Change.{Change}
 use Rattle.kvmi.specs.declared.Change.the-variants.{EndWait}
 use Rattle.kvmi.specs.declared.Verdict.{Verdict}
 use Rattle.kvmi.specs.declared.Verdict.the-variants.{Closes, Fails, Does}
-use Rattle.kvmi.specs.Answer.{Paper, handled, plain}
+use Rattle.kvmi.specs.Answer.{Paper, handled, plain, withPadding}
 use Rattle.kvmi.specs.Bits.{every, among}
 use Rattle.kvmi.specs.Limits.{leastOut}
 use Rattle.kvmi.specs.Settings.{allowsCommand}
@@ -34,11 +35,11 @@ use Rattle.kvmi.specs.Feed.{Fault, noFault, keptOf, unfed, wantsBytes, contextF
 use Rattle.kvmi.specs.Model.{Awaited, awaiting, Model, awaitedBy, isSome, nextSeq}
 use Rattle.kvmi.specs.Message.{layoutOf, sizeFits, vcpuOf, actionOf, repliedEvent, firstPadding}
 use Rattle.kvmi.specs.Event.{eventRowOf, offerFits, asksFor, isAskedFor, takesAction, formFits, valueOf}
-use Rattle.kvmi.specs.Verdict.{awaitedEvent, awaitedSeq, awaitedFault, factsOf, repliesOn, isAwaited, replyFits, feedBy, eventReplyVerdict, changeOf, verdict}
+use Rattle.kvmi.specs.Verdict.{awaitedEvent, awaitedSeq, awaitedFault, factsOf, repliesOn, isAwaited, replyFits, feedBy, eventReplyVerdict, changeOf, verdict, reachesTest6, reportedPadding}
 use Rattle.kvmi.specs.Change.{apply, signalOf}
 use Rattle.kvmi.specs.Reply.{eventBytes, pauseEvent, answerOf}
 use Rattle.kvmi.specs.Pauses.{queued}
-use Rattle.kvmi.specs.Call.{Call, message, ready, enter, Step, answering, judged, headed, messageStep, sending, pausing, dequeuing, entering, enterStep, step, move, after}
+use Rattle.kvmi.specs.Call.{Call, message, ready, enter, Step, answering, judged, headed, messageStep, sending, pausing, dequeuing, entering, enterStep, step, move, after, unchanged}
 use Rattle.session.specs.declared.Tool.{Tool}
 use Rattle.session.specs.State.{State}
 use Rattle.session.specs.Calls.{Told}
@@ -316,7 +317,12 @@ reply-verdict s m guest vcpu seq d =
     rw (and-false (not (repliesOn (m .mode))), feed-asks (eventRowOf (awaitedEvent (awaitedBy m vcpu)) .form) (factsOf m guest vcpu) (awaitedBy m vcpu) d refl refl refl)
     (test (leb 16 (length d)) (λ e. rw e) (λ e. rw e))
 
-reply-answers : (s : Settings) (m : Model) (seq : ℕ) (d out guest : List ℕ) (v : Verdict) → judged s m 16 seq d out guest v .answer ≡ answerBy v
+-- nothing is reported of its padding
+reply-unreported : (s : Settings) (mode : ReplyMode) (d : List ℕ) → reportedPadding s mode 16 d ≡ 0
+unfolding reportedPadding reachesTest6
+reply-unreported s mode d = refl
+
+reply-answers : (s : Settings) (m : Model) (seq : ℕ) (d out guest : List ℕ) (v : Verdict) → withPadding 0 (judged s m 16 seq d out guest v .answer) ≡ answerBy v
 unfolding judged answering answerOf layoutOf
 reply-answers s m seq d out guest Closes = refl
 reply-answers s m seq d out guest (Fails code) = refl
@@ -331,10 +337,13 @@ reply-answer : (s : Settings) (m : Model) (msg out guest : List ℕ) (size seq :
 unfolding step messageStep headed
 reply-answer s m msg out guest size seq w =
     let d = drop 8 msg in
-    let own : judged s m 16 seq d out guest (verdict s (factsOf m (length guest) (vcpuOf d)) 16 seq d) .answer ≡ answerBy (saysOf (awaitedBy m (vcpuOf d)) (length guest) seq d)
-    = reply-answers s m seq d out guest _ ∙ ap answerBy (reply-verdict s m (length guest) (vcpuOf d) seq d) in
+    let v = verdict s (factsOf m (length guest) (vcpuOf d)) 16 seq d in
+    let own = ap (λ (n : ℕ). withPadding n (judged s m 16 seq d out guest v .answer)) (reply-unreported s (m .mode) d) ∙ reply-answers s m seq d out guest v ∙ ap answerBy (reply-verdict s m (length guest) (vcpuOf d) seq d) in
     let Same : Step → Paper → Type 0 = λ r p. r .answer ≡ p in
-    rw w (both Same (m .closed) _ _ _ _ (λ _. refl) (λ _. both Same (ltb (length out) leastOut) _ _ _ _ (λ _. refl) (λ _. own)))
+    let here : Step = headed s m d out guest (Whole 16 size seq) in
+    rw w
+    (both Same (m .closed) (unchanged 2 m out guest) (cond (ltb (length out) leastOut) (unchanged 3 m out guest) here) _ _ (λ _. refl)
+    (λ _. both Same (ltb (length out) leastOut) (unchanged 3 m out guest) here _ _ (λ _. refl) (λ _. own)))
 
 -- only what it reads counts
 reads-same : (s s′ : Settings) (m k : Model) (msg out guest guest′ : List ℕ) → HasId msg 16 → length guest ≡ length guest′ → m .closed ≡ k .closed
@@ -465,7 +474,7 @@ none-set l v =
 reply-taken : (s : Settings) (m : Model) (vcpu event seq : ℕ) (fault : Fault) (msg out guest : List ℕ) → m .closed ≡ false → awaitedBy m vcpu ≡ some (awaiting event seq fault)
     → So (among event replied) → Replies vcpu event seq msg → leastOut ≤ length out
     → let r = step s m (message msg out guest) in (r .answer ≡ handled 0 (signalled vcpu event fault (length guest) (drop 8 msg))) × (awaitedBy (r .model) vcpu ≡ none)
-unfolding step messageStep headed judged answering answerOf layoutOf apply
+unfolding step messageStep headed judged answering answerOf layoutOf apply reportedPadding reachesTest6
 reply-taken s m vcpu event seq fault msg out guest o waits known q long =
     let d = drop 8 msg in
     let does = reply-does s m (length guest) vcpu event seq fault msg waits known q in

@@ -21,7 +21,7 @@ use Rattle.kvmi.specs.Settings.{allowsCommand, hasExecuteOnly}
 use Rattle.kvmi.specs.Tables.{Page, Tables, access, accessIn}
 use Rattle.kvmi.specs.Model.{Model}
 use Rattle.kvmi.specs.Message.{layoutOf, sizeFits, vcpuOf, countOf, countFits, Entry, entryOf, entriesOf}
-use Rattle.kvmi.specs.Verdict.{repliesOn, isAccess, takesAccess, isInvalid, commandVerdict, verdict}
+use Rattle.kvmi.specs.Verdict.{repliesOn, isAccess, takesAccess, isInvalid, commandVerdictBy, commandVerdict, verdict}
 use Rattle.kvmi.specs.Image.{paForm, paMay, pageOfRow, fitsIn, loadRest, forbidden as forbiddenAt}
 use Rattle.kvmi.specs.Row.{Row}
 use Rattle.kvmi.specs.Record.{PA, widths, paAccess, Rec, whole}
@@ -117,7 +117,7 @@ four-invalid s d i off h e =
     test (isInvalid s 13 d) (λ w. w) (λ valid. clash (and-r (countFits d) (allTaken s (entriesOf (countOf d) (drop 8 d))) (not-false _ (sound-of s 13 d valid .entries))) some)
 
 four-fails : (s : Settings) (f : Facts) (seq : ℕ) (d : List ℕ) → So (allowsCommand s 13) → 8 ≤ length d → isInvalid s 13 d ≡ true → verdict s f 13 seq d ≡ Fails EINVAL
-unfolding verdict commandVerdict layoutOf sizeFits
+unfolding verdict commandVerdict commandVerdictBy isInvalid layoutOf sizeFits
 four-fails s f seq d allowed long bad = rw (allowed, and-false (not (repliesOn (f .mode))), le-leb 8 (length d) long, bad)
 
 module _ (st : State) (off : hasExecuteOnly (st .session .settings) ≡ false) (msg out guest : List ℕ) (opened : Open st) (asks : AsksFour (st .session .settings) msg out) where

@@ -37,7 +37,7 @@ use Rattle.kvmi.specs.Verdict.{awaitedEvent, isAwaited, replyFits, feedBy, even
 use Rattle.kvmi.specs.Reply.{replyData, answerOf, answerSeq}
 use Rattle.kvmi.specs.Message.{layoutOf, actionOf, vcpuOf, repliedEvent, firstPadding}
 use Rattle.kvmi.specs.Batch.{Batch, nextLength, nextOf, outLeft, turnOf, feedIn, resumeOf}
-use Rattle.kvmi.specs.Call.{Call, message, unchanged, answering, judged, headed, messageStep, step, after}
+use Rattle.kvmi.specs.Call.{Call, message, unchanged, answering, judged, headed, messageStep, Step, step, after, reporting}
 use Rattle.kvmi.specs.declared.Change.{Change}
 use Rattle.kvmi.specs.declared.Facts.{Facts}
 use Rattle.kvmi.specs.declared.ReplyForm.{ReplyForm}
@@ -50,7 +50,7 @@ use Rattle.store.specs.Words.{endedWait}
 use Rattle.session.specs.State.{State, withVcpuWords, withSeqOf, isClosed}
 use Rattle.session.specs.Calls.{Told}
 use Rattle.change.specs.Change.{change}
-use Rattle.message.specs.Message.{factsIn, answeringOf, judgedOf, headedOf, messageOf}
+use Rattle.message.specs.Message.{factsIn, answeringOf, reportingOf, judgedOf, headedOf, messageOf}
 use Rattle.batch.specs.Batch.{messageTakes}
 use Rattle.feed.specs.Fed.{partOf, addressIn, sizeIn, fedBytes}
 use Rattle.laws.proofs.Feeds.{in-from, in-to, reply-inside}
@@ -228,11 +228,11 @@ module _ (s : Settings) (m : Model) (msg out guest guest′ : List ℕ) where
   taken-moves : (seq : ℕ) (resumes : Bool) (vcpu action value : ℕ) (f g : Feed)
       → ButFeed (judged s m 16 seq (drop 8 msg) out guest (Does (EndWait resumes vcpu action value f))) (judged s m 16 seq (drop 8 msg) out guest′ (Does (EndWait resumes vcpu action value g)))
   unfolding judged answering answerOf layoutOf apply
-  taken-moves seq resumes vcpu action value f g = record { model = refl; out = refl; count = refl; offset = refl; signal = signal-moves resumes vcpu action value f g }
+  taken-moves seq resumes vcpu action value f g = record { model = refl; out = refl; count = refl; offset = refl; padding = refl; signal = signal-moves resumes vcpu action value f g }
 
   closes-moves : (seq : ℕ) → ButFeed (judged s m 16 seq (drop 8 msg) out guest Closes) (judged s m 16 seq (drop 8 msg) out guest′ Closes)
   unfolding judged
-  closes-moves seq = record { model = refl; out = refl; count = refl; offset = refl; signal = refl }
+  closes-moves seq = record { model = refl; out = refl; count = refl; offset = refl; padding = refl; signal = refl }
 
   said-moves : (seq : ℕ) (a : Option Awaited)
       → ButFeed (judged s m 16 seq (drop 8 msg) out guest (saysOf a (length guest) seq (drop 8 msg))) (judged s m 16 seq (drop 8 msg) out guest′ (saysOf a (length guest′) seq (drop 8 msg)))
@@ -245,15 +245,18 @@ module _ (s : Settings) (m : Model) (msg out guest guest′ : List ℕ) where
       (λ _. taken-moves seq _ (vcpuOf d) _ _ _ _) (λ _. closes-moves seq))
       (λ _. closes-moves seq)
 
+  reporting-moves : (padding : ℕ) (r q : Step) → ButFeed r q → ButFeed (reporting padding r) (reporting padding q)
+  reporting-moves padding r q h = record { model = h .model; out = h .out; count = h .count; offset = h .offset; padding = refl; signal = h .signal }
+
   reply-moves : HasId msg 16 → ButFeed (step s m (message msg out guest)) (step s m (message msg out guest′))
   unfolding step messageStep headed
   reply-moves (size, seq, w) =
       let d = drop 8 msg in
-      let same : (k : ℕ) (o g g′ : List ℕ) → ButFeed (unchanged k m o g) (unchanged k m o g′) = λ k o g g′. record { model = refl; out = refl; count = refl; offset = refl; signal = refl } in
+      let same : (k : ℕ) (o g g′ : List ℕ) → ButFeed (unchanged k m o g) (unchanged k m o g′) = λ k o g g′. record { model = refl; out = refl; count = refl; offset = refl; padding = refl; signal = refl } in
       rw w
       (both ButFeed (m .closed) _ _ _ _ (λ _. same 2 out guest guest′)
       (λ _. both ButFeed (ltb (length out) leastOut) _ _ _ _ (λ _. same 3 out guest guest′)
-      (λ _. rw (reply-verdict s m (length guest) (vcpuOf d) seq d, reply-verdict s m (length guest′) (vcpuOf d) seq d) (said-moves seq (awaitedBy m (vcpuOf d))))))
+      (λ _. rw (reply-verdict s m (length guest) (vcpuOf d) seq d, reply-verdict s m (length guest′) (vcpuOf d) seq d) (reporting-moves _ _ _ (said-moves seq (awaitedBy m (vcpuOf d)))))))
 
 -- ---- in a batch
 drop-taken : (at n : ℕ) (l : List ℕ) → drop at (take n l) ≡ take (n - at) (drop at l)
@@ -451,10 +454,15 @@ module _ (st : State) (msg out guest : List ℕ) where
         state = ap (λ (k : ℕ). withSeqOf (withVcpuWords st (endedWait (st .vcpus) (vcpuOf body))) k) (answer-seq mode (st .session .tool .seq));
       })
 
+  reporting-lacked : (padding : ℕ) (r : Told) → L12 r → L12 (reportingOf padding r)
+  reporting-lacked padding r h n =
+      let x = h n in
+      record { of = x .of; count = x .count; bytes = x .bytes; output = x .output; memory = x .memory; state = x .state }
+
   headed-lacked : (h : Header) → headerOf msg ≡ h → L12 (headedOf st body out guest h)
   unfolding headedOf
   headed-lacked Broken w = λ n. absurd (omega arith)
-  headed-lacked (Whole id size seq) w = judged-lacked id size seq w
+  headed-lacked (Whole id size seq) w = reporting-lacked _ _ (judged-lacked id size seq w)
 
   message-lacked : L12 (messageOf st msg out guest)
   unfolding messageOf

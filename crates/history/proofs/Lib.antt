@@ -15,6 +15,8 @@ pub mod Pauses
 pub mod Events
 pub mod Faults
 pub mod ExecuteOnly
+pub mod Runs
+pub mod Padding
 pub mod Msrs
 pub mod Singly
 pub mod BatchAnswers

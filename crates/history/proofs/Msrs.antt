@@ -22,7 +22,7 @@ use Rattle.kvmi.specs.Settings.{allowsCommand}
 use Rattle.kvmi.specs.Tables.{Msr, msrOn}
 use Rattle.kvmi.specs.Message.{layoutOf, sizeFits, namesVcpu, vcpuOf, registerOf}
 use Rattle.kvmi.specs.Event.{msrNamed, eventRowOf, offerFits}
-use Rattle.kvmi.specs.Verdict.{repliesOn, isInvalid, commandVerdict, verdict}
+use Rattle.kvmi.specs.Verdict.{repliesOn, invalidBy, isInvalid, commandVerdictBy, commandVerdict, verdict}
 use Rattle.kvmi.specs.Change.{setMsr}
 use Rattle.kvmi.specs.Image.{msForm}
 use Rattle.kvmi.specs.Call.{message, after}
@@ -88,7 +88,7 @@ invalid : (s : Settings) (d : List ℕ) → msrPlace (registerOf d) ≡ None →
 invalid s d e = test (isInvalid s 12 d) (λ h. h) (λ h. clash (not-false (isMsr (registerOf d)) (sound-of s 12 d h .msr)) (no-msr (registerOf d) e))
 
 fails : (s : Settings) (f : Facts) (seq : ℕ) (d : List ℕ) → So (allowsCommand s 12) → length d ≡ 16 → isInvalid s 12 d ≡ true → verdict s f 12 seq d ≡ Fails EINVAL
-unfolding verdict commandVerdict layoutOf sizeFits
+unfolding verdict commandVerdict commandVerdictBy isInvalid layoutOf sizeFits
 fails s f seq d allowed long bad = rw (allowed, and-false (not (repliesOn (f .mode))), long, bad)
 
 refused : (st : State) (msg out guest : List ℕ) → Open st → NamesNone (st .session .settings) msg out
@@ -102,7 +102,7 @@ refused st msg out guest opened names =
     (code, invalid-spares st msg out guest code)
 
 pub msrs-placed : Msrs
-unfolding msrOn setMsr setMsrBit lookMsr msForm isInvalid namesVcpu stepOf enterOf enteredOf sentOf isAskedForOf askedForBy eventRowOf offerFits
+unfolding msrOn setMsr setMsrBit lookMsr msForm invalidBy isInvalid namesVcpu stepOf enterOf enteredOf sentOf isAskedForOf askedForBy eventRowOf offerFits
 msrs-placed =
     record {
       off = λ t vcpu msr e. rw (no-msr msr e);

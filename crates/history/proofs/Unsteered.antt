@@ -26,7 +26,7 @@ use Rattle.kvmi.specs.declared.Change.{Change}
 use Rattle.kvmi.specs.declared.Change.the-variants.{Nothing, SetVmEvent, WritePhysical, QueuePause, SetVcpuEvent, SetCr, SetMsr, SetPages, SetSinglestep, SetReplies, EndWait}
 use Rattle.kvmi.specs.declared.Verdict.{Verdict}
 use Rattle.kvmi.specs.declared.Verdict.the-variants.{Closes, Fails, Does}
-use Rattle.kvmi.specs.Answer.{Paper, handled, plain}
+use Rattle.kvmi.specs.Answer.{Paper, handled, plain, withPadding}
 use Rattle.kvmi.specs.Limits.{leastOut, eventOut, stateBytes}
 use Rattle.kvmi.specs.Codes.{isError}
 use Rattle.kvmi.specs.Mode.{modeOfNumber}
@@ -44,7 +44,7 @@ use Rattle.session.specs.State.{State, withSeqOf, withVcpuWords, isClosed}
 use Rattle.session.specs.Calls.{Told, toldSame, toldWritten}
 use Rattle.session.specs.Meaning.{awaitedOf}
 use Rattle.change.specs.Change.{change}
-use Rattle.message.specs.Message.{factsIn, answeringOf, judgedOf, headedOf, messageOf}
+use Rattle.message.specs.Message.{factsIn, answeringOf, reportingOf, judgedOf, headedOf, messageOf}
 use Rattle.entry.specs.Entry.{isGuarded, askedForBy, isAskedForOf, awaitingWords, faultWords, Sent, sendingOf, pausingOf, dequeuingOf, sentOf, toldSent, enteredOf, enterOf}
 use Rattle.image_writer.specs.Write.{statedVcpus, statedTables, imageOf}
 use Rattle.history.specs.History.{stepOf, afterOf}
@@ -219,17 +219,24 @@ module _ (msg out out′ : List ℕ) (lo : length out ≡ length out′) where
         subst (λ (x : State). For (answeringOf mode id seq (r .code) d (signalOf c) out (r .guest) (r .state)) (answeringOf mode id seq (q .code) d (signalOf c) out′ (q .guest) x)) (both-memories .0)
         (subst (λ (x : ℤ). For (answeringOf mode id seq (r .code) d (signalOf c) out (r .guest) (r .state)) (answeringOf mode id seq x d (signalOf c) out′ (q .guest) (r .state))) (both-memories .1) here)
 
+  -- what is reported of padding is the same
+  reporting-same : (padding : ℕ) (r q : Told) → For r q → For (reportingOf padding r) (reportingOf padding q)
+  unfolding ownBytes
+  reporting-same padding r q h = record { answer = ap (withPadding padding) (h .answer); state = h .state; bytes = h .bytes }
+
   module _ (st : State) (guest guest′ : List ℕ) (l : length guest ≡ length guest′) where
     headed-same : (h : Header) → headerOf msg ≡ h → Inside out For (headedOf st (drop 8 msg) out guest h) (headedOf st (drop 8 msg) out′ guest′ h)
     unfolding headedOf
     headed-same Broken w = λ _. untouched _ refl _ guest guest′
     headed-same (Whole id size seq) w =
         let d = drop 8 msg in
+        let judged =
         subst
         (λ (n : ℕ). Inside out For (judgedOf st id seq d out guest (verdict (st .session .settings) (factsIn st (length guest) (vcpuOf d)) id seq d))
         (judgedOf st id seq d out′ guest′ (verdict (st .session .settings) (factsIn st n (vcpuOf d)) id seq d)))
         l
-        (judged-same d id size seq w guest guest′ st l (verdict (st .session .settings) (factsIn st (length guest) (vcpuOf d)) id seq d))
+        (judged-same d id size seq w guest guest′ st l (verdict (st .session .settings) (factsIn st (length guest) (vcpuOf d)) id seq d)) in
+        λ fits. reporting-same _ _ _ (judged fits)
 
     message-inside : Inside out For (messageOf st msg out guest) (messageOf st msg out′ guest′)
     unfolding messageOf

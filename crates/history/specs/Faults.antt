@@ -83,6 +83,7 @@ pub record ButFeed (r q : Step) : Type 0 where
   pub out : r .out ≡ q .out
   pub count : r .answer .count ≡ q .answer .count
   pub offset : r .answer .offset ≡ q .answer .offset
+  pub padding : r .answer .padding ≡ q .answer .padding
   pub signal : withoutFeed (r .answer .signal) ≡ withoutFeed (q .answer .signal)
 
 -- ---- page faults

@@ -8,6 +8,7 @@ pub mod Carried
 pub mod Pauses
 pub mod Events
 pub mod Faults
+pub mod Padding
 pub mod ExecuteOnly
 pub mod Msrs
 pub mod Batches
