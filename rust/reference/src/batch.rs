@@ -12,7 +12,8 @@ use crate::{Answer, Feed, Signal};
 #[derive(Clone, Copy, Debug, PartialEq, Eq)]
 pub struct Batch {
     /// 0, 1 or 12, or a refusal: 2, 3 or 11. Answer 0 has the count, the resume
-    /// and the feed that stand below, too, and answer 12 the resume.
+    /// and the feed that stand below, too, and no offset of padding, and answer
+    /// 12 the resume.
     pub answer: Answer,
     /// "it says how many input bytes it used"
     pub used: usize,
@@ -65,7 +66,8 @@ impl Session {
             // "Outputs, signals, session and guest memory must equal the used
             // messages taken singly".
             let (written, signal) = match self.message(message, &mut out[count..], guest) {
-                Answer::Handled { count, signal, feed: fed } => {
+                // W6: "a batch carries none", so that the offset is dropped.
+                Answer::Handled { count, signal, feed: fed, padding: _ } => {
                     feed = behind(start, fed);
                     (count, signal)
                 }
@@ -94,7 +96,8 @@ impl Session {
             signals[listed] = code;
             listed += 1;
         }
-        Batch { answer: Answer::Handled { count, signal: resume, feed }, used, count, listed, resume, feed }
+        let answer = Answer::Handled { count, signal: resume, feed, padding: 0 };
+        Batch { answer, used, count, listed, resume, feed }
     }
 }
 

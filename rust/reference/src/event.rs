@@ -149,7 +149,7 @@ mod tests {
         for vcpu in 0..2 {
             let pause = message(9, 0, vcpu, [0; 8], &[]);
             let signal = Signal::Kick { vcpu: vcpu.into(), wait: false };
-            let answer = Answer::Handled { count: 16, signal, feed: Feed::None };
+            let answer = Answer::Handled { count: 16, signal, feed: Feed::None, padding: 0 };
             assert_eq!(session.message(&pause, &mut out, &mut []), answer);
         }
         assert_eq!(session.enter(1, &[3; 536], 0, &[], &mut out), Answer::handled(552));
@@ -197,7 +197,8 @@ mod tests {
             for (vcpu, seq) in [(1, u32::MAX), (0, 0)] {
                 let reply = message(16, seq, vcpu, [0, event, 0, 0, 0, 0, 0, 0], more);
                 let signal = Signal::Resume { vcpu: vcpu.into(), action: Action::Continue, value };
-                assert_eq!(session.message(&reply, &mut out, &mut []), Answer::Handled { count: 0, signal, feed: Feed::None });
+                let answer = Answer::Handled { count: 0, signal, feed: Feed::None, padding: 0 };
+                assert_eq!(session.message(&reply, &mut out, &mut []), answer);
             }
             assert_eq!(session.awaited, [None; 16]);
         }

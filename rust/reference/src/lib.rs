@@ -4,7 +4,8 @@
 //! the order of the tests, the host's answers and the table image, and decides
 //! where kvmi.rst is silent or contradicts itself. Document 02 changes them: of
 //! its requests W1, the other events, W2, execute-only pages, W3, several
-//! messages in one write, and W5, page faults, are built; W4 changes no answer.
+//! messages in one write, W5, page faults, and W6, which padding byte it was,
+//! are built; W4 changes no answer.
 //! Comments quote or name the sentence that a rule stands for; `NOTES.md` lists
 //! the readings of sentences that are open.
 //!
@@ -143,8 +144,11 @@ pub enum Feed {
 /// it.
 #[derive(Clone, Copy, Debug, PartialEq, Eq)]
 pub enum Answer {
-    /// 0: handled; so many bytes were written.
-    Handled { count: usize, signal: Signal, feed: Feed },
+    /// 0: handled; so many bytes were written. `padding` is of document 02, W6:
+    /// "the message offset of the first non-zero padding byte"; "0 means
+    /// padding fine or test 6 not reached", and every call but that of a
+    /// message has 0.
+    Handled { count: usize, signal: Signal, feed: Feed, padding: usize },
     /// 1: this call closed the session.
     Closing,
     /// 2: the session was closed before.
@@ -198,6 +202,6 @@ impl Answer {
 
     /// Handled, with nothing asked of the host.
     fn handled(count: usize) -> Answer {
-        Answer::Handled { count, signal: Signal::None, feed: Feed::None }
+        Answer::Handled { count, signal: Signal::None, feed: Feed::None, padding: 0 }
     }
 }

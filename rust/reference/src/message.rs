@@ -7,8 +7,9 @@ use crate::session::{Replies, Session};
 use crate::standing::{cr_bit, page_exists, Msr, PAGE, PAUSE_LIMIT};
 use crate::wire::error::*;
 use crate::wire::event as events;
-use crate::wire::{id, is_zero, put_reply, u16_at, u32_at, u64_at, Header, REPLY};
+use crate::wire::{id, is_zero, put_reply, u16_at, u32_at, u64_at, Header, HEADER, REPLY};
 use crate::{Action, Answer, Feed, Signal};
+use std::ops::Range;
 
 /// Answer 3: "output below 4,112 (message)".
 pub(crate) const LEAST_OUTPUT: usize = REPLY + PAGE as usize;
@@ -80,16 +81,24 @@ impl Session {
         let mut mode = self.replies;
         match self.carry_out(&header, data, &mut mode, out, guest) {
             Err(Refusal::Closes) => self.close(),
-            Err(Refusal::Error(error)) => Answer::handled(match mode {
-                Replies::On => put_reply(out, &header, error, 0),
-                // "While replies are off nothing is written, but an error with
-                // the flag kept writes one CMD_ERROR event."
-                Replies::Off { tell_errors: true } => {
-                    let seq = self.take_seq();
-                    event::put_cmd_error(out, seq, error, &header)
-                }
-                Replies::Off { tell_errors: false } => 0,
-            }),
+            Err(Refusal::Error(error)) => Answer::Handled {
+                count: match mode {
+                    Replies::On => put_reply(out, &header, error, 0),
+                    // "While replies are off nothing is written, but an error
+                    // with the flag kept writes one CMD_ERROR event."
+                    Replies::Off { tell_errors: true } => {
+                        let seq = self.take_seq();
+                        event::put_cmd_error(out, seq, error, &header)
+                    }
+                    Replies::Off { tell_errors: false } => 0,
+                },
+                signal: Signal::None,
+                feed: Feed::None,
+                // Document 02, W6: "0 means padding fine or test 6 not
+                // reached". Padding that is not zero is -22, whatever else is
+                // at fault, and an id that is unknown or not allowed never is.
+                padding: if error == EINVAL { first_padding(header.id, data) } else { 0 },
+            },
             // "answer 12 and hands back no bytes, all else as under answer 0".
             Ok(Done { signal, feed: None, .. }) => Answer::NoPage { signal },
             Ok(Done { data, signal, feed: Some(feed) }) => Answer::Handled {
@@ -101,6 +110,8 @@ impl Session {
                 },
                 signal,
                 feed,
+                // "0 means padding fine".
+                padding: 0,
             },
         }
     }
@@ -293,10 +304,9 @@ impl Session {
     /// padding3 u32.
     fn set_page_access(&mut self, data: &[u8]) -> Result<Done, i32> {
         let (head, entries) = data.split_at(ACCESS_HEAD);
-        let count = usize::from(u16_at(head, 0));
         let view = u16_at(head, 2);
         // Test 4: "a count that disagrees is -22".
-        valid(entries.len() == ACCESS_ENTRY * count)?;
+        valid(count_fits(data))?;
         valid(u32::from(view) < self.settings.views)?;
         valid(is_zero(&head[4..8]))?;
         let entries = entries.chunks_exact(ACCESS_ENTRY);
@@ -430,6 +440,37 @@ fn size_fits(id: u16, data: &[u8]) -> bool {
         id::EVENT_REPLY => size == 16 || size == 24 || size == fault::REPLY,
         _ => size == 16,
     }
+}
+
+/// Whether message 13's count agrees with its size: "8 + 16 × count".
+fn count_fits(data: &[u8]) -> bool {
+    data.len() == ACCESS_HEAD + ACCESS_ENTRY * usize::from(u16_at(data, 0))
+}
+
+/// Document 02, W6: "The padding test should report the message offset of the
+/// first non-zero padding byte"; 0 if there is none. `data` are those of a
+/// command that is answered -22. The layouts stand beside the commands above.
+#[cold]
+fn first_padding(id: u16, data: &[u8]) -> usize {
+    let first = |mut run: Range<usize>| run.find(|&at| data[at] != 0);
+    let first = match id {
+        id::VM_CHECK_COMMAND | id::VM_CHECK_EVENT | id::VCPU_GET_INFO => first(2..8),
+        id::VM_CONTROL_EVENTS | id::VM_CONTROL_CMD_RESPONSE => first(3..8),
+        id::VCPU_PAUSE | id::VCPU_CONTROL_SINGLESTEP => first(2..8).or_else(|| first(9..16)),
+        id::VCPU_CONTROL_EVENTS => first(2..8).or_else(|| first(11..16)),
+        id::VCPU_CONTROL_CR | id::VCPU_CONTROL_MSR => first(2..8).or_else(|| first(9..12)),
+        // "Entries are looked at only if the count fits".
+        id::VM_SET_PAGE_ACCESS if count_fits(data) => {
+            let entries = (ACCESS_HEAD..data.len()).step_by(ACCESS_ENTRY);
+            let mut in_entries = entries.filter_map(|entry| first(entry + 9..entry + 16));
+            first(4..8).or_else(|| in_entries.next())
+        }
+        id::VM_SET_PAGE_ACCESS => first(4..8),
+        // GET_VERSION, VM_GET_INFO, VM_READ_PHYSICAL and VM_WRITE_PHYSICAL have
+        // no padding, and EVENT_REPLY is no command: it closes instead.
+        _ => None,
+    };
+    first.map_or(0, |at| HEADER + at)
 }
 
 /// kvmi.rst, "KVMI_VM_READ_PHYSICAL": gpa u64, size u64.

@@ -35,7 +35,7 @@ fn batch_in(bench: &mut Bench, input: &[u8], room: usize, places: usize) -> Resu
     assert!(out[count..].iter().all(|&byte| byte == UNTOUCHED));
     assert!(list[listed..].iter().all(|&place| place == UNLISTED));
     match answer {
-        Answer::Handled { .. } => assert_eq!(answer, Answer::Handled { count, signal: resume, feed }),
+        Answer::Handled { .. } => assert_eq!(answer, Answer::Handled { count, signal: resume, feed, padding: 0 }),
         Answer::NoPage { .. } => {
             assert_eq!((answer, feed), (Answer::NoPage { signal: resume }, Feed::None));
             assert!(matches!(resume, Signal::Resume { action: Action::Continue, .. }));

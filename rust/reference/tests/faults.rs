@@ -55,7 +55,7 @@ fn fed(bench: &Bench, context: Context) -> Option<Feed> {
     assert!(bench.closes(&message));
     let expected = resume(Action::Continue, context.rep);
     match answer {
-        Answer::Handled { count: 0, signal, feed } => {
+        Answer::Handled { count: 0, signal, feed, padding: 0 } => {
             assert_eq!((answer.number(), signal), (0, expected));
             let part = match feed {
                 Feed::None => return Some(feed),
@@ -106,7 +106,8 @@ fn a_whole_fault() {
     let (answer, bytes) = bench.send(&reply);
     let signal = Signal::Resume { vcpu: 0, action: Action::Continue, value: 1 };
     let feed = Feed::Supplied { at: 56, length: 2 };
-    assert_eq!((answer, &reply[56..58]), (Answer::Handled { count: 0, signal, feed }, &[0xC3, 0xC4][..]));
+    let expected = Answer::Handled { count: 0, signal, feed, padding: 0 };
+    assert_eq!((answer, &reply[56..58]), (expected, &[0xC3, 0xC4][..]));
     assert!(bytes.is_empty());
 }
 
@@ -442,8 +443,10 @@ fn faults_of_two_vcpus() {
     assert_eq!(bench.session.write_image(&mut [0; 99]), Answer::Busy);
     assert_eq!(bench.offer(1, &[7; 536], 10, &fault(0x30, 0x1000, R, 2)), (Answer::Waiting, vec![]));
     assert!(bench.closes(&read(0, 0, NO_CONTEXT)) && bench.closes(&read(1, 1, NO_CONTEXT)));
-    let of =
-        |vcpu, feed| Answer::Handled { count: 0, signal: Signal::Resume { vcpu, action: Action::Continue, value: 0 }, feed };
+    let of = |vcpu, feed| {
+        let signal = Signal::Resume { vcpu, action: Action::Continue, value: 0 };
+        Answer::Handled { count: 0, signal, feed, padding: 0 }
+    };
     let wide = context(0x10, 0x11);
     assert_eq!(bench.clone().send(&read(1, 0, wide)).0, of(0, Feed::Supplied { at: DATA + 16, length: 1 }));
     assert_eq!(bench.send(&read(0, 1, wide)).0, of(1, Feed::Supplied { at: DATA, length: 17 }));

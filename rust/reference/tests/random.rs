@@ -327,6 +327,8 @@ fn lists_of_calls_against_a_book() {
     // Page faults by what they are fed: nothing, supplied data, a page, or no
     // page there.
     let mut fed = [0; 4];
+    // By where padding is not zero: in the first eight bytes, and behind them.
+    let mut spoiled = [0; 2];
     for _ in 0..200 {
         let settings = random_settings(&mut random);
         let vcpus = settings.vcpus as u16;
@@ -444,6 +446,9 @@ fn lists_of_calls_against_a_book() {
                         }
                     };
                     assert_eq!(found, feed);
+                    let padding = lowest_padding(&settings, &message);
+                    assert_eq!(told(answer), padding, "{message:?}");
+                    spoiled[usize::from(padding > 15)] += u32::from(padding > 0);
                     let id = u16::from_le_bytes([message[0], message[1]]);
                     let succeeds = succeeded(&book, &settings, &message);
                     let with_the_flag = Settings { execute_only: true, ..settings.clone() };
@@ -524,6 +529,7 @@ fn lists_of_calls_against_a_book() {
         assert_eq!(*seen > 10, matches!(event, 2..=5 | 7..=14), "event {event} of {events:?}");
     }
     assert!(fed.iter().all(|seen| *seen > 10), "{fed:?}");
+    assert!(spoiled.iter().all(|seen| *seen > 10), "{spoiled:?}");
 }
 
 /// Whether message 13 would pass all but the page limit.
@@ -537,6 +543,21 @@ fn well_formed_13(settings: &Settings, message: &[u8]) -> bool {
             let accesses: &[u8] = if settings.execute_only { &[0, 1, 3, 4, 5, 7] } else { &[0, 1, 3, 5, 7] };
             accesses.contains(&entry[8]) && entry[9..].iter().all(|&byte| byte == 0)
         })
+}
+
+/// The offset of the first padding byte that is not zero in a message that did
+/// not close, said in another way than the library does: offset by offset.
+fn lowest_padding(settings: &Settings, message: &[u8]) -> usize {
+    let id = message[0];
+    let allowed = message[1] == 0 && (matches!(id, 2 | 3) || settings.commands >> (id % 32) & 1 == 1);
+    let fits = || message.len() == 16 + 16 * usize::from(u16::from_le_bytes([message[8], message[9]]));
+    let is_padding = |at: usize| match (id, at) {
+        (2 | 3 | 8..=12 | 14, 10..=15) | (5 | 15, 11..=15) | (13, 12..=15) => true,
+        (9 | 14, 17..=23) | (10, 19..=23) | (11 | 12, 17..=19) => true,
+        (13, 16..) => fits() && at % 16 >= 9,
+        _ => false,
+    };
+    (8..message.len()).find(|&at| allowed && message[at] != 0 && is_padding(at)).unwrap_or(0)
 }
 
 /// Whether a message that did not close has no error, said in another way than

@@ -79,6 +79,8 @@ fn errors_in_message_15_follow_the_old_mode() {
         msg(15, 0, &[0, 1, 0, 1, 0, 0, 0, 0]),
         msg(15, 0, &[1, 1, 1, 0, 0, 0, 0, 1]),
     ];
+    // Document 02, W6: the last two are told apart by their padding.
+    let padding = [0, 0, 0, 0, 0, 0, 11, 15];
     let mut on = Bench::new(settings());
     for message in &bad {
         assert_eq!(on.error(message), EINVAL);
@@ -86,15 +88,15 @@ fn errors_in_message_15_follow_the_old_mode() {
     on.ok(&vm_event(1, 1));
 
     let mut silent = off(0);
-    for message in &bad {
-        assert_eq!(silent.send(message), (handled(0), vec![]));
+    for (message, padding) in bad.iter().zip(padding) {
+        assert_eq!(silent.send(message), (with_padding(0, padding), vec![]));
     }
 
     let mut telling = off(1);
-    for (seq, message) in (0..).zip(&bad) {
+    for (seq, (message, padding)) in (0..).zip(bad.iter().zip(padding)) {
         let message = with_seq(message.clone(), 1000 + seq);
         let (answer, event) = telling.send(&message);
-        assert_eq!(answer, handled(568));
+        assert_eq!(answer, with_padding(568, padding));
         assert_eq!(event, cmd_error(seq, EINVAL, 1000 + seq, 15));
     }
 }

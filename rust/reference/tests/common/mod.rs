@@ -21,7 +21,12 @@ pub const fn handled(count: usize) -> Answer {
 
 /// Answer 0 with no bytes for an instruction.
 pub const fn with_signal(count: usize, signal: Signal) -> Answer {
-    Answer::Handled { count, signal, feed: Feed::None }
+    Answer::Handled { count, signal, feed: Feed::None, padding: 0 }
+}
+
+/// Answer 0 to a command with padding that is not zero, first at this offset.
+pub const fn with_padding(count: usize, padding: usize) -> Answer {
+    Answer::Handled { count, signal: Signal::None, feed: Feed::None, padding }
 }
 
 /// The runner's settings: 2 vCPUs, 1 view, all allowed, all five features 1,
@@ -234,7 +239,8 @@ impl Bench {
         assert_eq!(bytes[12..16], [0; 4]);
         let error = i32::from_le_bytes(bytes[8..12].try_into().unwrap());
         if error != 0 {
-            assert_eq!(answer, handled(16));
+            let padding = if error == EINVAL { told(answer) } else { 0 };
+            assert_eq!(answer, with_padding(16, padding));
         }
         error
     }
@@ -281,6 +287,14 @@ impl Bench {
         let answer = self.session.write_image(&mut out);
         assert_eq!(answer, handled(size));
         written(answer, out)
+    }
+}
+
+/// The offset that the answer tells of padding.
+pub fn told(answer: Answer) -> usize {
+    match answer {
+        Answer::Handled { padding, .. } => padding,
+        _ => 0,
     }
 }
 
