@@ -5,6 +5,7 @@ use crate::batch_counts::BatchCounts;
 use crate::event_counts::{EventCounts, Stands};
 use crate::fault_counts::FaultCounts;
 use crate::look::LOOKUPS;
+use crate::padding_counts::PaddingCounts;
 use crate::run::Taken;
 use crate::{Call, Lookup, Told};
 use reference::{Action, Answer, Batch, Settings, Signal};
@@ -119,6 +120,7 @@ pub struct Counts {
     accesses: AccessCounts,
     batches: BatchCounts,
     faults: FaultCounts,
+    padding: PaddingCounts,
     refused: [[u64; 2]; 8],
 }
 
@@ -130,6 +132,7 @@ impl Counts {
         match call {
             Call::Message { bytes: message, guest, .. } => {
                 self.saw_message(message, answer, bytes);
+                self.padding.saw(message, answer, bytes, stands);
                 if message.starts_with(&[16, 0]) && matches!(answer.number(), 0 | 1 | 12) {
                     self.events.saw_reply(message, answer, stands);
                     self.faults.saw_reply(message, answer, *guest);
@@ -176,6 +179,7 @@ impl Counts {
                 self.events.forget();
                 self.accesses.begins(settings);
                 self.faults.begins(settings);
+                self.padding.begins(settings);
             }
             _ if answer == Answer::Closing => {
                 self.events.forget();
@@ -193,6 +197,7 @@ impl Counts {
             self.faults.saw_replies(&bytes[..batch.used]);
         }
         self.batches.saw(call, batch, listed);
+        self.padding.saw_batch(bytes, batch);
     }
 
     /// Takes note of a batch's messages as they are taken one by one.
@@ -317,6 +322,7 @@ impl Counts {
         self.accesses.add(&other.accesses);
         self.batches.add(&other.batches);
         self.faults.add(&other.faults);
+        self.padding.add(&other.padding);
         sum(self.refused.as_flattened_mut(), other.refused.as_flattened());
     }
 
@@ -349,6 +355,7 @@ impl Counts {
         list.extend(self.accesses.wanted());
         list.extend(self.batches.wanted());
         list.extend(self.faults.wanted());
+        list.extend(self.padding.wanted());
         for (place, [form, forbidden]) in PLACES.iter().zip(self.refused) {
             list.push((format!("image: bad form at {place}"), form));
             if matches!(*place, "VM" | "VC" | "PA") {

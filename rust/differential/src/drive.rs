@@ -55,12 +55,13 @@ pub fn drive<L: Filter, R: Filter>(seed: u64, workers: u64, quota: Quota) -> Res
 
 /// One worker: sessions until the quota is done, and the longest image at last; or until a mismatch is found.
 pub fn work<L: Filter, R: Filter>(seed: u64, worker: u64, quota: Quota, stop: &AtomicBool) -> Result<Counts, Box<Failure>> {
-    let looks = Random::new(seed);
-    let mut player = Player::<L, R> { runner: Runner::new(), calls: Vec::new(), images: Vec::new(), looks, made: 0 };
+    let (looks, spoils) = (Random::new(seed), Random::new(seed));
+    let mut player = Player::<L, R> { runner: Runner::new(), calls: Vec::new(), images: Vec::new(), looks, spoils, made: 0 };
     for session in 0.. {
         let mut random = Random::part(seed, worker, session);
         // of their own, so that what is asked between calls does not change the calls
         player.looks = Random::part(!seed, worker, session);
+        player.spoils = Random::part(seed ^ SPOILS, worker, session);
         let counts = &player.runner.counts;
         let done = counts.messages >= quota.messages && counts.images_read >= quota.images;
         let result = if done { player.longest(&mut random) } else { player.session(&mut random) };
@@ -87,6 +88,8 @@ struct Player<L, R> {
     /// For what is asked between calls, and how many calls there were.
     looks: Random,
     made: u64,
+    /// For commands with padding that is not zero: they change no tables, and the calls between them are as without them.
+    spoils: Random,
 }
 
 /// How many images are kept.
@@ -101,6 +104,12 @@ const BATCHES: u64 = 120;
 
 /// Once in so many calls of a session, page faults are offered and answered.
 const FAULTS: u64 = 120;
+
+/// Once in so many calls of a session a command has padding that is not zero, by a seed of its own; and so has, once in so many
+/// sessions that are open at their end, a message that closes them.
+const SPOILT: u64 = 20;
+const SPOILT_AT_END: u64 = 3;
+const SPOILS: u64 = 1 << 63;
 
 /// One in so many replies to these closes the session, and one in so many at its end.
 const WRONG: u64 = 60;
@@ -188,6 +197,10 @@ impl<L: Filter, R: Filter> Player<L, R> {
             }
             if !guide.closed && random.one_in(FAULTS) {
                 self.faults(random, &mut guide, WRONG)?;
+            }
+            if !guide.closed && self.spoils.one_in(SPOILT) {
+                let call = guide.spoilt(&mut self.spoils);
+                self.guided(&mut guide, call)?;
             }
             if guide.closed {
                 break;
@@ -283,6 +296,14 @@ impl<L: Filter, R: Filter> Player<L, R> {
                 self.guided(guide, call)?;
             }
             let call = guide.farewell(random);
+            self.guided(guide, call)?;
+        }
+        if !guide.closed && self.spoils.one_in(SPOILT_AT_END) {
+            if guide.command_allowed(15) && self.spoils.percent(70) {
+                let call = guide.quiet(&mut self.spoils);
+                self.guided(guide, call)?;
+            }
+            let call = guide.spoilt_farewell(&mut self.spoils);
             self.guided(guide, call)?;
         }
         // mostly it is closed now, whatever is asked of it

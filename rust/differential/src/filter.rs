@@ -112,14 +112,22 @@ impl Filter for Proved {
                 let error = answer.error().map(semblurick::Errno::number);
                 let fed = Fed::new(answer.feed(), lent);
                 let signal = signalled(answer.signal());
-                let number = answer.number();
+                let (number, told) = (answer.number(), answer.padding());
                 let answer = match answer {
                     semblurick::Answer::Closing => Answer::Closing,
-                    semblurick::Answer::Handled { bytes, .. } => Answer::Handled { count: bytes.len(), signal, feed: fed.feed },
+                    semblurick::Answer::Handled { bytes, padding, .. } => {
+                        let padding = padding.map_or(0, |offset| offset.get() as usize);
+                        Answer::Handled { count: bytes.len(), signal, feed: fed.feed, padding }
+                    }
                     semblurick::Answer::NoPage { .. } => Answer::NoPage { signal },
                     other => panic!("the reference has no {other}"),
                 };
                 assert_eq!(number, answer.number());
+                assert_eq!(
+                    told,
+                    Some(padding_of(answer)).filter(|padding| *padding != 0),
+                    "the offset of padding, by its name"
+                );
                 (answer, error, fed)
             }
         };
@@ -144,7 +152,8 @@ impl Filter for Proved {
                 let answer = match (batch.closing, batch.no_page) {
                     (true, false) => Answer::Closing,
                     (false, true) => Answer::NoPage { signal: resume },
-                    (false, false) => Answer::Handled { count, signal: resume, feed },
+                    // "a batch carries none"
+                    (false, false) => Answer::Handled { count, signal: resume, feed, padding: 0 },
                     (true, true) => panic!("a batch that closes has no resume"),
                 };
                 assert_eq!(batch.number(), answer.number());
@@ -323,7 +332,23 @@ fn on_list(records: &mut [Record], call: impl FnOnce(&mut [semblurick::Vcpu]) ->
 
 /// Answer 0 with nothing asked of the host.
 pub const fn handled(count: usize) -> Answer {
-    Answer::Handled { count, signal: Signal::None, feed: Feed::None }
+    Answer::Handled { count, signal: Signal::None, feed: Feed::None, padding: 0 }
+}
+
+/// The offset of padding that an answer tells, 0 for none.
+pub fn padding_of(answer: Answer) -> usize {
+    match answer {
+        Answer::Handled { padding, .. } => padding,
+        _ => 0,
+    }
+}
+
+/// The answer with another offset of padding, if it is one that has them.
+pub fn with_padding(answer: Answer, padding: usize) -> Answer {
+    match answer {
+        Answer::Handled { count, signal, feed, .. } => Answer::Handled { count, signal, feed, padding },
+        _ => answer,
+    }
 }
 
 fn refused(refusal: semblurick::Refusal) -> Answer {

@@ -296,7 +296,7 @@ impl Guide {
     }
 
     /// A message with output and guest memory; it may be damaged.
-    fn send(&self, random: &mut Random, mut bytes: Vec<u8>) -> Call {
+    pub(crate) fn send(&self, random: &mut Random, mut bytes: Vec<u8>) -> Call {
         let out = match random.below(40) {
             0 => random.pick(&[0, 1, 8, 15, 16, 552, 568, 4096, 4110, 4111]),
             1..4 => 4112 + random.index(80),

@@ -27,6 +27,7 @@ pub mod image;
 pub mod list;
 pub mod look;
 mod message;
+mod padding_counts;
 mod random;
 mod run;
 pub mod settings;
@@ -34,7 +35,7 @@ pub mod shrink;
 
 pub use call::{parse, Call, BATCH_ROOM, GUEST_ROOM, LIST_ROOM, OUT_ROOM, STATE_ROOM};
 pub use counts::{Counts, CODES};
-pub use filter::{handled, told_error, Filter, Plain, Proved};
+pub use filter::{handled, padding_of, told_error, with_padding, Filter, Plain, Proved};
 pub use look::{Lookup, Told};
 pub use random::Random;
 pub use reference::list::Record;

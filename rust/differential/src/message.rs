@@ -165,13 +165,18 @@ impl Guide {
 
     /// The data of message 13.
     fn pages(&self, random: &mut Random) -> Vec<u8> {
-        let faulty = self.taste.faulty;
         let count = match random.below(50) {
             0 => random.pick(&[0, 0, 255, 256, 256, 257, 1025]),
             1 if random.one_in(20) => 4095,
             1..5 => 1,
             _ => random.below(2 * self.taste.many),
         };
+        self.entries(random, count)
+    }
+
+    /// The data of a message 13 with so many entries, some of them cut.
+    fn entries(&self, random: &mut Random, count: u64) -> Vec<u8> {
+        let faulty = self.taste.faulty;
         let views = self.settings.views as u16;
         let view = match random.one_in(2 * faulty) {
             true => random.pick(&[views, views, views + 1, 8, 0x100, 0x8000, 0xFFFF]),
@@ -304,6 +309,160 @@ fn padding(id: u16) -> &'static [(usize, usize)] {
         11 | 12 => &[(2, 8), (9, 12)],
         13 => &[(4, 8)],
         _ => &[],
+    }
+}
+
+/// The messages that have padding.
+pub(crate) const PADDED: [u16; 11] = [2, 3, 5, 8, 9, 10, 11, 12, 13, 14, 15];
+
+/// Whether a message that has padding has as many data as it should; of a message 13, its head.
+pub(crate) fn has_known_size(id: u16, data: &[u8]) -> bool {
+    match id {
+        2 | 3 | 5 | 8 | 15 => data.len() == 8,
+        9..=12 | 14 => data.len() == 16,
+        13 => data.len() >= 8,
+        _ => false,
+    }
+}
+
+/// The offset in a message of its first padding byte that is not zero, were it one with this number. Entries of a message 13 are
+/// looked at if its count fits.
+pub(crate) fn first_padding(id: u16, message: &[u8]) -> Option<usize> {
+    let bad = |at: &usize| message.get(*at).is_some_and(|byte| *byte != 0);
+    let found = padding(id).iter().find_map(|(start, end)| (8 + start..8 + end).find(bad));
+    found.or_else(|| entry_padding(message, 0).filter(|_| id == 13))
+}
+
+/// The same of the entries of a message 13, from this one on.
+pub(crate) fn entry_padding(message: &[u8], from: usize) -> Option<usize> {
+    let count = u16::from_le_bytes([*message.get(8)?, *message.get(9)?]);
+    let (entries, rest) = message.get(16..)?.as_chunks::<16>();
+    if entries.len() != usize::from(count) || !rest.is_empty() {
+        return None;
+    }
+    let at = from + entries.get(from..)?.iter().position(|entry| entry[9..] != [0; 7])?;
+    (9..16).find(|byte| entries[at][*byte] != 0).map(|byte| 16 + 16 * at + byte)
+}
+
+/// The offsets of all padding bytes of a message that are not zero, whatever the count of a message 13 says.
+pub(crate) fn bad_padding(message: &[u8]) -> Vec<usize> {
+    let id = message.first_chunk().map_or(0, |id| u16::from_le_bytes(*id));
+    let in_entries = (16..message.len()).filter(|at| id == 13 && at % 16 >= 9);
+    let places = padding(id).iter().flat_map(|(start, end)| 8 + start..8 + end).chain(in_entries);
+    places.filter(|at| message.get(*at).is_some_and(|byte| *byte != 0)).collect()
+}
+
+/// Where to set a byte of padding in a message's data: often the first or the last byte of a run, and of the entries of a message 13
+/// the first one or the last.
+fn padding_place(random: &mut Random, id: u16, data: &[u8]) -> usize {
+    let entries = data.len().saturating_sub(8) / 16;
+    let (start, end) = match id {
+        13 if entries > 0 && random.percent(75) => {
+            let entry = match random.below(4) {
+                0 => 0,
+                1 => entries - 1,
+                _ => random.index(entries),
+            };
+            (8 + 16 * entry + 9, 8 + 16 * entry + 16)
+        }
+        _ => random.pick(padding(id)),
+    };
+    match random.below(3) {
+        0 => start,
+        1 => end - 1,
+        _ => start + random.index(end - start),
+    }
+}
+
+/// Sets bytes of padding, one or some; then, now and then, bits of any byte.
+fn spoil(random: &mut Random, id: u16, data: &mut [u8]) {
+    let bytes = match random.below(8) {
+        0..4 => 1,
+        4 | 5 => 2,
+        6 => 3 + random.index(6),
+        _ => 40,
+    };
+    for _ in 0..bytes {
+        let at = padding_place(random, id, data);
+        data[at] = random.pick(&[1, 2, 0x10, 0x80, 0xFF]);
+    }
+    if random.one_in(3) {
+        let end = data.len().min(24);
+        let at = if random.one_in(2) { random.index(end) } else { random.index(data.len()) };
+        data[at] |= 1 << random.below(8);
+    }
+}
+
+impl Guide {
+    /// The data of a message with padding that is not zero. No other fault is asked for, but there may be some.
+    fn spoilt_data(&self, random: &mut Random, id: u16) -> Vec<u8> {
+        let mut data = match id {
+            13 => {
+                let count = match random.below(48) {
+                    0..4 => 4095,
+                    4 => random.below(4096),
+                    5..9 => 0,
+                    9..17 => 1,
+                    _ => random.below(24),
+                };
+                self.entries(random, count)
+            }
+            _ => self.data(random, id),
+        };
+        spoil(random, id, &mut data);
+        if id == 13 && random.one_in(6) {
+            // entries that are not whole, or one too many
+            let length = data.len() + random.index(17);
+            data.resize(length.min(0xFFFF), 1);
+        }
+        if id == 15 && random.one_in(2) {
+            // what closes where event 13 is not allowed, if padding is good
+            (data[0], data[1], data[2]) = (0, random.below(2) as u8, 1);
+        }
+        data
+    }
+
+    /// A command with padding that is not zero.
+    pub fn spoilt(&self, random: &mut Random) -> Call {
+        let id = loop {
+            let id = random.pick(&PADDED);
+            if !self.closes(id) && (self.command_allowed(id) || random.one_in(4)) {
+                break id;
+            }
+        };
+        let bytes = message(id, random.word() as u32, &self.spoilt_data(random, id));
+        self.send(random, bytes)
+    }
+
+    /// A message with such padding that closes the session before padding is tested.
+    pub fn spoilt_farewell(&self, random: &mut Random) -> Call {
+        let mut closing: Vec<u16> = PADDED.into_iter().filter(|id| self.closes(*id)).collect();
+        if closing.iter().any(|id| !self.command_allowed(*id)) && random.percent(70) {
+            closing.retain(|id| !self.command_allowed(*id));
+        }
+        let bytes = match random.below(4) {
+            0 | 1 if !closing.is_empty() => {
+                let id = random.pick(&closing);
+                let data = self.spoilt_data(random, id);
+                message(id, 0, &data)
+            }
+            // the size field
+            2 => {
+                let id = random.pick(&PADDED);
+                let mut bytes = message(id, 0, &self.spoilt_data(random, id));
+                bytes[2] ^= 1 << random.below(8);
+                bytes
+            }
+            _ => {
+                let id = random.pick(&PADDED);
+                let mut data = self.spoilt_data(random, id);
+                let size = data.len() as u64;
+                let any = random.below(32);
+                data.resize(random.pick(&[size - 1, size + 1, size ^ 8, 7, 24, any]) as usize, 0);
+                message(id, 0, &data)
+            }
+        };
+        self.send(random, bytes)
     }
 }
 

@@ -3,7 +3,8 @@
 mod batch;
 
 use crate::look::{self, Lookup, Told};
-use crate::{handled, Call, Counts, Filter, Random, BATCH_ROOM, GUEST_ROOM, LIST_ROOM, OUT_ROOM, STATE_ROOM};
+use crate::{handled, padding_of, with_padding};
+use crate::{Call, Counts, Filter, Random, BATCH_ROOM, GUEST_ROOM, LIST_ROOM, OUT_ROOM, STATE_ROOM};
 pub(crate) use batch::Taken;
 use reference::list::Record;
 use reference::{Answer, Batch, Feed, Settings};
@@ -412,7 +413,10 @@ impl<L: Filter, R: Filter> Runner<L, R> {
                     || pair.left.message(bytes, &mut ours.out[..*out], &mut ours.guest[..*guest]),
                     || pair.right.message(bytes, &mut theirs.out[..*out], &mut theirs.guest[..*guest]),
                 )?;
-                same("answer and error", &left, &right)?;
+                // the offset of padding by itself: a list that shows a difference in it alone stays one
+                let unpadded = |(answer, error)| (with_padding(answer, 0), error);
+                same("answer and error", &unpadded(left), &unpadded(right))?;
+                same("padding", &padding_of(left.0), &padding_of(right.0))?;
                 self.written = written(left.0);
                 self.same_output(*out)?;
                 same_bytes("guest memory", &self.left.guest, &self.right.guest)?;

@@ -2,6 +2,7 @@
 
 use crate::batch::{events, messages, messages_mut};
 use crate::fault::Fault;
+use crate::message::bad_padding;
 use crate::{image, Call, Filter, Mismatch, Record, Runner, BATCH_ROOM, LIST_ROOM};
 use std::ops::Range;
 use std::time::{Duration, Instant};
@@ -338,6 +339,15 @@ fn clear_context(call: &mut Call) {
     });
 }
 
+/// The padding that is not zero in a message, but for this one of its bytes.
+fn clear_padding(call: &mut Call, kept: fn(&[usize]) -> Option<&usize>) {
+    if let Call::Message { bytes, .. } = call {
+        let places = bad_padding(bytes);
+        let kept = kept(&places).copied();
+        places.into_iter().filter(|at| Some(*at) != kept).for_each(|at| bytes[at] = 0);
+    }
+}
+
 /// Ways to make calls plainer.
 const BEGINNINGS: &[fn(&mut Call)] = &[
     |call| {
@@ -386,6 +396,9 @@ const MESSAGES: &[fn(&mut Call)] = &[
     clear_data,
     clear_rep,
     clear_context,
+    |call| clear_padding(call, <[usize]>::last),
+    |call| clear_padding(call, <[usize]>::first),
+    |call| clear_padding(call, |_| None),
 ];
 
 const BATCHES: &[fn(&mut Call)] = &[

@@ -4,7 +4,7 @@ mod wrong;
 
 use differential::batch::{is_whole, messages};
 use differential::drive::work;
-use differential::{handled, Answer, Batch, Call, Feed, Filter, Plain, Signal};
+use differential::{handled, padding_of, with_padding, Answer, Batch, Call, Feed, Filter, Plain, Signal};
 use std::sync::atomic::AtomicBool;
 use wrong::{choose, found_within, Fault, Lent, Wrong, PATIENCE, QUOTA};
 
@@ -98,7 +98,7 @@ impl Ways {
             let start = used;
             used += message.len();
             let (written, signal) = match answer {
-                Answer::Handled { count, signal, feed: fed } => {
+                Answer::Handled { count, signal, feed: fed, .. } => {
                     feed = match fed {
                         Feed::Supplied { at, length } => Feed::Supplied { at: (self.place)(start, at), length },
                         other => other,
@@ -124,7 +124,7 @@ impl Ways {
                 break;
             }
         }
-        Batch { answer: Answer::Handled { count, signal: resume, feed }, used, count, listed, resume, feed }
+        Batch { answer: Answer::Handled { count, signal: resume, feed, padding: 0 }, used, count, listed, resume, feed }
     }
 }
 
@@ -277,7 +277,7 @@ wrong_batch! {
         let mut batch = right.batch(input, lent.out, lent.signals, lent.guest);
         if let Answer::Handled { count, .. } = batch.answer {
             let feed = batch.feed;
-            (batch.answer, batch.resume) = (Answer::Handled { count, signal: Signal::None, feed }, Signal::None);
+            (batch.answer, batch.resume) = (Answer::Handled { count, signal: Signal::None, feed, padding: 0 }, Signal::None);
         }
         batch
     }
@@ -417,7 +417,7 @@ wrong_batch! {
     loses_what_is_fed, FeedLost, 6 in QUOTA, "feed", |right, input, lent| {
         let mut batch = right.batch(input, lent.out, lent.signals, lent.guest);
         if let Answer::Handled { count, signal, .. } = batch.answer {
-            (batch.answer, batch.feed) = (Answer::Handled { count, signal, feed: Feed::None }, Feed::None);
+            (batch.answer, batch.feed) = (Answer::Handled { count, signal, feed: Feed::None, padding: 0 }, Feed::None);
         }
         batch
     }
@@ -456,7 +456,7 @@ wrong_batch! {
 wrong_batch! {
     answers_0_without_a_page, NoPageZero, 6 in QUOTA, "answer", |right, input, lent| {
         no_page(right, input, lent, |batch, _| {
-            batch.answer = Answer::Handled { count: batch.count, signal: batch.resume, feed: Feed::None };
+            batch.answer = Answer::Handled { count: batch.count, signal: batch.resume, feed: Feed::None, padding: 0 };
         })
     }
 }
@@ -472,6 +472,30 @@ wrong_batch! {
 wrong_batch! {
     forgets_the_bytes_before_a_reply_without_a_page, NoPageBytes, 6 in QUOTA, "count of bytes", |right, input, lent| {
         no_page(right, input, lent, |batch, _| batch.count = 0)
+    }
+}
+
+/// The batch, with an offset of padding in its answer: one of those that its used messages would be told of.
+fn with_offset(right: &mut Plain, input: &[u8], lent: Lent, one: fn(&[usize]) -> Option<&usize>) -> Batch {
+    let (mut copy, mut memory, mut room) = (right.clone(), lent.guest.to_vec(), vec![0; 4112]);
+    let mut batch = right.batch(input, lent.out, lent.signals, lent.guest);
+    let used = messages(&input[..batch.used]);
+    let offsets: Vec<usize> = used.map(|message| padding_of(copy.message(message, &mut room, &mut memory).0)).collect();
+    batch.answer = with_padding(batch.answer, one(&offsets).copied().unwrap_or(0));
+    batch
+}
+
+wrong_batch! {
+    /// What the last message would be told.
+    carries_the_last_offset, LastOffset, 2 in QUOTA, "padding", |right, input, lent| {
+        with_offset(right, input, lent, <[usize]>::last)
+    }
+}
+
+wrong_batch! {
+    /// The first one there is.
+    carries_the_first_offset, FirstOffset, 2 in QUOTA, "padding", |right, input, lent| {
+        with_offset(right, input, lent, |offsets| offsets.iter().find(|offset| **offset > 0))
     }
 }
 
@@ -526,6 +550,10 @@ wrong_twice! {
 
 wrong_twice! {
     both_take_4111_bytes, BothLeast4111, "end singly", |right, input, lent| Least4111.batch(right, input, lent)
+}
+
+wrong_twice! {
+    both_carry_an_offset, BothOffsets, "padding", |right, input, lent| LastOffset.batch(right, input, lent)
 }
 
 wrong_twice! {

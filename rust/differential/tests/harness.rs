@@ -287,8 +287,9 @@ wrong_message! {
     takes_a_retry_of_an_msr, MsrRetried, 6, |right, message, out, guest| {
         match message {
             [16, 0, ..] => match taken_as(right, message, out, (9, 1), 0) {
-                (Answer::Handled { count, signal: Signal::Resume { vcpu, value, .. }, feed }, error) if message[16] == 1 => {
-                    (Answer::Handled { count, signal: Signal::Resume { vcpu, action: Action::Retry, value }, feed }, error)
+                (Answer::Handled { count, signal: Signal::Resume { vcpu, value, .. }, feed, padding }, error) if message[16] == 1 => {
+                    let signal = Signal::Resume { vcpu, action: Action::Retry, value };
+                    (Answer::Handled { count, signal, feed, padding }, error)
                 }
                 result => result,
             },
@@ -324,9 +325,9 @@ wrong_message! {
 wrong_message! {
     cuts_the_new_value, ValueCut, 6, |right, message, out, guest| {
         match right.message(message, out, guest) {
-            (Answer::Handled { count, signal: Signal::Resume { vcpu, action, value }, feed }, error) => {
-                let value = value & 0xFFFF_FFFF;
-                (Answer::Handled { count, signal: Signal::Resume { vcpu, action, value }, feed }, error)
+            (Answer::Handled { count, signal: Signal::Resume { vcpu, action, value }, feed, padding }, error) => {
+                let signal = Signal::Resume { vcpu, action, value: value & 0xFFFF_FFFF };
+                (Answer::Handled { count, signal, feed, padding }, error)
             }
             result => result,
         }
@@ -750,7 +751,7 @@ macro_rules! wrong_reply {
 /// The answer with other bytes for the instruction.
 fn fed(answer: Answer, feed: Feed) -> Answer {
     match answer {
-        Answer::Handled { signal, .. } | Answer::NoPage { signal } => Answer::Handled { count: 0, signal, feed },
+        Answer::Handled { signal, .. } | Answer::NoPage { signal } => Answer::Handled { count: 0, signal, feed, padding: 0 },
         _ => answer,
     }
 }
@@ -894,8 +895,8 @@ wrong_reply! {
 wrong_reply! {
     /// The rep flag is not told.
     forgets_the_rep_flag, 6 in QUOTA, |_fault, _action, _context, answer, _guest| match answer {
-        Answer::Handled { count, signal: Signal::Resume { vcpu, action, .. }, feed } => {
-            Answer::Handled { count, signal: Signal::Resume { vcpu, action, value: 0 }, feed }
+        Answer::Handled { count, signal: Signal::Resume { vcpu, action, .. }, feed, padding } => {
+            Answer::Handled { count, signal: Signal::Resume { vcpu, action, value: 0 }, feed, padding }
         }
         _ => answer,
     }

@@ -2,7 +2,7 @@
 
 use super::{both, same, same_bytes, text_of, Lent, Pair, Runner, Unlike, BLANK};
 use crate::batch::messages;
-use crate::{Call, Filter, Lookup};
+use crate::{padding_of, Call, Filter, Lookup};
 use reference::{Answer, Batch, Feed, Signal};
 use std::panic::{catch_unwind, AssertUnwindSafe};
 
@@ -65,6 +65,8 @@ impl<L: Filter, R: Filter> Runner<L, R> {
         same("count of signals", &left.listed, &right.listed)?;
         same("resume", &left.resume, &right.resume)?;
         same("feed", &left.feed, &right.feed)?;
+        // "a batch carries none", whichever of its messages has bad padding
+        same("padding", &padding_of(left.answer), &0)?;
         same("answer in full", &left.answer, &right.answer)?;
         (self.written, self.listed) = (left.count, left.listed);
         self.same_output(*out)?;
@@ -111,7 +113,7 @@ impl<L: Filter, R: Filter> Runner<L, R> {
             answers.push((message, answer, count));
             number = answer.number();
             let code = match answer {
-                Answer::Handled { count: written, signal, feed: fed } => {
+                Answer::Handled { count: written, signal, feed: fed, .. } => {
                     count += written;
                     // a part of the message is one of the input
                     feed = match fed {
