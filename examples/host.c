@@ -1,6 +1,6 @@
 /* A host in C: takes the messages that stand end to end in a file, answers them, programs what they switch, lets a kicked vCPU enter
- * the guest, asks the tool about the guest's writes to CR3 and its reads of guarded pages, and hands the session over by an image. Usage:
- * host FILE */
+ * the guest, asks the tool about the guest's writes to CR3 and its reads of guarded pages, and hands the session over by an image. Its log
+ * has a line for each, and names the padding byte that a command failed for. Usage: host FILE */
 #include <stdio.h>
 #include <stdlib.h>
 #include <string.h>
@@ -297,6 +297,8 @@ static void take(size_t size) {
     uint32_t answer = semblurick_message(&here, msg, size, semblurick_output_of(out, sizeof out),
                                          semblurick_memory_of(memory, sizeof memory), &r);
     printf("message %u: answer %u, %llu bytes\n", msg[0], answer, (unsigned long long)r.count);
+    /* of which the tool reads that it is EINVAL, and with replies off not even that */
+    if (r.padding) printf("message %u: byte %llu, padding, is not zero\n", msg[0], (unsigned long long)r.padding);
     if (answer == SEMBLURICK_CLOSING) {
         program_all(&programmed, &here); /* everything is off */
         for (uint32_t v = 0; v < VCPUS; v++) { /* no reply comes any more */

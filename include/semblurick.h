@@ -46,8 +46,9 @@
  * holds it. Before, it was taken. A host whose processor has execute-only pages (EPT; bit 0 of IA32_VMX_EPT_VPID_CAP) sets it to 1.
  * Since 4: nothing. Since 5: nothing, unless it offers event 10, PF, which was answered 5 before. Then: answer 12 is no refusal, though
  * it is above 1; a resume may come with bytes to feed the instruction with; and its reply is lent the guest's memory, since it asks how
- * long that is. Who calls semblurick_raw_enter hands it the pages. */
-#define SEMBLURICK_VERSION 5
+ * long that is. Who calls semblurick_raw_enter hands it the pages. Since 6: nothing; `reserved` of struct semblurick_result has one word
+ * less. */
+#define SEMBLURICK_VERSION 6
 
 #include <stdbool.h>
 #include <stddef.h>
@@ -104,7 +105,8 @@ enum {
  * taken as under 0, and the vCPU that it resumes goes on; what 12 adds is that there are no bytes to feed it with. Only the reply to a PF
  * event, and a batch that ends with one, can be answered so. */
 SEMBLURICK_U32_ENUM(semblurick_answer) {
-    SEMBLURICK_HANDLED = 0,        /* result: count, and signal with vcpu, and wait or action and value; since 5 source, at and length */
+    SEMBLURICK_HANDLED = 0,        /* result: count, and signal with vcpu, and wait or action and value; since 5 source, at and length;
+                                      since 6, of a message, padding */
     SEMBLURICK_CLOSING = 1,        /* the message broke a rule that closes the session; it wrote nothing, no event is awaited */
     SEMBLURICK_CLOSED = 2,         /* the session was closed */
     SEMBLURICK_SHORT_OUT = 3,      /* the output is too small */
@@ -160,12 +162,15 @@ struct semblurick_result {
     uint64_t source;  /* since 5, of a resume from a PF: where the bytes are that the instruction reads (enum semblurick_source) */
     uint64_t at;      /* the first of them */
     uint64_t length;  /* how many: 0 exactly where source is */
-    uint64_t reserved[2];
+    uint64_t padding; /* since 6, of a command that fails with EINVAL: the offset in the message, its header included, of the first padding
+                         byte that is not 0; 0 where there is none, or padding was not looked at (semblurick_message) */
+    uint64_t reserved[1];
 };
 SEMBLURICK_ASSERT(sizeof(struct semblurick_result) == 96);
-SEMBLURICK_ASSERT(offsetof(struct semblurick_result, source) == 56 && offsetof(struct semblurick_result, reserved) == 80);
+SEMBLURICK_ASSERT(offsetof(struct semblurick_result, source) == 56 && offsetof(struct semblurick_result, padding) == 80);
+SEMBLURICK_ASSERT(offsetof(struct semblurick_result, reserved) == 88);
 
-/* The values of a batch (since 4), likewise: what it has none of is 0, all of it is written, its size is final. */
+/* The values of a batch (since 4), likewise: what it has none of is 0, all of it is written, its size is final. It has no `padding`. */
 struct semblurick_batch_result {
     uint64_t used;    /* bytes of the input: those of the messages that were taken */
     uint64_t count;   /* bytes written to the output, of all of them, end to end; the rest of it is untouched */
@@ -384,7 +389,15 @@ SEMBLURICK_CHECKED static inline enum semblurick_answer semblurick_ready(struct 
  *   1: the message is cut, has a size that its id has not, or breaks another rule that closes. The session is closed, its tables
  *      are empty, nothing was written.
  *   12, since 5: as 0 with result->count 0 and a resume, from a PF. The vCPU is to be fed from a page that the guest memory which was
- *      lent has not, and so there are no bytes: see semblurick_enter_event. */
+ *      lent has not, and so there are no bytes: see semblurick_enter_event.
+ *
+ * Since 6, for the log of a host that is asked about an EINVAL: where a command fails since its padding is not all 0, result->padding is
+ * the offset in the message, its header included, of the first byte of it that is not. It is told with replies off, too, when nothing
+ * goes to the tool; and beside any other cause of EINVAL, which may be left once the padding is put right. It is 0
+ *   - where all padding is 0, so that an EINVAL has another cause; with any other error, therefore, and with none;
+ *   - where padding was not looked at: of an id that is unknown (ENOSYS) or not allowed (EPERM), and with every answer but 0;
+ *   - of KVMI_EVENT_REPLY, which closes the session (answer 1) where its padding is not all 0.
+ * The padding of message 13's entries is looked at only where the message has as many of them as its count says. */
 SEMBLURICK_CHECKED static inline enum semblurick_answer semblurick_message(struct semblurick *guest, const void *msg, size_t msg_size,
                                                                            struct semblurick_output out,
                                                                            struct semblurick_memory memory,
@@ -433,7 +446,10 @@ SEMBLURICK_CHECKED static inline enum semblurick_answer semblurick_message(struc
  *     a pause a vCPU goes on without a signal: those that wait ask again by semblurick_enter. Answer 1: all that wait go on, with
  *     whatever event, as if there were no tool (semblurick_awaited tells which they are before the call, and of none after it).
  * A vCPU that is to be crashed is not let into the guest any more. Past these counts output and list are untouched; refused, all of
- * both is. */
+ * both is.
+ *
+ * A batch tells no padding byte (since 6, result->padding of semblurick_message): to see which one a command failed for, hand that message
+ * to semblurick_message by itself. */
 SEMBLURICK_CHECKED static inline enum semblurick_answer semblurick_batch(struct semblurick *guest, const void *input, size_t input_size,
                                                                          struct semblurick_output out,
                                                                          struct semblurick_signals signals,
@@ -829,8 +845,9 @@ enum kvmi_error {
     KVMI_ENOSYS = 1000
 };
 
-/* What goes over the wire, little-endian; every padding is 0. A buffer of bytes is read and filled by memcpy, which asks for no
- * alignment. What a struct is followed by is said at its end. */
+/* What goes over the wire, little-endian; every padding is 0: a command in which it is not gets EINVAL, and since 6 semblurick_message
+ * tells which byte it was. A buffer of bytes is read and filled by memcpy, which asks for no alignment. What a struct is followed by is
+ * said at its end. */
 
 /* Every message: then `size` bytes. A reply has its command's id and seq. */
 struct kvmi_msg_hdr {

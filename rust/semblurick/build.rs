@@ -8,8 +8,9 @@ use std::{env, fs};
 /// The call that is there since version 4.
 const BATCH: &[u8] = b"semblurick_raw_batch";
 
-/// The version whose calls this wrapper makes: since 5 an entry has one argument more, and of an earlier library the linker would not see it.
-const VERSION: u32 = 5;
+/// What this wrapper counts on, by the version that brought it, and that the linker would not see to be missing: since 5 an entry has one
+/// argument more; since 6 an answer tells a padding byte, where that of an earlier library would say that there is none.
+const SINCE: [(u32, &str); 2] = [(5, "an entry that takes the pages"), (6, "the offset of a padding byte")];
 
 /// How to make the library.
 const MAKE: &str = "in Semblurick's folder (the Rattle toolchain, rt, is needed):
@@ -39,7 +40,8 @@ fn lacks(folder: &Path, library: &Path) -> Option<&'static str> {
     if !has_batch(library) {
         return Some("the call for several messages");
     }
-    installed(folder).filter(|version| *version < VERSION).map(|_| "an entry that takes the pages")
+    let version = installed(folder)?;
+    SINCE.into_iter().find(|(since, _)| version < *since).map(|(_, what)| what)
 }
 
 /// Links a library of a folder, and again where the file from which it comes has changed.

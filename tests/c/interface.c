@@ -151,13 +151,13 @@ static bool reserved_is_zero(void) {
     return true;
 }
 
-/* and nothing is fed */
+/* and nothing is fed, and no padding byte told */
 static bool rest_is_zero(void) {
-    return r.source == SEMBLURICK_FED_NOTHING && r.at == 0 && r.length == 0 && reserved_is_zero();
+    return r.source == SEMBLURICK_FED_NOTHING && r.at == 0 && r.length == 0 && r.padding == 0 && reserved_is_zero();
 }
 
 static bool is_zero(const struct semblurick_result *x) {
-    static const struct semblurick_result zero = {0, 0, 0, 0, 0, 0, 0, 0, 0, 0, {0}};
+    static const struct semblurick_result zero = {0, 0, 0, 0, 0, 0, 0, 0, 0, 0, 0, {0}};
     return !memcmp(x, &zero, sizeof zero);
 }
 
@@ -177,7 +177,7 @@ static void settings(void) {
     CHECK(s.vcpus == 1 && s.views == 1 && s.commands == 0 && s.events == 0 && s.tsc_speed == 0 && s.singlestep == 0 && s.vmfunc == 0);
     CHECK(s.eptp == 0 && s.ve == 0 && s.spp == 0 && s.descriptors == 0 && s.breakpoints_taken == 0 && s.execute_only == 0);
     CHECK(SEMBLURICK_BIT(KVMI_VM_GET_INFO) == 16 && SEMBLURICK_BIT(31) == 0x80000000 && SEMBLURICK_ALL == 0xFFFFFFFF);
-    CHECK(SEMBLURICK_VERSION == 5);
+    CHECK(SEMBLURICK_VERSION == 6);
 
     /* memory of zeros is a closed session */
     CHECK(!semblurick_is_open(&guest) && semblurick_ready(&guest, 0) == SEMBLURICK_CLOSED);
@@ -655,7 +655,7 @@ static void batches(void) {
     CHECK(offsetof(struct semblurick_batch_result, action) == 40 && offsetof(struct semblurick_batch_result, value) == 48 && offsetof(struct semblurick_batch_result, source) == 56);
     CHECK(offsetof(struct semblurick_batch_result, at) == 64 && offsetof(struct semblurick_batch_result, length) == 72 && offsetof(struct semblurick_batch_result, reserved) == 80);
     CHECK(offsetof(struct semblurick_result, source) == 56 && offsetof(struct semblurick_result, at) == 64 && offsetof(struct semblurick_result, length) == 72);
-    CHECK(offsetof(struct semblurick_result, reserved) == 80 && sizeof r.reserved == 16 && sizeof b.reserved == 16);
+    CHECK(offsetof(struct semblurick_result, padding) == 80 && offsetof(struct semblurick_result, reserved) == 88 && sizeof r.reserved == 8 && sizeof b.reserved == 16);
 
     /* a pause that waits has 24 bytes and a reply of 16, the version 8 and 32 */
     fresh_batch(), join_pause(1, 1), join_version();
@@ -798,7 +798,7 @@ static bool is_fed(uint64_t source, uint64_t at, uint64_t length, uint64_t value
     const struct semblurick_memory lent = semblurick_memory_of(memory, sizeof memory);
     const uint8_t *bytes = source == SEMBLURICK_FED_MESSAGE ? msg + at : source == SEMBLURICK_FED_GUEST ? memory + at : NULL;
     return r.count == 0 && r.offset == 0 && r.signal == SEMBLURICK_RESUME && r.vcpu == 0 && r.wait == 0 && r.action == 0 && r.value == value &&
-           r.source == source && r.at == at && r.length == length && reserved_is_zero() && semblurick_fed(msg, lent, &r) == bytes && semblurick_awaited(&guest, 0) == 0;
+           r.source == source && r.at == at && r.length == length && r.padding == 0 && reserved_is_zero() && semblurick_fed(msg, lent, &r) == bytes && semblurick_awaited(&guest, 0) == 0;
 }
 
 /* A fault at (gva, gpa) whose continue has this context, with two pages of guest memory: fed from byte `from` of ctx_data on. */
@@ -1002,6 +1002,231 @@ static void fed_by_batches(void) {
     CHECK(batch(most, 16) == SEMBLURICK_CLOSING && is_batch(8 + 296, 32, 0) && singly(16) == SEMBLURICK_CLOSING);
 }
 
+/* ---- which padding byte it was */
+
+/* The padding of each command, by offsets in the message: from the first to the last of each run. Message 13 has two entries here. */
+static const struct padded {
+    uint16_t id;
+    uint8_t runs[3][2];
+} commands[] = {
+    {KVMI_GET_VERSION, {{0, 0}}},
+    {KVMI_VM_CHECK_COMMAND, {{10, 15}}},
+    {KVMI_VM_CHECK_EVENT, {{10, 15}}},
+    {KVMI_VM_GET_INFO, {{0, 0}}},
+    {KVMI_VM_CONTROL_EVENTS, {{11, 15}}},
+    {KVMI_VM_READ_PHYSICAL, {{0, 0}}},
+    {KVMI_VM_WRITE_PHYSICAL, {{0, 0}}},
+    {KVMI_VCPU_GET_INFO, {{10, 15}}},
+    {KVMI_VCPU_PAUSE, {{10, 15}, {17, 23}}},
+    {KVMI_VCPU_CONTROL_EVENTS, {{10, 15}, {19, 23}}},
+    {KVMI_VCPU_CONTROL_CR, {{10, 15}, {17, 19}}},
+    {KVMI_VCPU_CONTROL_MSR, {{10, 15}, {17, 19}}},
+    {KVMI_VM_SET_PAGE_ACCESS, {{12, 15}, {25, 31}, {41, 47}}},
+    {KVMI_VCPU_CONTROL_SINGLESTEP, {{10, 15}, {17, 23}}},
+    {KVMI_VM_CONTROL_CMD_RESPONSE, {{11, 15}}},
+};
+enum { COMMANDS = sizeof commands / sizeof commands[0] };
+
+static bool is_padding(const struct padded *of, size_t at) {
+    for (size_t i = 0; i < 3; i++)
+        if (of->runs[i][0] && of->runs[i][0] <= at && at <= of->runs[i][1]) return true;
+    return false;
+}
+
+/* Puts a command into msg that succeeds, with replies on or off, and has no padding byte but zeros. Where it names a vCPU, that is 1. */
+static void begin_command(uint16_t id) {
+    struct { struct kvmi_vm_check_command command; struct kvmi_vm_check_event event; struct kvmi_vm_control_events events; } vm;
+    struct { struct kvmi_vcpu_pause pause; struct kvmi_vcpu_control_events events; struct kvmi_vcpu_control_cr cr; struct kvmi_vcpu_control_msr msr;
+             struct kvmi_vcpu_control_singlestep singlestep; } vcpu;
+    struct { struct kvmi_vm_set_page_access head; struct kvmi_page_access_entry entries[2]; } access;
+    struct kvmi_vm_control_cmd_response response;
+    struct kvmi_vm_write_physical place;
+    memset(&vm, 0, sizeof vm), memset(&vcpu, 0, sizeof vcpu), memset(&access, 0, sizeof access), memset(&response, 0, sizeof response);
+    vm.command.id = KVMI_VCPU_PAUSE, vm.event.id = KVMI_EVENT_CPUID, vm.events.event_id = KVMI_EVENT_CREATE_VCPU, vm.events.enable = 1;
+    vcpu.pause.wait = 1, vcpu.events.event_id = KVMI_EVENT_MSR, vcpu.events.enable = vcpu.cr.enable = vcpu.msr.enable = vcpu.singlestep.enable = 1;
+    vcpu.cr.cr = 3, vcpu.msr.msr = 0xC0000082;
+    access.head.count = 2, access.head.view = 1;
+    access.entries[0].gpa = 0x123456, access.entries[1].gpa = UINT64_MAX, access.entries[0].access = 5, access.entries[1].access = 1;
+    response.now = 1;
+    place.gpa = 4096, place.size = 4;
+
+    begin(id, 0xABCDEF01);
+    if (id >= KVMI_VCPU_GET_INFO && id != KVMI_VM_SET_PAGE_ACCESS && id != KVMI_VM_CONTROL_CMD_RESPONSE) add_vcpu(1);
+    switch (id) {
+    case KVMI_VM_CHECK_COMMAND: add(&vm.command, sizeof vm.command); break;
+    case KVMI_VM_CHECK_EVENT: add(&vm.event, sizeof vm.event); break;
+    case KVMI_VM_CONTROL_EVENTS: add(&vm.events, sizeof vm.events); break;
+    case KVMI_VM_READ_PHYSICAL: add(&place, sizeof place); break;
+    case KVMI_VM_WRITE_PHYSICAL: add(&place, sizeof place), add("\1\2\3\4", 4); break;
+    case KVMI_VCPU_PAUSE: add(&vcpu.pause, sizeof vcpu.pause); break;
+    case KVMI_VCPU_CONTROL_EVENTS: add(&vcpu.events, sizeof vcpu.events); break;
+    case KVMI_VCPU_CONTROL_CR: add(&vcpu.cr, sizeof vcpu.cr); break;
+    case KVMI_VCPU_CONTROL_MSR: add(&vcpu.msr, sizeof vcpu.msr); break;
+    case KVMI_VM_SET_PAGE_ACCESS: add(&access, sizeof access); break;
+    case KVMI_VCPU_CONTROL_SINGLESTEP: add(&vcpu.singlestep, sizeof vcpu.singlestep); break;
+    case KVMI_VM_CONTROL_CMD_RESPONSE: add(&response, sizeof response); break;
+    default: break;
+    }
+}
+
+/* The command in msg fails with EINVAL, byte `at` is told, and so many bytes go out: a reply, none, or a CMD_ERROR event. Nothing changes but
+ * the next event's seq, by such an event. */
+static bool is_told(size_t at, size_t bytes) {
+    struct kvmi_event_cmd_error error;
+    memcpy(&before, &guest, sizeof guest);
+    if (bytes == 16 ? reply() != -KVMI_EINVAL : send() != SEMBLURICK_HANDLED) return false;
+    if (bytes == 568) {
+        memcpy(&error, out + 552, sizeof error);
+        if (error.err != -KVMI_EINVAL || error.msg_seq != 0xABCDEF01) return false;
+        before.session.seq++;
+    }
+    uint64_t told = r.padding;
+    r.padding = 0;
+    return told == at && r.count == bytes && r.offset == 0 && r.signal == SEMBLURICK_NONE && r.vcpu == 0 && r.wait == 0 && r.action == 0 && r.value == 0 &&
+           rest_is_zero() && !memcmp(&before, &guest, sizeof guest);
+}
+
+/* Every padding byte of the command in msg: one by one, and together with all that stand behind it. */
+static void tell_each(const struct padded *of, size_t bytes) {
+    for (size_t at = 8; at < msg_size; at++) {
+        if (!is_padding(of, at)) continue;
+        for (unsigned value = 1; value < 256; value *= 2) msg[at] = (uint8_t)value, CHECK(is_told(at, bytes));
+        msg[at] = 0;
+    }
+    for (size_t at = msg_size; at-- > 8;)
+        if (is_padding(of, at)) msg[at] = 0xFF, CHECK(is_told(at, bytes));
+}
+
+/* A session under these settings with vCPUs 0 and 1 ready and, where `off` is set, replies off; with errors by events where `flags` is 1. */
+static void fresh_padding(const struct semblurick_settings *s, bool off, uint8_t flags) {
+    CHECK(semblurick_fresh(&guest, s) == SEMBLURICK_HANDLED && semblurick_ready(&guest, 0) == SEMBLURICK_HANDLED && semblurick_ready(&guest, 1) == SEMBLURICK_HANDLED);
+    if (!off) return;
+    begin_command(KVMI_VM_CONTROL_CMD_RESPONSE), msg[10] = flags;
+    CHECK(send() == SEMBLURICK_HANDLED && is_zero(&r));
+}
+
+static void padding(void) {
+    static const struct padded head = {KVMI_VM_SET_PAGE_ACCESS, {{12, 15}}};
+    const struct semblurick_settings s = settings_of(3, 2);
+    struct semblurick_settings few = s;
+    static struct semblurick fresh;
+    fresh_padding(&s, false, 0);
+    memcpy(&fresh, &guest, sizeof fresh);
+
+    for (size_t i = 0; i < COMMANDS; i++) {
+        const struct padded *of = &commands[i];
+        const uint16_t id = of->id;
+        CHECK(id == i + 1);
+
+        /* padding as it should be: no error, and none is told; nor is one whatever stands in the bytes that are no padding */
+        memcpy(&guest, &fresh, sizeof guest), begin_command(id);
+        CHECK(id == KVMI_VM_CONTROL_CMD_RESPONSE ? send() == SEMBLURICK_HANDLED && is_zero(&r) : reply() == 0 && rest_is_zero());
+        for (size_t at = 8; at < msg_size; at++)
+            for (unsigned value = 0; value < 256 && !is_padding(of, at); value += 15) {
+                memcpy(&guest, &fresh, sizeof guest), begin_command(id), msg[at] = (uint8_t)value;
+                (void)send();
+                CHECK(rest_is_zero());
+            }
+        memcpy(&guest, &fresh, sizeof guest);
+        if (!of->runs[0][0]) continue;
+
+        /* each byte, with replies on; and beside another cause of EINVAL, a vCPU, an event, a count or a flag out of range */
+        begin_command(id), tell_each(of, 16);
+        begin_command(id), msg[8] = 200;
+        CHECK(reply() == -KVMI_EINVAL && rest_is_zero());
+        tell_each(id == KVMI_VM_SET_PAGE_ACCESS ? &head : of, 16);
+
+        /* with replies off, and with errors by events */
+        for (uint8_t flags = 0; flags < 2; flags++) {
+            fresh_padding(&s, true, flags), begin_command(id), msg[10] = id == KVMI_VM_CONTROL_CMD_RESPONSE ? flags : 0;
+            if (id == KVMI_VCPU_GET_INFO) {
+                msg[10] = 1;
+                CHECK(send() == SEMBLURICK_CLOSING && is_zero(&r));
+            } else {
+                CHECK(send() == SEMBLURICK_HANDLED && r.count == 0 && rest_is_zero());
+                tell_each(of, flags ? 568 : 0);
+            }
+        }
+
+        /* not allowed, but for 2 and 3, which always are */
+        few.commands = 0, few.events = SEMBLURICK_ALL;
+        fresh_padding(&few, false, 0), begin_command(id), msg[15] = 1;
+        CHECK(id > KVMI_VM_CHECK_EVENT ? reply() == -KVMI_EPERM && rest_is_zero() : is_told(15, 16));
+
+        /* what closes: a byte too many, a byte too few */
+        for (size_t size = msg_size - 1; size <= msg_size + 1; size += 2) {
+            struct kvmi_msg_hdr header;
+            fresh_padding(&s, false, 0), begin_command(id), msg[15] = 1;
+            header.id = id, header.size = (uint16_t)(size - sizeof header), header.seq = 1;
+            CHECK(semblurick_message(&guest, msg, size, semblurick_output_of(out, sizeof out), semblurick_no_memory(), &r) == SEMBLURICK_CLOSING && is_zero(&r));
+            if (id == KVMI_VM_SET_PAGE_ACCESS) continue; /* a size that its count has not is EINVAL */
+            fresh_padding(&s, false, 0), begin_command(id), msg[15] = 1, memcpy(msg, &header, sizeof header);
+            CHECK(semblurick_message(&guest, msg, size, semblurick_output_of(out, sizeof out), semblurick_no_memory(), &r) == SEMBLURICK_CLOSING && is_zero(&r));
+        }
+
+        /* refusals: a short output, a closed session */
+        fresh_padding(&s, false, 0), begin_command(id), msg[15] = 1;
+        CHECK(semblurick_message(&guest, msg, msg_size, semblurick_output_of(out, sizeof out - 1), semblurick_no_memory(), &r) == SEMBLURICK_SHORT_OUT && is_zero(&r));
+        CHECK(is_told(15, 16));
+        msg_size--;
+        CHECK(send() == SEMBLURICK_CLOSING && is_zero(&r));
+        msg_size++;
+        CHECK(send() == SEMBLURICK_CLOSED && is_zero(&r));
+    }
+
+    /* before a vCPU that is not ready, and before an event that is not allowed; those errors tell no byte. Ids that are unknown */
+    few.commands = SEMBLURICK_ALL, few.events = 0;
+    fresh_padding(&few, false, 0);
+    begin_command(KVMI_VCPU_CONTROL_CR), msg[8] = 2;
+    CHECK(reply() == -KVMI_EAGAIN && rest_is_zero());
+    msg[19] = 7, CHECK(is_told(19, 16));
+    begin_command(KVMI_VCPU_CONTROL_EVENTS);
+    CHECK(reply() == -KVMI_EPERM && rest_is_zero());
+    msg[23] = 7, CHECK(is_told(23, 16));
+    for (uint16_t id = 0; id < 300; id = (uint16_t)(id ? id + 1 : 17)) {
+        begin(id, 1), add("\1\2\3\4\5\6\7\1\2\3\4\5\6\7", 15);
+        CHECK(reply() == -KVMI_ENOSYS && rest_is_zero());
+    }
+
+    /* message 15 that asks for errors by events without event 13 closes, but not with a padding byte; message 9 without event 2 does with one, too */
+    begin_command(KVMI_VM_CONTROL_CMD_RESPONSE), msg[10] = 1, msg[11] = 1;
+    CHECK(is_told(11, 16));
+    msg[11] = 0;
+    CHECK(send() == SEMBLURICK_CLOSING && is_zero(&r));
+    fresh_padding(&few, false, 0), begin_command(KVMI_VCPU_PAUSE), msg[17] = 1;
+    CHECK(send() == SEMBLURICK_CLOSING && is_zero(&r));
+
+    /* the entries of message 13: the last byte of the longest message, and none of them where the count does not fit */
+    fresh_padding(&s, false, 0), begin_command(KVMI_VM_SET_PAGE_ACCESS);
+    while (msg_size + 16 <= SEMBLURICK_MESSAGE_MAX) add(msg + 16, 16);
+    const uint16_t count = (uint16_t)((msg_size - 16) / 16);
+    memcpy(msg + 8, &count, sizeof count), msg[msg_size - 1] = 1;
+    CHECK(msg_size == 65536 && is_told(65535, 16));
+    msg[msg_size - 1 - 16] = 1, CHECK(is_told(65535 - 16, 16));
+    for (int by = -1; by < 2; by += 2) {
+        const uint16_t other_count = (uint16_t)(count + by);
+        memcpy(msg + 8, &other_count, sizeof other_count);
+        CHECK(reply() == -KVMI_EINVAL && rest_is_zero());
+    }
+    msg[15] = 1, CHECK(is_told(15, 16));
+
+    /* EVENT_REPLY closes by its padding, and tells none; taken, it tells none either */
+    const struct semblurick_output o = semblurick_output_of(out, sizeof out);
+    begin_pause(0, 0);
+    CHECK(reply() == 0 && semblurick_enter(&guest, 0, state, sizeof state, o, &r) == SEMBLURICK_HANDLED && r.count == 552 && rest_is_zero());
+    memcpy(&fresh, &guest, sizeof fresh);
+    for (size_t at = 10; at < 24; at = at == 15 ? 18 : at + 1) {
+        memcpy(&guest, &fresh, sizeof guest);
+        CHECK(answer_pause(0, 0, 0) == SEMBLURICK_HANDLED && is_zero(&r));
+        memcpy(&guest, &fresh, sizeof guest), msg[at] = 1;
+        CHECK(msg_closes());
+    }
+
+    /* a batch tells none: what is reserved is 0, as in every batch here; the bytes are as singly */
+    fresh_batch(), begin_command(KVMI_VCPU_CONTROL_CR), msg[19] = 7, join(), join_version();
+    CHECK(batch(sizeof wide, 16) == SEMBLURICK_HANDLED && is_batch(24 + 8, 16 + 32, 0) && singly(16) == SEMBLURICK_HANDLED);
+}
+
 /* the functions below the calls, over parts that stand apart */
 static void parts(void) {
     static struct semblurick_session session;
@@ -1013,7 +1238,10 @@ static void parts(void) {
     CHECK(semblurick_raw_ready(&session, 0, &r) == SEMBLURICK_HANDLED && semblurick_raw_is_ready(&session, 0) == 1);
     begin_pause(0, 1);
     CHECK(semblurick_raw_message(&session, &vcpus, &page_words, msg, msg_size, out, sizeof out, memory, sizeof memory, &r) == SEMBLURICK_HANDLED);
-    CHECK(r.signal == SEMBLURICK_KICK && semblurick_raw_pauses(&session, &vcpus, 0) == 1);
+    CHECK(r.signal == SEMBLURICK_KICK && semblurick_raw_pauses(&session, &vcpus, 0) == 1 && rest_is_zero());
+    msg[17] = 1;
+    CHECK(semblurick_raw_message(&session, &vcpus, &page_words, msg, msg_size, out, sizeof out, memory, sizeof memory, &r) == SEMBLURICK_HANDLED);
+    CHECK(r.signal == SEMBLURICK_NONE && semblurick_raw_pauses(&session, &vcpus, 0) == 1 && r.padding == 17 && reserved_is_zero());
     begin(KVMI_GET_VERSION, 1);
     CHECK(semblurick_raw_batch(&session, &vcpus, &page_words, msg, msg_size, out, sizeof out, codes, 1, memory, sizeof memory, &b) == SEMBLURICK_HANDLED);
     CHECK(is_batch(8, 32, 0));
@@ -1198,6 +1426,7 @@ int main(void) {
     batches();
     faults();
     fed_by_batches();
+    padding();
     parts();
     execute_only();
     limits();

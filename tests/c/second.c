@@ -31,6 +31,10 @@ SREG(gdt, GDT); SREG(idt, IDT); SREG(cr0, CR0); SREG(cr2, CR2); SREG(cr3, CR3); 
 SREG(efer, EFER); SREG(apic_base, APIC_BASE); SREG(interrupt_bitmap, INTERRUPT_BITMAP);
 #endif
 SAME(SEMBLURICK_STATE_MSRS + 9 * 8, SEMBLURICK_STATE_BYTES);
+SAME(offsetof(struct semblurick_result, length), 72);
+SAME(offsetof(struct semblurick_result, padding), 80);
+SAME(offsetof(struct semblurick_result, reserved), 88);
+SAME(sizeof(struct semblurick_result), 96);
 
 size_t second_unit(void);
 size_t second_unit(void) {
@@ -46,5 +50,14 @@ size_t second_unit(void) {
     is_wrong |= semblurick_fed(bytes, memory, &one) != bytes + 1 || semblurick_batch_fed(bytes, memory, &several) != bytes + 5;
     one.source = SEMBLURICK_FED_GUEST, several.source = SEMBLURICK_FED_MESSAGE;
     is_wrong |= semblurick_fed(bytes, memory, &one) != bytes + 5 || semblurick_batch_fed(bytes, memory, &several) != bytes + 1;
-    return !is_wrong && semblurick_fresh(&guest, &s) == SEMBLURICK_HANDLED && semblurick_is_open(&guest) ? sizeof guest : 0;
+    is_wrong |= semblurick_fresh(&guest, &s) != SEMBLURICK_HANDLED || !semblurick_is_open(&guest);
+
+    /* KVMI_VM_CHECK_COMMAND, which is always allowed: its last byte is padding */
+    static uint8_t check[16] = {2, 0, 8, 0, 0, 0, 0, 0, 1}, out[SEMBLURICK_MESSAGE_OUT];
+    for (uint8_t last = 0; last < 2; last++) {
+        check[15] = last;
+        is_wrong |= semblurick_message(&guest, check, sizeof check, semblurick_output_of(out, sizeof out), semblurick_no_memory(), &one) != SEMBLURICK_HANDLED;
+        is_wrong |= one.count != 16 || out[8] != (last ? 0xEA : 0) || one.padding != (last ? 15 : 0) || one.reserved[0] != 0;
+    }
+    return is_wrong ? 0 : sizeof guest;
 }

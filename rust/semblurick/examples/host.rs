@@ -1,6 +1,6 @@
 //! A host in Rust: takes the messages that stand end to end in a file, answers them, programs what they switch, lets a kicked vCPU
 //! enter the guest, asks the tool about the guest's writes to CR3 and its reads of guarded pages, and hands the session over by an image.
-//! Usage: host FILE
+//! Its log has a line for each, and names the padding byte that a command failed for. Usage: host FILE
 use semblurick::{
     own, Access, Action, Answer, Command, Entry, Event, Feed, Refusal, Session, Settings, Signal, ENTRY_OUT, HEADER_BYTES,
     MESSAGE_OUT, PAGE_BYTES, STATE_BYTES,
@@ -203,6 +203,10 @@ impl Host {
             }
         };
         println!("message {}: answer {}, {} bytes", message[0], answer.number(), answer.bytes().len());
+        if let Some(offset) = answer.padding() {
+            // of which the tool reads that it is EINVAL, and with replies off not even that
+            println!("message {}: byte {offset}, padding, is not zero", message[0]);
+        }
         if answer.is_closing() {
             // everything is off, and no reply comes any more
             self.hardware = Hardware::all(&self.session);

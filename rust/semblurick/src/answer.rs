@@ -4,6 +4,7 @@ use crate::show::{self, Hex};
 use crate::{Action, Errno, Event, MAX_VCPUS, STATE_BYTES};
 use core::fmt;
 use core::iter::{Copied, FusedIterator};
+use core::num::NonZeroU32;
 use core::slice;
 
 /// How many signals a line for a log has.
@@ -202,6 +203,9 @@ pub enum Answer<'a> {
         signal: Signal,
         /// What the instruction reads, where the signal resumes a vCPU from a page fault.
         feed: Feed<'a>,
+        /// Of a command that failed since its padding is not all zero, the offset in the message of the first byte that is not:
+        /// [`padding`](Answer::padding).
+        padding: Option<NonZeroU32>,
     },
     /// It broke a rule that closes the session. Nothing goes to the tool, and every later call is refused.
     Closing,
@@ -251,6 +255,39 @@ impl<'a> Answer<'a> {
         }
     }
 
+    /// For whoever is asked about an `EINVAL`: which padding byte it was. Where a command failed since its padding is not all zero, the
+    /// offset in the message, header included, of the first byte of it that is not. It is told with replies off, too, when there are no
+    /// bytes and so no [`error`](Answer::error); and beside any other cause of `EINVAL`, which may be left once the padding is put right.
+    ///
+    /// None where all padding is zero, so that an `EINVAL` has another cause: with any other error, therefore, and with none. None also
+    /// where padding was not looked at: of a command that is unknown or not allowed, and where the session closes; and so of
+    /// `KVMI_EVENT_REPLY`, which closes it where its padding is not all zero. The padding of the entries of `KVMI_VM_SET_PAGE_ACCESS` is
+    /// looked at only where the message has as many of them as its count says.
+    ///
+    /// A [`Batch`] tells none: to see which byte it was, the message is taken by itself.
+    ///
+    /// ```
+    /// use semblurick::{Errno, Session, Settings, MESSAGE_OUT};
+    ///
+    /// let mut session = Session::fresh(&Settings::allowing_all(1))?;
+    /// session.ready(0)?;
+    /// let mut out = [0; MESSAGE_OUT];
+    ///
+    /// // KVMI_VCPU_CONTROL_CR: enable 1, CR3, and a byte of its padding is not zero
+    /// let message = [11, 0, 16, 0, 0, 0, 0, 0, 0, 0, 0, 0, 0, 0, 0, 0, 1, 0, 0, 7, 3, 0, 0, 0];
+    /// let answer = session.message(&message, &mut out, &mut [])?;
+    /// assert_eq!((answer.error(), answer.padding()), (Some(Errno::Einval), Some(19)));
+    /// assert_eq!(answer.to_string(), "EINVAL, 16 bytes, no signal, byte 19 of the message, padding, is not zero");
+    /// # Ok::<(), semblurick::Refusal>(())
+    /// ```
+    #[must_use]
+    pub const fn padding(&self) -> Option<usize> {
+        match self {
+            Answer::Handled { padding: Some(offset), .. } => Some(offset.get() as usize),
+            Answer::Handled { padding: None, .. } | Answer::Closing | Answer::NoPage { .. } => None,
+        }
+    }
+
     /// Whether the message closed the session.
     #[must_use]
     pub const fn is_closing(&self) -> bool {
@@ -263,6 +300,11 @@ impl<'a> Answer<'a> {
     pub fn error(&self) -> Option<Errno> {
         show::error(self.bytes())
     }
+
+    /// The same, and where there are no bytes the error that a padding byte stands for.
+    fn failure(&self) -> Option<Errno> {
+        self.error().or(self.padding().map(|_| Errno::Einval))
+    }
 }
 
 impl fmt::Display for Answer<'_> {
@@ -270,27 +312,36 @@ impl fmt::Display for Answer<'_> {
         match self {
             Answer::Closing => f.write_str("the session closes"),
             Answer::NoPage { signal } => write!(f, "taken, no bytes, {signal}, no guest page to feed it from"),
-            Answer::Handled { bytes: [], signal, feed: Feed::None } => write!(f, "taken, no bytes, {signal}"),
-            Answer::Handled { bytes: [], signal, feed } => write!(f, "taken, no bytes, {signal}, {feed}"),
-            Answer::Handled { bytes, signal, .. } => match self.error() {
-                Some(error) => write!(f, "{error}, {} bytes, {signal}", bytes.len()),
-                None => write!(f, "done, {} bytes, {signal}", bytes.len()),
-            },
+            Answer::Handled { bytes, signal, feed, padding } => {
+                match (self.failure(), bytes.len()) {
+                    (Some(error), 0) => write!(f, "{error}, no bytes, {signal}")?,
+                    (Some(error), count) => write!(f, "{error}, {count} bytes, {signal}")?,
+                    (None, 0) => write!(f, "taken, no bytes, {signal}")?,
+                    (None, count) => write!(f, "done, {count} bytes, {signal}")?,
+                }
+                if *feed != Feed::None {
+                    write!(f, ", {feed}")?;
+                }
+                padding.map_or(Ok(()), |offset| write!(f, ", {}", Padding(offset)))
+            }
         }
     }
 }
 
 impl fmt::Debug for Answer<'_> {
     fn fmt(&self, f: &mut fmt::Formatter<'_>) -> fmt::Result {
-        let (bytes, signal, feed) = match self {
-            Answer::Handled { bytes, signal, feed } => (bytes, signal, feed),
+        let (bytes, signal, feed, padding) = match self {
+            Answer::Handled { bytes, signal, feed, padding } => (bytes, signal, feed, padding),
             Answer::Closing => return f.write_str("Closing"),
             Answer::NoPage { signal } => return f.debug_struct("NoPage").field("signal", signal).finish(),
         };
         let mut list = f.debug_struct("Handled");
         show::header(&mut list, bytes);
-        if let Some(error) = self.error() {
+        if let Some(error) = self.failure() {
             list.field("error", &error);
+        }
+        if let Some(offset) = padding {
+            list.field("because", &Padding(*offset));
         }
         list.field("bytes", &Hex(bytes)).field("signal", signal);
         if *feed != Feed::None {
@@ -300,12 +351,29 @@ impl fmt::Debug for Answer<'_> {
     }
 }
 
+/// The offset of a padding byte, as a log has it.
+struct Padding(NonZeroU32);
+
+impl fmt::Display for Padding {
+    fn fmt(&self, f: &mut fmt::Formatter<'_>) -> fmt::Result {
+        write!(f, "byte {} of the message, padding, is not zero", self.0)
+    }
+}
+
+impl fmt::Debug for Padding {
+    fn fmt(&self, f: &mut fmt::Formatter<'_>) -> fmt::Result {
+        fmt::Display::fmt(self, f)
+    }
+}
+
 /// What became of a batch. `{}` is a line for a log, and `{:?}` shows the bytes too.
 ///
 /// What a host does, in this order: what the used messages name to hardware, and where it is [`closing`](Batch::closing) every guard off
 /// the guest; [`signals`](Batch::signals); [`bytes`](Batch::bytes) to the tool, and where it is closing the connection ends; last
 /// [`resume`](Batch::resume), from a page fault with its [`feed`](Batch::feed), and where it is closing every vCPU that waited goes on,
 /// with whatever event, as if there were no tool.
+///
+/// It does not tell which padding byte a command failed for, as [`Answer::padding`] does: for that, the message is taken by itself.
 #[derive(Clone, Copy, PartialEq, Eq)]
 #[non_exhaustive]
 #[must_use = "the bytes go to the tool, the signals are to be followed, and the input may not be used up"]

@@ -42,8 +42,9 @@ pub struct Outcome {
     pub source: u64,
     pub at: u64,
     pub length: u64,
+    pub padding: u64,
     /// Kept for later; 0 in every answer.
-    pub reserved: [u64; 2],
+    pub reserved: u64,
 }
 
 /// What a batch tells; as large as an [`Outcome`].
@@ -94,6 +95,7 @@ const _: () = {
     assert!(core::mem::size_of::<Outcome>() == 96);
     assert!(core::mem::size_of::<BatchOutcome>() == 96);
     assert!(core::mem::offset_of!(Outcome, source) == 56 && core::mem::offset_of!(BatchOutcome, source) == 56);
+    assert!(core::mem::offset_of!(Outcome, padding) == 80 && core::mem::offset_of!(Outcome, reserved) == 88);
     assert!(core::mem::size_of::<Vcpu>() == 56);
 };
 

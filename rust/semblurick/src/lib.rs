@@ -40,7 +40,7 @@
 //!
 //! What the guest does and the tool may watch, a write to CR3 for one, the host offers as an event: [`Session::enter_event`]. Where it
 //! is a read of a guarded page, the tool may say what the guest reads there: [`Feed`]. Several messages that came at once, the host
-//! hands over at once: [`Session::batch`].
+//! hands over at once: [`Session::batch`]. Which padding byte a command failed for is for the host's log: [`Answer::padding`].
 //!
 //! # Building
 //! `build.rs` links `libsemblurick.a` from the folder that `SEMBLURICK_LIB_DIR` names, or from the repository's `target/staticlib`, where

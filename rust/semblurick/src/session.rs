@@ -2,6 +2,7 @@
 
 use crate::{ffi, Action, Answer, Batch, Entry, Feed, Refusal, Settings, Signal};
 use core::mem::MaybeUninit;
+use core::num::NonZeroU32;
 use core::ptr::addr_of_mut;
 
 /// A session, with its tables: 43,080 bytes.
@@ -550,28 +551,28 @@ impl<'t> Told<'t> {
         Told { number, values: unsafe { place.assume_init_ref() } }
     }
 
-    /// Whether a message was taken, as almost every one is, and nothing is fed: one test for both.
+    /// Whether a message was taken, as almost every one is, nothing is fed, and no padding byte is told: one test for all three.
     #[inline]
     fn is_usual(&self) -> bool {
-        self.number | self.values.source as u32 == 0
+        self.number | self.values.source as u32 | self.values.padding as u32 == 0
     }
 
     /// The answer then.
     #[inline]
     fn usual<'a>(&self, out: &'a [u8]) -> Answer<'a> {
-        Answer::Handled { bytes: &out[..self.values.count as usize], signal: self.signal(), feed: Feed::None }
+        Answer::Handled { bytes: &out[..self.values.count as usize], signal: self.signal(), feed: Feed::None, padding: None }
     }
 
     /// The answer to any message, or the refusal. The guest's memory is there where a reference stands for it.
     #[cold]
     fn unusual<'a>(self, message: &'a [u8], out: &'a [u8], guest: Option<&'a [u8]>) -> Result<Answer<'a>, Refusal> {
-        let &ffi::Outcome { source, at, length, .. } = self.values;
+        let &ffi::Outcome { source, at, length, padding, .. } = self.values;
         match self.number {
             1 => Ok(Answer::Closing),
             NO_PAGE => Ok(Answer::NoPage { signal: self.signal() }),
             _ => {
                 let (bytes, feed) = (&out[..self.done()?], Feed::of(source, at, length, message, guest));
-                Ok(Answer::Handled { bytes, signal: self.signal(), feed })
+                Ok(Answer::Handled { bytes, signal: self.signal(), feed, padding: NonZeroU32::new(padding as u32) })
             }
         }
     }

@@ -94,6 +94,64 @@ fn answers_say_what_happened() {
     assert!(session.is_closed());
 }
 
+#[test]
+fn a_padding_byte_is_said() {
+    let mut session = Session::fresh(&Settings::allowing_all(2)).unwrap();
+    session.ready(1).unwrap();
+    // KVMI_VCPU_CONTROL_CR: padding at 17 to 19, and cr at 20
+    let watch = |seq, padding, cr| on_vcpu(11, seq, 1, [1, 0, 0, padding, cr, 0, 0, 0]);
+    let reply = |seq| format!("[0b 00 08 00 {seq:02x} 00 00 00 ea ff ff ff 00 00 00 00]");
+    says(
+        &mut session,
+        &watch(1, 7, 3),
+        "EINVAL, 16 bytes, no signal, byte 19 of the message, padding, is not zero",
+        &format!(
+            "Ok(Handled {{ id: KVMI_VCPU_CONTROL_CR, seq: 1, error: EINVAL, because: byte 19 of the message, padding, is not zero, \
+             bytes: {}, signal: None }})",
+            reply(1)
+        ),
+    );
+    // another cause of the same error: no byte is said
+    says(
+        &mut session,
+        &watch(2, 0, 2),
+        "EINVAL, 16 bytes, no signal",
+        &format!("Ok(Handled {{ id: KVMI_VCPU_CONTROL_CR, seq: 2, error: EINVAL, bytes: {}, signal: None }})", reply(2)),
+    );
+    // a batch says none
+    batch_says(
+        &mut session,
+        &watch(3, 7, 3),
+        "used 24 bytes, wrote 16, no signal",
+        &format!(
+            "Ok(Batch {{ used: 24, messages: [KVMI_VCPU_CONTROL_CR 3 EINVAL], bytes: {}, signals: [], resume: None, closing: \
+             false }})",
+            reply(3)
+        ),
+    );
+    // replies off, but for errors by events
+    let off = |flags| [15, 0, 8, 0, 4, 0, 0, 0, 0, 1, flags, 0, 0, 0, 0, 0];
+    assert_eq!(said(&mut session, &off(1)).0, "taken, no bytes, no signal");
+    let (line, shown) = said(&mut session, &watch(5, 7, 3));
+    assert_eq!(line, "EINVAL, 568 bytes, no signal, byte 19 of the message, padding, is not zero");
+    assert!(
+        shown.starts_with(
+            "Ok(Handled { id: KVMI_EVENT, seq: 0, event: KVMI_EVENT_CMD_ERROR, vcpu: 0, error: EINVAL, because: byte 19 of the \
+             message, padding, is not zero, bytes: [11 00"
+        ),
+        "{shown}"
+    );
+    // and off: there are no bytes, and the error is said all the same
+    assert_eq!(said(&mut session, &off(0)).0, "taken, no bytes, no signal");
+    says(
+        &mut session,
+        &watch(6, 7, 3),
+        "EINVAL, no bytes, no signal, byte 19 of the message, padding, is not zero",
+        "Ok(Handled { error: EINVAL, because: byte 19 of the message, padding, is not zero, bytes: [], signal: None })",
+    );
+    says(&mut session, &watch(7, 0, 2), "taken, no bytes, no signal", "Ok(Handled { bytes: [], signal: None })");
+}
+
 /// A batch as a line of a log and as `{:?}` shows it.
 fn batch_says(session: &mut Session, input: &[u8], line: &str, shown: &str) {
     let (mut out, mut signals) = ([0; 3 * MESSAGE_OUT], [0; 32]);

@@ -1,5 +1,5 @@
-//! The wrapper's own promises: settings by name, lookups, events that are offered, page faults, batches, the list form, in place and on
-//! threads.
+//! The wrapper's own promises: settings by name, lookups, events that are offered, page faults, padding bytes, batches, the list form, in
+//! place and on threads.
 use semblurick::{
     own, vcpu_list, Access, Action, Answer, Batch, Command, CommandSet, Entry, Errno, Event, EventSet, Features, Feed, Page,
     Pages, Refusal, Session, Settings, Signal, Signals, Vcpu, ENTRY_OUT, EVENT_MAX, IMAGE_MAX, MAX_VCPUS, MAX_VIEWS,
@@ -591,6 +591,110 @@ fn fed_from_behind_a_pointer() {
         let done = unsafe { twin.batch_at(&message, &mut out, &mut signals, lent) }.unwrap();
         assert_eq!((done.number(), done.used, done.feed, done.no_page), (number, 296, feed, number == 12));
     }
+}
+
+/// Commands that succeed, with the offsets of their padding: from the first to the last of each run.
+fn padded() -> Vec<(Vec<u8>, Vec<std::ops::RangeInclusive<usize>>)> {
+    vec![
+        (message(2, &[9, 0, 0, 0, 0, 0, 0, 0]), vec![10..=15]),
+        (message(3, &[5, 0, 0, 0, 0, 0, 0, 0]), vec![10..=15]),
+        (message(5, &[12, 0, 1, 0, 0, 0, 0, 0]), vec![11..=15]),
+        (message(8, &[1, 0, 0, 0, 0, 0, 0, 0]), vec![10..=15]),
+        (on_vcpu(9, 1, [1, 0, 0, 0, 0, 0, 0, 0]), vec![10..=15, 17..=23]),
+        (on_vcpu(10, 1, [5, 0, 1, 0, 0, 0, 0, 0]), vec![10..=15, 19..=23]),
+        (on_vcpu(11, 1, [1, 0, 0, 0, 3, 0, 0, 0]), vec![10..=15, 17..=19]),
+        (on_vcpu(12, 1, [1, 0, 0, 0, 0x82, 0, 0, 0xC0]), vec![10..=15, 17..=19]),
+        (access(0, &[(7, 5), (9, 1)]), vec![12..=15, 25..=31, 41..=47]),
+        (on_vcpu(14, 1, [1, 0, 0, 0, 0, 0, 0, 0]), vec![10..=15, 17..=23]),
+        (message(15, &[1, 0, 0, 0, 0, 0, 0, 0]), vec![11..=15]),
+    ]
+}
+
+/// The first padding byte of a command that is not zero is told: every one, with replies on, behind a pointer, with replies off, and none
+/// where another byte is wrong.
+#[test]
+fn padding_bytes() {
+    let (mut out, mut guest) = ([0; MESSAGE_OUT], vec![0u8; 4096]);
+    for (clean, runs) in padded() {
+        let is_padding = |at: usize| runs.iter().any(|run| run.contains(&at));
+        let mut session = begun();
+        let answer = session.clone().message(&clean, &mut out, &mut guest).unwrap().padding();
+        assert_eq!(answer, None);
+        for at in 8..clean.len() {
+            let mut wrong = clean.clone();
+            wrong[at] |= 0x80;
+            let answer = if is_padding(at) { Some(at) } else { None };
+            assert_eq!(session.clone().message(&wrong, &mut out, &mut guest).unwrap().padding(), answer, "{wrong:?}");
+        }
+        // from each on: the first; nothing changes
+        let (before, mut wrong) = (all(&session), clean.clone());
+        for at in (8..clean.len()).rev().filter(|at| is_padding(*at)) {
+            wrong[at] = 1;
+            let answer = session.message(&wrong, &mut out, &mut guest).unwrap();
+            assert_eq!((answer.number(), answer.error(), answer.padding()), (0, Some(Errno::Einval), Some(at)));
+            assert_eq!((answer.bytes().len(), answer.signal(), answer.feed()), (16, Signal::None, Feed::None));
+            assert!(matches!(answer, Answer::Handled { padding: Some(offset), .. } if offset.get() as usize == at));
+            let lent = std::ptr::slice_from_raw_parts_mut(guest.as_mut_ptr(), guest.len());
+            // SAFETY: nothing else uses the memory while the call runs.
+            let answer = unsafe { session.message_at(&wrong, &mut out, lent) }.unwrap();
+            assert_eq!((answer.error(), answer.padding()), (Some(Errno::Einval), Some(at)));
+        }
+        assert!(all(&session) == before);
+        // with another cause of EINVAL beside it: of 13 a count that does not fit, so that no entry is looked at
+        wrong[8] = 200;
+        let first = *runs[0].start();
+        assert_eq!(session.message(&wrong, &mut out, &mut guest).unwrap().padding(), Some(first));
+        runs[0].clone().for_each(|at| wrong[at] = 0);
+        let next = runs.get(1).map(|run| *run.start()).filter(|_| clean[0] != 13);
+        let answer = session.message(&wrong, &mut out, &mut guest).unwrap();
+        assert_eq!((answer.error(), answer.padding()), (Some(Errno::Einval), next));
+        // a batch has the same bytes
+        let mut signals = [0; 1];
+        wrong[first] = 1;
+        let done = session.batch(&wrong, &mut out, &mut signals, &mut guest).unwrap();
+        assert_eq!((done.number(), done.used, done.bytes.len(), done.listed), (0, wrong.len(), 16, &[][..]));
+
+        // not allowed, but for 2 and 3
+        let mut few = Session::fresh(&Settings::allowing_all(2).commands(CommandSet::NONE)).unwrap();
+        let answer = few.message(&wrong, &mut out, &mut guest).unwrap();
+        let told = if clean[0] < 4 { (Some(Errno::Einval), Some(first)) } else { (Some(Errno::Eperm), None) };
+        assert_eq!((answer.error(), answer.padding()), told);
+
+        // replies off: no bytes, and no error in them; message 8 closes
+        send(&mut session, &[message(15, &[0, 1, 0, 0, 0, 0, 0, 0])]);
+        let answer = session.message(&wrong, &mut out, &mut guest).unwrap();
+        let told = if clean[0] == 8 { (1, None) } else { (0, Some(first)) };
+        assert_eq!((answer.number(), answer.padding(), answer.error(), answer.bytes()), (told.0, told.1, None, &[][..]));
+    }
+
+    // unknown; cut; a reply to an event, whose padding closes
+    let (mut session, unknown, whole) = (begun(), message(99, &[0xFF; 8]), message(11, &[0xFF; 16]));
+    let answer = session.message(&unknown, &mut out, &mut guest).unwrap();
+    assert_eq!((answer.error(), answer.padding()), (Some(Errno::Enosys), None));
+    let mut reply = reply(1, 0, Action::Continue, Event::PauseVcpu, &[]);
+    for at in [None, Some(10), Some(15), Some(18), Some(23)] {
+        let mut session = session.clone();
+        send(&mut session, &[on_vcpu(9, 1, [0; 8])]);
+        assert!(!session.enter(1, &[0; STATE_BYTES], &mut out).unwrap().may_run());
+        at.into_iter().for_each(|at| reply[at] = 1);
+        let answer = session.message(&reply, &mut out, &mut guest).unwrap();
+        assert_eq!((answer.number(), answer.padding()), (u32::from(at.is_some()), None));
+        at.into_iter().for_each(|at| reply[at] = 0);
+    }
+    let cut = session.message(&whole[..23], &mut out, &mut guest).unwrap();
+    assert_eq!((cut, cut.padding()), (Answer::Closing, None));
+}
+
+/// The longest message that has entries: its last byte is padding.
+#[test]
+fn the_last_padding_byte() {
+    let mut session = begun();
+    let mut longest = access(0, &[(1, 7); 4095]);
+    *longest.last_mut().unwrap() = 1;
+    let mut out = [0; MESSAGE_OUT];
+    assert_eq!(session.message(&longest, &mut out, &mut []).unwrap().padding(), Some(65_535));
+    longest[15] = 1;
+    assert_eq!(session.message(&longest, &mut out, &mut []).unwrap().padding(), Some(15));
 }
 
 /// What a batch is lent.

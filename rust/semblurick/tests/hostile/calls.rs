@@ -28,6 +28,8 @@ pub const ENDS: [&str; 4] = ["the input is used up", "a resume", "short output",
 
 pub const FED: [&str; 3] = ["nothing", "the message", "guest memory"];
 
+pub const PADDING: [&str; 3] = ["EINVAL, and none is told", "EINVAL", "replies are off"];
+
 pub const LOOKUPS: [&str; 12] = [
     "is_open",
     "is_ready",
@@ -58,6 +60,8 @@ pub struct Hostile {
     pub fed: [[u64; 3]; 2],
     /// Messages that ask for execute-only pages, access 4: refused without the flag, and taken with it.
     pub execute_only: [u64; 2],
+    /// Messages that are invalid: without a padding byte, and with one; and those with one while replies are off.
+    pub padding: [u64; 3],
     /// By event that was offered: passed over, written.
     pub events: [[u64; 2]; 15],
     /// By lookup: nothing on, something on.
@@ -82,6 +86,7 @@ impl Hostile {
             ends: [0; 4],
             fed: [[0; 3]; 2],
             execute_only: [0; 2],
+            padding: [0; 3],
             events: [[0; 2]; 15],
             lookups: [[0; 2]; 12],
             awaited: None,
@@ -157,7 +162,7 @@ impl Hostile {
         first
     }
 
-    /// A call with a result of twelve words: all of it is written, and what is reserved is 0.
+    /// A call with a result of twelve words: all of it is written, and the last one, which is reserved, is 0.
     fn called(&mut self, kind: usize, reads: impl Fn(u64) -> Reads, call: impl Fn(&Side) -> u64) -> (u64, [u64; 12]) {
         // SAFETY: there is a result's room.
         unsafe {
@@ -168,7 +173,7 @@ impl Hostile {
         // SAFETY: any bits are numbers.
         let [first, second] = [&self.end, &self.beginning].map(|side| unsafe { side.result.cast::<[u64; 12]>().read() });
         assert_eq!(first, second, "the two results");
-        assert_eq!(first[10..], [0; 2], "the reserved words");
+        assert_eq!(first[11], 0, "the reserved word");
         self.note(kind, answer);
         (answer, first)
     }
@@ -176,7 +181,8 @@ impl Hostile {
     /// A call with a result, but for a batch.
     fn told(&mut self, kind: usize, reads: impl Fn(u64) -> Reads, call: impl Fn(&Side) -> u64) -> (u64, [u64; 12]) {
         let (answer, first) = self.called(kind, reads, call);
-        let [count, offset, signal, vcpu, wait, action, value, source, ..] = first;
+        let [count, offset, signal, vcpu, wait, action, value, source, _, _, padding, _] = first;
+        assert!(padding == 0 || (kind, answer, signal) == (2, 0, 0), "{first:?}");
         assert!(signal <= 3 && wait <= 1 && action <= 1, "{first:?}");
         assert!((signal != 0 || vcpu == 0) && (signal == 1 || wait == 0), "{first:?}");
         assert!(signal == 3 || (action, value) == (0, 0), "{first:?}");
@@ -285,6 +291,13 @@ impl Hostile {
         let written = self.same_out(out, result[0]);
         let is_done = written.get(8..12) == Some(&[0; 4]);
         let is_invalid = written.get(8..12) == Some(&(-22i32).to_le_bytes()[..]);
+        let is_quiet = written.is_empty();
+        // an id that is unknown or not allowed gets one of these errors, or closes: its padding is not looked at
+        let is_unread = written.len() == 16 && [-1i32, -1000].iter().any(|error| written[8..12] == error.to_le_bytes());
+        let padding = if answer != 0 || is_unread { 0 } else { lent::padding(message) };
+        assert_eq!(result[10] as usize, padding, "the padding byte");
+        self.padding[usize::from(padding != 0)] += u64::from(is_invalid);
+        self.padding[2] += u64::from(padding != 0 && is_quiet);
         self.same_input(message);
         let mut entries = message.get(16..).unwrap_or_default().chunks_exact(16);
         if answer == 0 && message[..2] == [13, 0] && entries.any(|entry| entry[8] == 4) {
@@ -368,6 +381,7 @@ impl Hostile {
         let Alone { used, count, listed, resume: [signal, ..], .. } = &alone;
         let told = [&[*used as u64, *count as u64, listed.len() as u64][..], &alone.resume].concat();
         assert_eq!(result[..10], told, "the result of a batch");
+        assert_eq!(result[10], 0, "a batch tells no padding byte");
         assert!(self.same_out(out, result[1]) == &alone.out[..*count], "the output of a batch");
         self.same_input(input);
         let mut codes: Vec<u8> = listed.iter().flat_map(|code| code.to_le_bytes()).collect();

@@ -73,6 +73,22 @@ pub fn offer(random: &mut Random) -> (u32, Vec<u8>) {
     (event, own)
 }
 
+/// The first padding byte of a command that is not 0; 0 where there is none.
+pub fn padding(message: &[u8]) -> usize {
+    let [id, 0, ..] = *message else { return 0 };
+    let counted = message.get(8..10).map_or(0, |count| 16 * usize::from(u16::from_le_bytes([count[0], count[1]])));
+    let is_padding = |at: usize| match id {
+        2 | 3 | 8 => at >= 10,
+        5 | 15 => at >= 11,
+        9 | 14 => at >= 10 && at != 16,
+        10 => (10..16).contains(&at) || at >= 19,
+        11 | 12 => (10..20).contains(&at) && at != 16,
+        13 => (12..16).contains(&at) || (at >= 16 && at % 16 >= 9 && message.len() == 16 + counted),
+        _ => false,
+    };
+    (8..message.len()).find(|at| is_padding(*at) && message[*at] != 0).unwrap_or(0)
+}
+
 /// KVMI_VM_SET_PAGE_ACCESS: the first pages of a view below rwx, and the last one.
 pub fn guards(random: &mut Random) -> Vec<u8> {
     let pages = [0, 1, 2, 3, 4, 5, u64::MAX >> 12];
