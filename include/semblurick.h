@@ -448,8 +448,8 @@ SEMBLURICK_CHECKED static inline enum semblurick_answer semblurick_message(struc
  * A vCPU that is to be crashed is not let into the guest any more. Past these counts output and list are untouched; refused, all of
  * both is.
  *
- * A batch tells no padding byte (since 6, result->padding of semblurick_message): to see which one a command failed for, hand that message
- * to semblurick_message by itself. */
+ * A batch tells no padding byte (since 6, result->padding of semblurick_message): a host that wants it takes the messages one by one, each by
+ * semblurick_message. A message that a batch has used is not handed over again: its error would go to the tool twice. */
 SEMBLURICK_CHECKED static inline enum semblurick_answer semblurick_batch(struct semblurick *guest, const void *input, size_t input_size,
                                                                          struct semblurick_output out,
                                                                          struct semblurick_signals signals,

@@ -36,7 +36,7 @@ use Rattle.refine.specs.Errors.{HasId, codeOf, Spared}
 use Rattle.history.specs.History.{stepOf, afterOf, BeganOn}
 
 -- ---- the padding of each message, as kvmi.rst lays it out: which offsets in the message, whose header has 8 bytes. Said apart from the runs that the
--- test walks (kvmi/specs/Message: `padding`)
+-- test walks (kvmi/specs/Message: `paddingRuns`)
 abbrev pub Within : ℕ → ℕ → ℕ → Type 0
 Within first last at = (first ≤ at) × (at ≤ last)
 

@@ -264,7 +264,7 @@ impl<'a> Answer<'a> {
     /// `KVMI_EVENT_REPLY`, which closes it where its padding is not all zero. The padding of the entries of `KVMI_VM_SET_PAGE_ACCESS` is
     /// looked at only where the message has as many of them as its count says.
     ///
-    /// A [`Batch`] tells none: to see which byte it was, the message is taken by itself.
+    /// A [`Batch`] tells none: a host that wants it takes the messages one by one.
     ///
     /// ```
     /// use semblurick::{Errno, Session, Settings, MESSAGE_OUT};
@@ -373,7 +373,7 @@ impl fmt::Debug for Padding {
 /// [`resume`](Batch::resume), from a page fault with its [`feed`](Batch::feed), and where it is closing every vCPU that waited goes on,
 /// with whatever event, as if there were no tool.
 ///
-/// It does not tell which padding byte a command failed for, as [`Answer::padding`] does: for that, the message is taken by itself.
+/// It does not tell which padding byte a command failed for, as [`Answer::padding`] does: for that, the messages are taken one by one.
 #[derive(Clone, Copy, PartialEq, Eq)]
 #[non_exhaustive]
 #[must_use = "the bytes go to the tool, the signals are to be followed, and the input may not be used up"]
