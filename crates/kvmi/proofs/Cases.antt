@@ -8,14 +8,14 @@ use Rattle.wire.specs.Code.{twos, codeBytes}
 use Rattle.msrs.specs.Place.{msrPlace, isMsr}
 use Rattle.kvmi.specs.Bits.{bitOf, isOn, putBit, bitsHave}
 use Rattle.kvmi.specs.Row.{writeRow, readRow}
-use Rattle.kvmi.specs.Settings.{inRange, isSet, allowsCommand, allowsEvent, canSinglestep, uncatchable, heldByHost, hasExecuteOnly}
+use Rattle.kvmi.specs.Settings.{inRange, isSet, allowsCommand, allowsEvent, canSinglestep, uncatchable, heldByHost, hasExecuteOnly, allOrNothing}
 use Rattle.kvmi.specs.Tables.{isCr, crBit, vmEventOn, eventOn, crOn, msrIn, msrOn, accessIn, access}
 use Rattle.kvmi.specs.Model.{nextSeq}
 use Rattle.kvmi.specs.Message.{layoutOf, sizeFits, namesVcpu, vcpuOf, enableAt, enables, switchesAt, eventOf, registerOf, gpaOf, sizeOf, countOf, countFits, viewOf, entryOf, entriesOf, entryPadding, paddingRuns, firstNonZero, firstOfRuns, firstPadding, isVmEvent, isVcpuEvent, takesEvent}
 use Rattle.kvmi.specs.Event.{eventRowOf, offerFits, asksFor, isAskedFor}
 use Rattle.kvmi.specs.Feed.{keptOf, contextFits, wantsBytes, inContext, pageExists, pageFeed, chosenFeed, feedOf}
 use Rattle.kvmi.specs.Verdict.{isAccess, takesAccess, inOnePage, invalidBy, isInvalid, isUnready, isDenied, isUnsupported, isBusy, isAbsent, changeOf, losesErrors, commandVerdictBy, commandVerdict, isAwaited, replyFits, eventReplyVerdict, verdict, reachesTest6, reportedPadding}
-use Rattle.kvmi.specs.Change.{isSkipped, setPage, takeEntry, takeEntries, setMsr, apply}
+use Rattle.kvmi.specs.Change.{isSkipped, setPage, takeEntry, takeEntries, runBy, setPages, setMsr, apply}
 use Rattle.kvmi.specs.Reply.{messageBytes, replyBytes, replyData, eventBytes, pauseEvent, commandErrorEvent, answerBytes, answerSeq, answerOf}
 use Rattle.kvmi.specs.Record.{kindAt}
 use Rattle.kvmi.specs.Image.{image, vmForm, isIdle, vcForm, msForm, paForm, vmMay, mayEnable, vcMay, paMay, loadImage}
@@ -30,6 +30,7 @@ use Rattle.kvmi.proofs.FaultEdges.{ofFaults, ofFaultBatches, faultCalls
 use Rattle.kvmi.proofs.ImageEdges.{ofImages, pageLimitLoads, pageLimitSeen}
 use Rattle.kvmi.proofs.ExecuteOnlyEdges.{ofExecuteOnly, limitsLoad, limitsSeen}
 use Rattle.kvmi.proofs.PaddingEdges.{ofPadding, paddings, paddingsSeen}
+use Rattle.kvmi.proofs.RevisionEdges.{ofRevisions, allRuns, allRunsSeen}
 use Rattle.kvmi.proofs.BatchEdges.{BatchEdge, batchOutcome, usedAt, ofBatches, batchCalls, batchCallsSeen}
 
 abbrev Right : List Case → Type 0
@@ -42,7 +43,7 @@ abbrev In-one-write : List BatchEdge → Type 0
 In-one-write es = map batchOutcome es ≡ map (λ (e : BatchEdge). some (e .expected)) es
 
 computed : Right cases × As-expected ofMessages × As-expected ofSessions × As-expected ofEvents × As-expected ofImages × As-expected ofExecuteOnly × In-one-write ofBatches × (batchCalls ≡ batchCallsSeen) × As-expected ofFaults × In-one-write ofFaultBatches × (faultCalls ≡ faultCallsSeen) × As-expected ofPadding
-unfolding le num load store isWhole headerOf twos codeBytes bitOf isOn putBit bitsHave writeRow readRow inRange isSet allowsCommand allowsEvent canSinglestep uncatchable heldByHost hasExecuteOnly isCr crBit msrPlace isMsr nextSeq layoutOf sizeFits namesVcpu vcpuOf enableAt enables switchesAt eventOf registerOf gpaOf sizeOf countOf countFits viewOf entryOf entriesOf entryPadding paddingRuns firstNonZero firstOfRuns firstPadding isVmEvent isVcpuEvent takesEvent vmEventOn eventOn crOn msrIn msrOn accessIn access eventRowOf offerFits asksFor isAskedFor isAccess takesAccess inOnePage invalidBy isInvalid isUnready isDenied isUnsupported isBusy keptOf contextFits wantsBytes inContext pageExists pageFeed chosenFeed feedOf isAbsent changeOf losesErrors commandVerdictBy commandVerdict isAwaited replyFits eventReplyVerdict verdict reachesTest6 reportedPadding isSkipped setPage takeEntry takeEntries setMsr apply messageBytes replyBytes replyData eventBytes pauseEvent commandErrorEvent answerBytes answerSeq answerOf kindAt image vmForm isIdle vcForm msForm paForm vmMay mayEnable vcMay paMay loadImage beginFresh beginFrom answering judged headed messageStep readyStep sending pausing dequeuing entering enterStep imageStep step nextLength refusalOf goesOn turnOf turnsOf batchBy usedIn usedBy batchStep usedOn seen outcome batchOutcome usedAt
+unfolding le num load store isWhole headerOf twos codeBytes bitOf isOn putBit bitsHave writeRow readRow inRange isSet allowsCommand allowsEvent canSinglestep uncatchable heldByHost hasExecuteOnly allOrNothing isCr crBit msrPlace isMsr nextSeq layoutOf sizeFits namesVcpu vcpuOf enableAt enables switchesAt eventOf registerOf gpaOf sizeOf countOf countFits viewOf entryOf entriesOf entryPadding paddingRuns firstNonZero firstOfRuns firstPadding isVmEvent isVcpuEvent takesEvent vmEventOn eventOn crOn msrIn msrOn accessIn access eventRowOf offerFits asksFor isAskedFor isAccess takesAccess inOnePage invalidBy isInvalid isUnready isDenied isUnsupported isBusy keptOf contextFits wantsBytes inContext pageExists pageFeed chosenFeed feedOf isAbsent changeOf losesErrors commandVerdictBy commandVerdict isAwaited replyFits eventReplyVerdict verdict reachesTest6 reportedPadding isSkipped setPage takeEntry takeEntries runBy setPages setMsr apply messageBytes replyBytes replyData eventBytes pauseEvent commandErrorEvent answerBytes answerSeq answerOf kindAt image vmForm isIdle vcForm msForm paForm vmMay mayEnable vcMay paMay loadImage beginFresh beginFrom answering judged headed messageStep readyStep sending pausing dequeuing entering enterStep imageStep step nextLength refusalOf goesOn turnOf turnsOf batchBy usedIn usedBy batchStep usedOn seen outcome batchOutcome usedAt
 computed = (refl, refl, refl, refl, refl, refl, refl, refl, refl, refl, refl, refl)
 
 pub cases-right : Right cases
@@ -81,10 +82,19 @@ fault-calls-right = computed .10
 pub of-padding-right : As-expected ofPadding
 of-padding-right = computed .11
 
+-- apart, since tables of 1,024 pages take long
+pub of-revisions-right : As-expected ofRevisions
+unfolding le num load store isWhole headerOf twos codeBytes bitOf isOn putBit bitsHave writeRow readRow inRange isSet allowsCommand allowsEvent canSinglestep uncatchable heldByHost hasExecuteOnly allOrNothing isCr crBit msrPlace isMsr nextSeq layoutOf sizeFits namesVcpu vcpuOf enableAt enables switchesAt eventOf registerOf gpaOf sizeOf countOf countFits viewOf entryOf entriesOf entryPadding paddingRuns firstNonZero firstOfRuns firstPadding isVmEvent isVcpuEvent takesEvent vmEventOn eventOn crOn msrIn msrOn accessIn access eventRowOf offerFits asksFor isAskedFor isAccess takesAccess inOnePage invalidBy isInvalid isUnready isDenied isUnsupported isBusy keptOf contextFits wantsBytes inContext pageExists pageFeed chosenFeed feedOf isAbsent changeOf losesErrors commandVerdictBy commandVerdict isAwaited replyFits eventReplyVerdict verdict reachesTest6 reportedPadding isSkipped setPage takeEntry takeEntries runBy setPages setMsr apply messageBytes replyBytes replyData eventBytes pauseEvent commandErrorEvent answerBytes answerSeq answerOf kindAt image vmForm isIdle vcForm msForm paForm vmMay mayEnable vcMay paMay loadImage beginFresh beginFrom answering judged headed messageStep readyStep sending pausing dequeuing entering enterStep imageStep step nextLength refusalOf goesOn turnOf turnsOf batchBy usedIn usedBy batchStep usedOn seen outcome batchOutcome usedAt
+of-revisions-right = refl
+
 -- the skip rule
 pub skips-right : skips ≡ skipsSeen
 unfolding isSkipped setPage takeEntry takeEntries
 skips-right = refl
+
+pub all-runs-right : allRuns ≡ allRunsSeen
+unfolding allOrNothing isSkipped setPage takeEntry takeEntries runBy
+all-runs-right = refl
 
 pub pageLimitLoads-right : pageLimitLoads ≡ pageLimitSeen
 unfolding paForm paMay isAccess takesAccess isSet hasExecuteOnly

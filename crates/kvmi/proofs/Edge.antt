@@ -1,6 +1,6 @@
 -- Edges that a wrong reading would get wrong. An edge is a row as in `Case`, seen whole: its last call's answer, all of its output and guest memory,
 -- the image of the tables after it, and what stands beside them. Here are rows and what they are made of; the rows themselves are in
--- `MessageEdges`, `SessionEdges`, `EventEdges`, `ImageEdges`, `ExecuteOnlyEdges`, `FaultEdges` and `PaddingEdges`; those of several messages in
+-- `MessageEdges`, `SessionEdges`, `EventEdges`, `ImageEdges`, `ExecuteOnlyEdges`, `FaultEdges`, `PaddingEdges` and `RevisionEdges`; those of several messages in
 -- one write, which have a form of their own, in `BatchEdges` and `FaultEdges`.
 use Prim.Native.Nat.{ℕ, _-_, _^_}
 use mathlib.Core.List.{List, [], _∷_, _++_}
@@ -61,20 +61,25 @@ outcome e = outcomeAt (endOf (e .settings) (e .start) (e .calls))
 -- those of `two` but for the counts, the commands and events allowed, and singlestep, descriptors and breakpoints
 abbrev pub given : ℕ → ℕ → ℕ → ℕ → ℕ → ℕ → ℕ → Settings
 given n views commands events step desc bp =
-    record { vcpus = n; views = views; commands = commands; events = events; tsc = two .tsc; singlestep = step; vmfunc = two .vmfunc; eptp = two .eptp; ve = two .ve; spp = two .spp; descriptors = desc; breakpoints = bp; «execute_only» = two .«execute_only» }
+    record { vcpus = n; views = views; commands = commands; events = events; tsc = two .tsc; singlestep = step; vmfunc = two .vmfunc; eptp = two .eptp; ve = two .ve; spp = two .spp; descriptors = desc; breakpoints = bp; «execute_only» = two .«execute_only»; revision = two .revision }
 
 -- with another TSC speed and other features beside singlestep: VMFUNC, EPTP, VE, SPP
 abbrev pub featuring : ℕ → ℕ → ℕ → ℕ → ℕ → Settings → Settings
 featuring tsc vmfunc eptp ve spp s =
-    record { vcpus = s .vcpus; views = s .views; commands = s .commands; events = s .events; tsc = tsc; singlestep = s .singlestep; vmfunc = vmfunc; eptp = eptp; ve = ve; spp = spp; descriptors = s .descriptors; breakpoints = s .breakpoints; «execute_only» = s .«execute_only» }
+    record { vcpus = s .vcpus; views = s .views; commands = s .commands; events = s .events; tsc = tsc; singlestep = s .singlestep; vmfunc = vmfunc; eptp = eptp; ve = ve; spp = spp; descriptors = s .descriptors; breakpoints = s .breakpoints; «execute_only» = s .«execute_only»; revision = s .revision }
 
 -- with another execute-only flag, and without it
 abbrev pub executing : ℕ → Settings → Settings
 executing flag s =
-    record { vcpus = s .vcpus; views = s .views; commands = s .commands; events = s .events; tsc = s .tsc; singlestep = s .singlestep; vmfunc = s .vmfunc; eptp = s .eptp; ve = s .ve; spp = s .spp; descriptors = s .descriptors; breakpoints = s .breakpoints; «execute_only» = flag }
+    record { vcpus = s .vcpus; views = s .views; commands = s .commands; events = s .events; tsc = s .tsc; singlestep = s .singlestep; vmfunc = s .vmfunc; eptp = s .eptp; ve = s .ve; spp = s .spp; descriptors = s .descriptors; breakpoints = s .breakpoints; «execute_only» = flag; revision = s .revision }
 
 abbrev pub lacking : Settings → Settings
 lacking s = executing 0 s
+
+-- with another revision
+abbrev pub revised : ℕ → Settings → Settings
+revised revision s =
+    record { vcpus = s .vcpus; views = s .views; commands = s .commands; events = s .events; tsc = s .tsc; singlestep = s .singlestep; vmfunc = s .vmfunc; eptp = s .eptp; ve = s .ve; spp = s .spp; descriptors = s .descriptors; breakpoints = s .breakpoints; «execute_only» = s .«execute_only»; revision = revision }
 
 -- the bit set of every command or event
 abbrev pub everything : ℕ

@@ -10,3 +10,4 @@ mod ExecuteOnlyEdges
 mod BatchEdges
 mod FaultEdges
 mod PaddingEdges
+mod RevisionEdges

@@ -67,7 +67,7 @@ beginning m = record { answer = handled 0 Quiet; model = some m }
 abbrev pub noSession : Paper → Begin
 noSession p = record { answer = p; model = none }
 
--- answer 7: "a count out of its range", "no session"
+-- answer 7: "a count out of its range", and W7's revision; "no session"
 unfoldable pub beginFresh : Settings → Begin
 beginFresh s = cond (inRange s) (beginning (fresh s)) (noSession (plain 7))
 
@@ -97,7 +97,7 @@ unfoldable pub judged : Settings → Model → ℕ → ℕ → List ℕ → List
 judged s m id seq d out guest Closes = closing s out guest
 judged s m id seq d out guest (Fails code) = answering s (m .mode) id seq code d Quiet out guest m
 judged s m id seq d out guest (Does c) =
-    answering s (modeFor (m .mode) c) id seq (apply m guest d c .code) d (signalOf c) out (apply m guest d c .guest) (apply m guest d c .model)
+    answering s (modeFor (m .mode) c) id seq (apply s m guest d c .code) d (signalOf c) out (apply s m guest d c .guest) (apply s m guest d c .model)
 
 -- test 1: "Fewer than 8 bytes, or size unequal to the bytes that follow: closes."
 -- The vCPU number is read from the data of every message and used only where the message names a vCPU.

@@ -62,7 +62,7 @@ unfoldable pub seen : Case → Seen
 seen c = seenAt (endOf (c .settings) (c .start) (c .calls))
 
 -- ---- settings
--- two vCPUs, one view, all allowed, all five features, descriptor events catchable, breakpoints free, execute-only pages
+-- two vCPUs, one view, all allowed, all five features, descriptor events catchable, breakpoints free, execute-only pages, revision 1
 abbrev pub two : Settings
 two =
     record {
@@ -79,6 +79,7 @@ two =
       descriptors = 1;
       breakpoints = 0;
       «execute_only» = 1;
+      revision = 1;
     }
 
 -- ---- what is lent, and calls

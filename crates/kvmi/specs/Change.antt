@@ -9,6 +9,7 @@ use lib.ListN.{length, drop}
 use lib.Dec.{leb, eqb}
 use Rattle.wire.specs.Bytes.{store}
 use Rattle.msrs.specs.Place.{isMsr}
+use Rattle.kvmi.specs.declared.Settings.{Settings}
 use Rattle.kvmi.specs.declared.ReplyMode.{ReplyMode}
 use Rattle.kvmi.specs.declared.Feed.{Feed}
 use Rattle.kvmi.specs.declared.Signal.{Signal}
@@ -16,6 +17,7 @@ use Rattle.kvmi.specs.declared.Signal.the-variants.{Quiet, Kick, Crash, 
 use Rattle.kvmi.specs.declared.Change.{Change}
 use Rattle.kvmi.specs.declared.Change.the-variants.{Nothing, SetVmEvent, WritePhysical, QueuePause, SetVcpuEvent, SetCr, SetMsr, SetPages, SetSinglestep, SetReplies, EndWait}
 use Rattle.kvmi.specs.Limits.{pageLimit}
+use Rattle.kvmi.specs.Settings.{allOrNothing}
 use Rattle.kvmi.specs.Bits.{putBit}
 use Rattle.kvmi.specs.Codes.{OK, ENOMEM}
 use Rattle.kvmi.specs.Ascending.{has, put, forget}
@@ -53,6 +55,15 @@ unfoldable pub takeEntries : ℕ → ℕ → List Entry → Run → Run
 takeEntries limit view [] r = r
 takeEntries limit view (e ∷ es) r = takeEntries limit view es (takeEntry limit view e r)
 
+-- W7: "revision 2 applies no entry of a page-access message if any would be skipped, else acts as revision 1": of revision 1's run over the pages
+-- as they stand, what the settings let stand
+unfoldable pub runBy : Settings → List Page → Run → Run
+runBy s before r = cond (allOrNothing s && r .skipped) (record { pages = before; skipped = true }) r
+
+-- message 13's entries on the pages
+unfoldable pub setPages : Settings → ℕ → List Entry → List Page → Run
+setPages s view es ps = runBy s ps (takeEntries pageLimit view es (record { pages = ps; skipped = false }))
+
 -- ---- message 12
 -- "sets its switch to enable": a switch that is off has no record; an MSR of no place has no switch
 unfoldable pub setMsr : Msr → Bool → List Msr → List Msr
@@ -75,20 +86,20 @@ appliedRun m guest r = record { model = withTables m (withPages (m .tables) (r .
 
 -- "a message handled without error sets its switch to enable (5, 10, 11, 12, 14) or adds a pause (9); applied entries of 13 set pages"; d is the
 -- message's data
-unfoldable pub apply : Model → List ℕ → List ℕ → Change → Applied
-apply m guest d Nothing = applied m guest
-apply m guest d (SetVmEvent on event) = applied (withTables m (withVmEvents (m .tables) (putBit (m .tables .events) event on))) guest
-apply m guest d (WritePhysical gpa) = applied m (store guest gpa (drop 16 d))
-apply m guest d (QueuePause wait vcpu) = applied (onVcpu m vcpu (λ v. withPauses v (v .pauses + 1))) guest
-apply m guest d (SetVcpuEvent on vcpu event) = applied (onVcpu m vcpu (λ v. withEvents v (putBit (v .events) event on))) guest
-apply m guest d (SetCr on vcpu cr) = applied (onVcpu m vcpu (λ v. withCrs v (putBit (v .crs) (crBit cr) on))) guest
-apply m guest d (SetMsr on vcpu msr) =
+unfoldable pub apply : Settings → Model → List ℕ → List ℕ → Change → Applied
+apply s m guest d Nothing = applied m guest
+apply s m guest d (SetVmEvent on event) = applied (withTables m (withVmEvents (m .tables) (putBit (m .tables .events) event on))) guest
+apply s m guest d (WritePhysical gpa) = applied m (store guest gpa (drop 16 d))
+apply s m guest d (QueuePause wait vcpu) = applied (onVcpu m vcpu (λ v. withPauses v (v .pauses + 1))) guest
+apply s m guest d (SetVcpuEvent on vcpu event) = applied (onVcpu m vcpu (λ v. withEvents v (putBit (v .events) event on))) guest
+apply s m guest d (SetCr on vcpu cr) = applied (onVcpu m vcpu (λ v. withCrs v (putBit (v .crs) (crBit cr) on))) guest
+apply s m guest d (SetMsr on vcpu msr) =
     applied (withTables m (withMsrs (m .tables) (setMsr (record { vcpu = vcpu; msr = msr }) on (m .tables .msrs)))) guest
-apply m guest d (SetPages view count) =
-    appliedRun m guest (takeEntries pageLimit view (entriesOf count (drop 8 d)) (record { pages = m .tables .pages; skipped = false }))
-apply m guest d (SetSinglestep on vcpu) = applied (onVcpu m vcpu (λ v. withSinglestep v on)) guest
-apply m guest d (SetReplies now mode) = applied (withMode m mode) guest
-apply m guest d (EndWait resumes vcpu action value feed) = applied (setAwaited m vcpu none) guest
+apply s m guest d (SetPages view count) =
+    appliedRun m guest (setPages s view (entriesOf count (drop 8 d)) (m .tables .pages))
+apply s m guest d (SetSinglestep on vcpu) = applied (onVcpu m vcpu (λ v. withSinglestep v on)) guest
+apply s m guest d (SetReplies now mode) = applied (withMode m mode) guest
+apply s m guest d (EndWait resumes vcpu action value feed) = applied (setAwaited m vcpu none) guest
 
 -- ---- what else a change decides
 -- of an event's reply: "A crash is signalled; the session stays open."; W1: "Such a continue or retry, unlike a pause's, is signalled as

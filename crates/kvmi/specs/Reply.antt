@@ -25,10 +25,10 @@ messageBytes id seq d = le 2 id ++ le 2 (length d) ++ le 4 seq ++ d
 unfoldable pub replyBytes : ℕ → ℕ → ℤ → List ℕ → List ℕ
 replyBytes id seq code d = messageBytes id seq (codeBytes code ++ le 4 0 ++ cond (isError code) [] d)
 
--- "Version is 1; features are the five setting bytes and three zeros. VM_GET_INFO gives the vCPU count."
+-- "Version is 1", and by W7 the settings' revision, "reported by GET_VERSION"; "features are the five setting bytes and three zeros. VM_GET_INFO gives the vCPU count."
 unfoldable pub replyData : Settings → List ℕ → ℕ → List ℕ → List ℕ
 replyData s guest id d =
-    cond (eqb id 1) (le 4 1 ++ le 4 0 ++ (s .singlestep ∷ s .vmfunc ∷ s .eptp ∷ s .ve ∷ s .spp ∷ 0 ∷ 0 ∷ 0 ∷ []))
+    cond (eqb id 1) (le 4 (s .revision) ++ le 4 0 ++ (s .singlestep ∷ s .vmfunc ∷ s .eptp ∷ s .ve ∷ s .spp ∷ 0 ∷ 0 ∷ 0 ∷ []))
     (cond (eqb id 4) (le 4 (s .vcpus) ++ replicate 12 0)
     (cond (eqb id 6) (take (sizeOf d) (drop (gpaOf d) guest))
     (cond (eqb id 8) (le 8 (s .tsc)) [])))

@@ -6,9 +6,9 @@ use lib.Dec.{leb, eqb}
 use Rattle.kvmi.specs.declared.Settings.{Settings}
 use Rattle.kvmi.specs.Bits.{isOn, among}
 
--- "vCPU count 1..16; view count 1..8"; answer 7 otherwise
+-- "vCPU count 1..16; view count 1..8"; W7: "a revision other than 1 or 2 is answer 7", as a count out of its range is
 unfoldable pub inRange : Settings → Bool
-inRange s = leb 1 (s .vcpus) && leb (s .vcpus) 16 && (leb 1 (s .views) && leb (s .views) 8)
+inRange s = leb 1 (s .vcpus) && leb (s .vcpus) 16 && (leb 1 (s .views) && leb (s .views) 8) && (leb 1 (s .revision) && leb (s .revision) 2)
 
 -- a flag is set where it is not 0
 unfoldable pub isSet : ℕ → Bool
@@ -37,3 +37,7 @@ heldByHost s event = eqb event 4 && isSet (s .breakpoints)
 -- W2: "access 4 is a processor capability [..] It becomes a settings flag"
 unfoldable pub hasExecuteOnly : Settings → Bool
 hasExecuteOnly s = isSet (s .«execute_only»)
+
+-- W7: "revision 2 applies no entry of a page-access message if any would be skipped"
+unfoldable pub allOrNothing : Settings → Bool
+allOrNothing s = eqb (s .revision) 2

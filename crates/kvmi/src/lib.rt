@@ -27,6 +27,8 @@ pub struct Settings {
     pub breakpoints: u8,
     // Whether the processor has execute-only pages, access 4.
     pub execute_only: u8,
+    // The revision of the protocol, 1 or 2, that GET_VERSION reports. In 2, page access is all or nothing.
+    pub revision: u32,
 }
 
 // Whether commands are replied to. With ErrorsOnly they are not, and one that fails is told by a CMD_ERROR event.

@@ -71,7 +71,7 @@ none-sent false = refl
 module _ (s : Settings) (vcpu : ℕ) where
   -- a change and its signal
   abbrev Even : Model → List ℕ → List ℕ → Change → Type 0
-  Even m guest d c = queued vcpu m + kicks vcpu (signalOf c) ≡ queued vcpu (apply m guest d c .model)
+  Even m guest d c = queued vcpu m + kicks vcpu (signalOf c) ≡ queued vcpu (apply s m guest d c .model)
 
   pause-even : (m : Model) (guest d : List ℕ) → Valid s (m .tables) → Passed s (factsOf m (length guest) (vcpuOf d)) 9 d → Even m guest d (QueuePause (enables 9 d) (vcpuOf d))
   unfolding apply queued namesVcpu

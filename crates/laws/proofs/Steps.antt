@@ -21,7 +21,7 @@ use Rattle.kvmi.specs.declared.Change.the-variants.{Nothing, SetVmEvent, WriteP
 use Rattle.kvmi.specs.declared.Verdict.{Verdict}
 use Rattle.kvmi.specs.declared.Verdict.the-variants.{Closes, Fails, Does}
 use Rattle.kvmi.specs.Bits.{every, among, putBit, bitsHave}
-use Rattle.kvmi.specs.Settings.{inRange, allowsEvent, canSinglestep, uncatchable, heldByHost}
+use Rattle.kvmi.specs.Settings.{inRange, allowsEvent, canSinglestep, uncatchable, heldByHost, allOrNothing}
 use Rattle.kvmi.specs.Ascending.{rising, has, put}
 use Rattle.kvmi.specs.Tables.{Vcpu, Msr, Page, Tables, pageKey, resting, vcpuAt, setVcpu, withVmEvents, withPages, withReady, withPauses, withEvents, withCrs, withSinglestep}
 use Rattle.kvmi.specs.Model.{Model, fresh, begun, onVcpu, awaitedBy, isSome}
@@ -30,7 +30,7 @@ use Rattle.kvmi.specs.declared.Facts.{Facts}
 use Rattle.kvmi.specs.Event.{offerFits, isAskedFor}
 use Rattle.kvmi.specs.Verdict.{factsOf, isAccess, takesAccess, isInvalid, isUnready, isDenied, isUnsupported, isBusy, changeOf, modeOf, verdict}
 use Rattle.kvmi.specs.Limits.{pageLimit}
-use Rattle.kvmi.specs.Change.{Run, pageOf, isSkipped, setPage, takeEntry, takeEntries, Applied, apply}
+use Rattle.kvmi.specs.Change.{Run, pageOf, isSkipped, setPage, takeEntry, takeEntries, runBy, setPages, Applied, apply}
 use Rattle.kvmi.specs.Image.{vmForm, msForm, paForm, vmMay, mayEnable, paMay, image, Loaded, loaded, loadImage}
 use Rattle.kvmi.specs.Call.{Began, anew, fromImage, Call, message, ready, enter, writeImage, Step, answering, judged, headed, messageStep, readyStep, sending, pausing, dequeuing, entering, enterStep, awaitsAny, imageStep, step, move, after}
 use Rattle.laws.proofs.Bool.{and-l, and-r, and-i, or-l, or-r, either, test, clash, every-head, every-tail, every-and}
@@ -104,6 +104,11 @@ entries-pages s view [] r ok v h a = a
 entries-pages s view (e ∷ es) r ok v h a =
     entries-pages s view es (takeEntry pageLimit view e r) ok v (every-tail (entryGood s) e es h) (entry-pages s view e r ok v (every-head (entryGood s) e es h) a)
 
+-- what the revision lets stand of a run: the run, or the pages before it
+run-pages : (s : Settings) (before : List Page) (r : Run) → Pages s before → Pages s (r .pages) → Pages s (runBy s before r .pages)
+unfolding runBy
+run-pages s before r a b = pick (λ (x : Run). Pages s (x .pages)) (allOrNothing s && r .skipped) _ _ (λ _. a) (λ _. b)
+
 -- page numbers are those of 64-bit addresses
 pub entries-small : (n : ℕ) (l : List ℕ) → So (every (λ (e : Entry). ltb (e .page) (2 ^ 52)) (entriesOf n l))
 unfolding entriesOf entryOf
@@ -117,7 +122,7 @@ module _ (s : Settings) (ok : So (inRange s)) (m : Model) (a : Valid s (m .table
   facts = factsOf m (length guest) (vcpuOf d)
 
   abbrev Fine : Change → Type 0
-  Fine c = Valid s (apply m guest d c .model .tables)
+  Fine c = Valid s (apply s m guest d c .model .tables)
 
   -- a vCPU that a message names is ready
   is-ready : (id : ℕ) → namesVcpu id ≡ true → isUnready facts id ≡ false → vcpuAt (m .tables) (vcpuOf d) .ready ≡ true
@@ -143,11 +148,11 @@ module _ (s : Settings) (ok : So (inRange s)) (m : Model) (a : Valid s (m .table
       valid-msrs s (m .tables) a _ (set-every own (m .tables .msrs) (msForm (m .tables .vcpus)) on (λ _. form) (a .mss)) (set-rising own (m .tables .msrs) on (a .msUp))
 
   pages-fine : (view count : ℕ) → view < s .views → So (every (λ (e : Entry). takesAccess s (e .access)) (entriesOf count (drop 8 d))) → Fine (SetPages view count)
-  unfolding apply
+  unfolding apply setPages
   pages-fine view count v h =
       let es = entriesOf count (drop 8 d) in
-      let p = entries-pages s view es (record { pages = m .tables .pages; skipped = false }) ok v (every-and (λ (e : Entry). takesAccess s (e .access)) (λ (e : Entry). ltb (e .page) (2 ^ 52)) es h (entries-small count (drop 8 d)))
-      (record { good = a .pas; up = a .paUp; few = a .paFew }) in
+      let before : Pages s (m .tables .pages) = record { good = a .pas; up = a .paUp; few = a .paFew } in
+      let p = run-pages s (m .tables .pages) _ before (entries-pages s view es (record { pages = m .tables .pages; skipped = false }) ok v (every-and (λ (e : Entry). takesAccess s (e .access)) (λ (e : Entry). ltb (e .page) (2 ^ 52)) es h (entries-small count (drop 8 d))) before) in
       valid-pages s (m .tables) a _ (p .good) (p .up) (p .few)
 
   -- a record of one vCPU changed
@@ -210,7 +215,7 @@ module _ (s : Settings) (ok : So (inRange s)) (m : Model) (a : Valid s (m .table
       vcpu-fine _ (singlestep-good s (vcpuAt (m .tables) (vcpuOf d)) (enables 14 d) r (not-false _ (or-false-l _ false (p .supported))) own-good) r
 
   -- the changes that leave the tables as they are
-  fine-rest : (c : Change) → apply m guest d c .model .tables ≡ m .tables → Fine c
+  fine-rest : (c : Change) → apply s m guest d c .model .tables ≡ m .tables → Fine c
   fine-rest c e = rw e a
 
   change-fine : (id : ℕ) → Passed s facts id d → Fine (changeOf id d)
