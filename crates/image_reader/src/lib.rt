@@ -165,7 +165,7 @@ pub fn read_image(
 ) -> Done
     ensures { λ r. ⌜ told r (now (vcpus .exit)) (now (pages .exit)) [] [] ≡ readOf settings (now (l .entry)) (now (vcpus .entry)) (now (pages .entry)) ⌝ }
 {
-    if !session::in_range(settings.vcpus, settings.views) {
+    if !session::in_range(settings) {
         return Done {
             answer: Answer::BadSettings,
             session: Session::shut(settings),

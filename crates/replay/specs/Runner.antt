@@ -44,6 +44,7 @@ runnerSettings =
       descriptors = 1;
       breakpoints = 0;
       «execute_only» = 1;
+      revision = 1;
     }
 
 -- begun fresh on whatever words are lent, and then each of the two vCPUs made ready

@@ -50,6 +50,7 @@ pub fn settings() -> Settings
         descriptors: 1,
         breakpoints: 0,
         execute_only: 1,
+        revision: 1,
     }
 }
 

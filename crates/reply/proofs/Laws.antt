@@ -78,11 +78,11 @@ le-byte : (b : ℕ) → b < 256 → le 1 b ≡ b ∷ []
 unfolding le
 le-byte b h = let e : b % 256 ≡ b = omega arith in rw e
 
-pub version-bytes : (s : Settings) → s .singlestep < 256 → s .vmfunc < 256 → s .eptp < 256 → s .ve < 256 → s .spp < 256
-    → le 8 1 ++ le 1 (s .singlestep) ++ le 1 (s .vmfunc) ++ le 1 (s .eptp) ++ le 1 (s .ve) ++ le 4 (s .spp) ≡ replyData s [] 1 []
+pub version-bytes : (s : Settings) → s .revision < 256 ^ 4 → s .singlestep < 256 → s .vmfunc < 256 → s .eptp < 256 → s .ve < 256 → s .spp < 256
+    → le 8 (s .revision) ++ le 1 (s .singlestep) ++ le 1 (s .vmfunc) ++ le 1 (s .eptp) ++ le 1 (s .ve) ++ le 4 (s .spp) ≡ replyData s [] 1 []
 unfolding replyData
-version-bytes s a b c d e =
-    rw (le-byte (s .singlestep) a, le-byte (s .vmfunc) b, le-byte (s .eptp) c, le-byte (s .ve) d, le-pad 1 3 (s .spp) e, le-byte (s .spp) e, le-pad 4 4 1 (omega arith), ← le-zero 4)
+version-bytes s h a b c d e =
+    rw (le-byte (s .singlestep) a, le-byte (s .vmfunc) b, le-byte (s .eptp) c, le-byte (s .ve) d, le-pad 1 3 (s .spp) e, le-byte (s .spp) e, le-pad 4 4 (s .revision) h, ← le-zero 4)
     (simp append-assoc)
 
 pub vm-info-bytes : (s : Settings) → s .vcpus < 256 ^ 4 → le 8 (s .vcpus) ++ le 8 0 ≡ replyData s [] 4 []

@@ -153,8 +153,8 @@ pub bytes-data : (s : Settings) (guest : List ℕ) (id : ℕ) (d : List ℕ) →
 unfolding replyData le
 bytes-data s guest id d h g =
     let zeros : List ℕ = 0 ∷ 0 ∷ 0 ∷ [] in
-    bytes-cond (eqb id 1) (le 4 1 ++ le 4 0 ++ (features s ++ zeros)) _
-    (bytes-append (le 4 1 ++ le 4 0) (features s ++ zeros) refl (bytes-append (features s) zeros g refl))
+    bytes-cond (eqb id 1) (le 4 (s .revision) ++ le 4 0 ++ (features s ++ zeros)) _
+    (bytes-append (le 4 (s .revision)) (le 4 0 ++ (features s ++ zeros)) (bytes-le 4 (s .revision)) (bytes-append (le 4 0) (features s ++ zeros) refl (bytes-append (features s) zeros g refl)))
     (bytes-cond (eqb id 4) _ _ (simp (bytes-both, bytes-le))
     (bytes-cond (eqb id 6) _ _ (bytes-take (sizeOf d) (drop (gpaOf d) guest) (bytes-drop (gpaOf d) guest h))
     (bytes-cond (eqb id 8) _ _ (bytes-le 8 (s .tsc)) refl)))

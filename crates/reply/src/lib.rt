@@ -100,12 +100,12 @@ fn put_header(out: &mut [u8], id: u16, size: usize, seq: u32)
     wire::store32(out, 4, seq);
 }
 
-// GET_VERSION's data: version 1, and the features.
+// GET_VERSION's data: the revision, and the features.
 fn put_version(out: &mut [u8], settings: Settings)
     requires { ⌜ 32 ≤ length (now out) ⌝ }
     ensures { λ _. ⌜ now (out .exit) ≡ store (now (out .entry)) 16 (replyData settings [] 1 []) ⌝ }
 {
-    wire::store64(out, 16, 1);
+    wire::store64(out, 16, settings.revision as u64);
     wire::store8(out, 24, settings.singlestep);
     wire::store8(out, 25, settings.vmfunc);
     wire::store8(out, 26, settings.eptp);

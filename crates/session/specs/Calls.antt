@@ -1,7 +1,7 @@
 -- How a session begins, closes and gets a ready mark, as code performs it: answer, session, and every lent word and byte, for any bits in the session.
 use Prim.Native.Nat.{ℕ}
 use mathlib.Core.List.{List, []}
-use mathlib.Core.Bool.{Bool, true, cond, not, _&&_}
+use mathlib.Core.Bool.{true, cond, not}
 use lib.ListN.{length}
 use lib.Dec.{leb, eqb}
 use Rattle.wire.specs.Bytes.{store}
@@ -47,7 +47,3 @@ readyOf st vcpu =
     cond (isClosed st) (toldSame 2 st [] [])
     (cond (leb (st .session .settings .vcpus) vcpu) (toldSame 4 st [] [])
     (toldWritten [] Quiet (state (withReadyBits (st .session) (putBit64 (st .session .shared .ready) vcpu true)) (st .vcpus) (st .pages)) [] []))
-
--- ---- the ranges of the settings, by their counts
-unfoldable pub countsFit : ℕ → ℕ → Bool
-countsFit vcpus views = leb 1 vcpus && leb vcpus 16 && (leb 1 views && leb views 8)

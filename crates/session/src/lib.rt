@@ -9,10 +9,11 @@ ghost use mathlib.Core.Path.{_≡_};
 ghost use mathlib.Core.List.{List, []};
 ghost use Prim.Native.Nat.{ℕ};
 ghost use lib.Dec.{leb, ltb};
+ghost use Rattle.kvmi.specs.Settings.{inRange};
 ghost use Rattle.kvmi.specs.Limits.{pageLimit, pauseLimit, leastOut};
 ghost use Rattle.kvmi.specs.Mode.{modeOfNumber, numberOfMode};
 ghost use Rattle.session.specs.State.{state, blankSession, closedSession, withTool, withToolSeq};
-ghost use Rattle.session.specs.Calls.{told, freshOf, readyOf, countsFit};
+ghost use Rattle.session.specs.Calls.{told, freshOf, readyOf};
 
 // What one introspection tool owns: unsigned integers only, so that any bits are a value. A flag is set where it is not 0.
 #[repr(C)]
@@ -111,7 +112,7 @@ impl Session {
     pub fn fresh(settings: Settings, vcpus: &mut VcpuWords, pages: &mut PageWords) -> Done
         ensures { λ r. ⌜ told r (now (vcpus .exit)) (now (pages .exit)) [] [] ≡ freshOf settings (now (vcpus .entry)) (now (pages .entry)) ⌝ }
     {
-        if !in_range(settings.vcpus, settings.views) {
+        if !in_range(settings) {
             return Done {
                 answer: Answer::BadSettings,
                 session: Session::shut(settings),
@@ -200,18 +201,24 @@ pub fn mode_number(mode: ReplyMode) -> u32
     }
 }
 
-// Whether the counts of the settings are in their ranges.
-pub fn in_range(vcpus: u32, views: u32) -> bool
-    ensures { λ r. ⌜ r ≡ countsFit vcpus views ⌝ }
+// Whether the settings' counts and their revision are in their ranges.
+pub fn in_range(settings: Settings) -> bool
+    ensures { λ r. ⌜ r ≡ inRange settings ⌝ }
 {
-    if vcpus < 1 {
+    if settings.vcpus < 1 {
         return false;
     }
-    if 16 < vcpus {
+    if 16 < settings.vcpus {
         return false;
     }
-    if views < 1 {
+    if settings.views < 1 {
         return false;
     }
-    views <= 8
+    if 8 < settings.views {
+        return false;
+    }
+    if settings.revision < 1 {
+        return false;
+    }
+    settings.revision <= 2
 }

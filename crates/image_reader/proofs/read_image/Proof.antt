@@ -3,8 +3,6 @@
 use mathlib.Core.Path.{sym, _∙_}
 use borrow.Author.Tests.{not-true, not-false}
 use denote.Ref.{now}
-use Rattle.kvmi.specs.Settings.{inRange}
-use Rattle.session.specs.Calls.{countsFit}
 use Rattle.kvmi.specs.Image.{loadImage}
 use Rattle.image_reader.specs.Read.{readOf}
 use Rattle.image_reader.proofs.Loads.{told-bad, told-forbidden, told-accepted}
@@ -19,7 +17,7 @@ shut-requires : tie.Need-shut-requires
 shut-requires c κs = search needs
 
 returns : tie.Need-returns
-unfolding readOf inRange countsFit
+unfolding readOf
 returns c = simp (sym (c .before .before .in-range .ensures) ∙ not-true _ (c .before .if1 .taken), c .shut .ensures)
 
 test-requires : tie.Need-test-requires
@@ -56,7 +54,7 @@ opened-requires : tie.Need-opened-requires
 opened-requires c κs = search needs
 
 returns-2 : tie.Need-returns-2
-unfolding readOf inRange countsFit
+unfolding readOf
 returns-2 c =
     let c2 = c .before .before in let c4 = c2 .before .before in let c5 = c4 .before in let c6 = c5 .before in let c8 = c6 .before .before in
     let a = c8 .args in
@@ -66,7 +64,7 @@ returns-2 c =
     ) (told-bad (a .settings) _ _ (loadImage (a .settings) (now (a .l))) _ (sym (c4 .test .ensures) ∙ c2 .tested .given .1))
 
 returns-3 : tie.Need-returns-3
-unfolding readOf inRange countsFit
+unfolding readOf
 returns-3 c =
     let c2 = c .before .before in let c4 = c2 .before .before in let c5 = c4 .before in let c6 = c5 .before in let c8 = c6 .before .before in
     let a = c8 .args in
@@ -77,7 +75,7 @@ returns-3 c =
     ∙ c2 .tested2 .given .1))
 
 returns-4 : tie.Need-returns-4
-unfolding readOf inRange countsFit
+unfolding readOf
 returns-4 c =
     let c2 = c .before .before in let c5 = c2 .before .before .before in let c7 = c5 .before .before in let c10 = c7 .before .before .before in
     let c12 = c10 .before .before in let c13 = c12 .before in let c14 = c13 .before in let c16 = c14 .before .before in let a = c16 .args in

@@ -7,6 +7,9 @@ use Rattle.reply.proofs.Laws.{placed, more, version-bytes}
 use Rattle.reply.proofs.put_version.Statement.{statement}
 use Rattle.reply.proofs.put_version.Tie as tie
 
+cast-store64 : tie.Need-cast-store64
+cast-store64 c = search needs
+
 store64-requires : tie.Need-store64-requires
 store64-requires c κs = search needs
 
@@ -39,12 +42,13 @@ returns c =
     let p4 = more _ p3 (length-le 1 _) (c .before .before .before .before .before .before .before .before .before .before .before .store83 .ensures) (omega arith) in
     let p5 = more _ p4 (length-le 1 _) (c .before .before .before .before .before .before .before .store84 .ensures) (omega arith) in
     let p6 = more _ p5 (length-le 4 _) (c .before .before .store32 .ensures) (omega arith) in
-    p6 .there ∙ rw (version-bytes (c .before .before .before .before .before .before .before .before .before .before .before .before .before .before .before .before .before .before .before .before .before .before .before .before .before .before .args .settings) (omega arith) (omega arith) (omega arith) (omega arith) (omega arith))
+    p6 .there ∙ rw (version-bytes (c .before .before .before .before .before .before .before .before .before .before .before .before .before .before .before .before .before .before .before .before .before .before .before .before .before .before .before .args .settings) (omega arith) (omega arith) (omega arith) (omega arith) (omega arith) (omega arith))
 
 pub put-version-spec : {M : Type 1} → statement M
 put-version-spec =
     tie.close
     (tie.spec
+    cast-store64
     store64-requires
     store8-requires
     store8-requires-2

@@ -1,8 +1,7 @@
 -- Settings in range or not. Assumes nothing.
 use mathlib.Core.Path.{sym, _∙_}
 use borrow.Author.Tests.{not-true, not-false}
-use Rattle.session.specs.Calls.{freshOf, countsFit}
-use Rattle.kvmi.specs.Settings.{inRange}
+use Rattle.session.specs.Calls.{freshOf}
 use borrow.Author.Needs.{needs}
 use Rattle.session.proofs.Session.fresh.Statement.{statement}
 use Rattle.session.proofs.Session.fresh.Tie as tie
@@ -14,7 +13,7 @@ shut-requires : tie.Need-shut-requires
 shut-requires c κs = search needs
 
 returns : tie.Need-returns
-unfolding freshOf inRange countsFit
+unfolding freshOf
 returns c = simp (sym (c .before .before .in-range .ensures) ∙ not-true _ (c .before .if1 .taken), c .shut .ensures)
 
 clear-requires : tie.Need-clear-requires
@@ -30,7 +29,7 @@ blank-requires : tie.Need-blank-requires
 blank-requires c κs = search needs
 
 returns-2 : tie.Need-returns-2
-unfolding freshOf inRange countsFit
+unfolding freshOf
 returns-2 c = simp (sym (c .before .before .before .before .before .before .before .in-range .ensures) ∙ not-false _ (c .before .before .before .before .before .before .if1 .left), c .before .before .before .before .clear .ensures, c .before .before .clear2 .ensures, c .before .done .ensures, c .blank .ensures)
 
 pub fresh-spec : {M : Type 1} → statement M
