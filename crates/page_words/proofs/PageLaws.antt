@@ -9,7 +9,7 @@ use native.Mathlib.Omega.{arith}
 use lib.Dec.{leb, ltb, eqb}
 use lib.ListN.{length, getD, set, take, drop, length-append, length-take, length-drop, length-set, drop-of-length-le}
 use lib.Seq.{take-all, take-suc, take-nil, take-length, drop-length, drop-cons, append-snoc, set-split, take-set-le, drop-set-lt, drop-set-add, take-suc-set, getD-drop, drop-drop, drop-at, length-take-le}
-use borrow.Author.Tests.{lt-ltb, le-ltb, ltb-true, ltb-false, leb-false, eq-eqb, ne-eqb, eqb-false}
+use borrow.Author.Tests.{lt-ltb, le-ltb, ltb-true, ltb-false, leb-false, lt-leb, eq-eqb, ne-eqb, eqb-false}
 use Rattle.wire.proofs.Laws.{le-or-lt}
 use Rattle.kvmi.specs.Bits.{bit}
 use Rattle.kvmi.specs.Message.{Entry, entryOf, entriesOf}
@@ -274,7 +274,102 @@ unfolding runEntries
 run-limit limit view es ws count h =
     entries-kept limit limit view es 0 (pageTable ws (min count (length ws)) false) (omega arith) (omega arith) (omega arith) .1
 
+-- ---- entries that are skipped
+
+-- where there is room for a word, an entry is not skipped, and adds one at most
+abbrev Fits : PageTable → PageTable → Type 0
+Fits t t′ = (t′ .skipped ≡ t .skipped) × (t′ .count ≤ t .count + 1)
+
+module _ (limit key access : ℕ) (t : PageTable) (room : t .count < min limit (length (t .words))) where
+  change-fits : (at : ℕ) → Fits t (changeWord t at key access)
+  unfolding changeWord
+  change-fits at = go (eqb access 7)
+    where
+      go : (b : Bool) → Fits t (cond b (pageTable (removeWord (t .words) (t .count) at) (t .count - 1) (t .skipped)) (pageTable (set (t .words) at (key * 8 + access)) (t .count) (t .skipped)))
+      go true = (refl, omega arith)
+      go false = (refl, omega arith)
+
+  add-fits : (at : ℕ) → Fits t (addWord limit t at key access)
+  unfolding addWord
+  add-fits at = rw (lt-leb _ _ room) (go (eqb access 7))
+    where
+      go : (b : Bool) → Fits t (cond b t (pageTable (insertWord (t .words) (t .count) at (key * 8 + access)) (t .count + 1) (t .skipped)))
+      go true = (refl, omega arith)
+      go false = (refl, omega arith)
+
+  near-fits : (hint : ℕ) → Fits t (putNear limit key access hint t)
+  unfolding putNear putEntry
+  near-fits hint = go (nearPlace (t .words) (t .count) key hint) (standsAt (t .words) (t .count) key (nearPlace (t .words) (t .count) key hint))
+    where
+      go : (at : ℕ) (b : Bool) → Fits t (cond b (changeWord t at key access) (addWord limit t at key access))
+      go at true = change-fits at
+      go at false = add-fits at
+
+entries-room : (limit view : ℕ) (es : List Entry) (hint : ℕ) (t : PageTable) → limit ≤ length (t .words) → t .count + length es ≤ limit
+    → putEntries limit view es hint t .skipped ≡ t .skipped
+unfolding putEntries
+entries-room limit view [] hint t h room = refl
+entries-room limit view (e ∷ es) hint t h room =
+    let key = keyOf view (e .page) in
+    let t′ = putNear limit key (e .access) hint t in
+    let k = near-kept limit limit key (e .access) t (omega arith) (omega arith) (omega arith) hint in
+    let f = near-fits limit key (e .access) t (omega arith) hint in
+    entries-room limit view es (hintAfter limit key (e .access) hint t) t′ (omega arith) (omega arith) ∙ f .0
+
+-- where there is room for all entries none is skipped
+pub run-room : (limit view : ℕ) (es : List Entry) (ws : List ℕ) (count : ℕ) → limit ≤ length ws → count + length es ≤ limit → runEntries limit view es ws count .skipped ≡ false
+unfolding runEntries
+run-room limit view es ws count h room = entries-room limit view es 0 (pageTable ws (min count (length ws)) false) h (omega arith)
+
+-- an entry that is skipped changes nothing else
+abbrev Stays : PageTable → PageTable → Type 0
+Stays t t′ = t′ .skipped ≡ true → (t′ .words ≡ t .words) × (t′ .count ≡ t .count)
+
+module _ (limit key access : ℕ) (t : PageTable) (yet : t .skipped ≡ false) where
+  not-yet : {A : Type 0} → t .skipped ≡ true → A
+  not-yet h = let z : _≡_ {A = ℕ} 0 1 = cc in absurd (omega arith)
+
+  change-stays : (at : ℕ) → Stays t (changeWord t at key access)
+  unfolding changeWord
+  change-stays at = go (eqb access 7)
+    where
+      go : (b : Bool) → Stays t (cond b (pageTable (removeWord (t .words) (t .count) at) (t .count - 1) (t .skipped)) (pageTable (set (t .words) at (key * 8 + access)) (t .count) (t .skipped)))
+      go true = not-yet
+      go false = not-yet
+
+  add-stays : (at : ℕ) → Stays t (addWord limit t at key access)
+  unfolding addWord
+  add-stays at = go (eqb access 7) (leb (min limit (length (t .words))) (t .count))
+    where
+      go : (b c : Bool) → Stays t (cond b t (cond c (pageTable (t .words) (t .count) true) (pageTable (insertWord (t .words) (t .count) at (key * 8 + access)) (t .count + 1) (t .skipped))))
+      go true c = not-yet
+      go false true = λ _. (refl, refl)
+      go false false = not-yet
+
+  near-stays : (hint : ℕ) → Stays t (putNear limit key access hint t)
+  unfolding putNear putEntry
+  near-stays hint = go (nearPlace (t .words) (t .count) key hint) (standsAt (t .words) (t .count) key (nearPlace (t .words) (t .count) key hint))
+    where
+      go : (at : ℕ) (b : Bool) → Stays t (cond b (changeWord t at key access) (addWord limit t at key access))
+      go at true = change-stays at
+      go at false = add-stays at
+
+-- a single entry that is skipped leaves the words as they were
+pub run-one : (limit view : ℕ) (es : List Entry) (ws : List ℕ) (count : ℕ) → length es ≤ 1 → count ≤ length ws → runEntries limit view es ws count .skipped ≡ true
+    → (runEntries limit view es ws count .words ≡ ws) × (runEntries limit view es ws count .count ≡ count)
+unfolding runEntries putEntries
+run-one limit view [] ws count one h skips = let z : _≡_ {A = ℕ} 0 1 = cc in absurd (omega arith)
+run-one limit view (e ∷ []) ws count one h skips =
+    let k = near-stays limit (keyOf view (e .page)) (e .access) (pageTable ws (min count (length ws)) false) refl 0 skips in
+    (k .0, omega arith)
+run-one limit view (e ∷ f ∷ es) ws count one h skips = absurd (omega arith)
+
 -- ---- a run of entries
+
+pub length-entries : (n : ℕ) (l : List ℕ) → length (entriesOf n l) ≡ n
+unfolding entriesOf
+length-entries zero l = refl
+length-entries (suc n) l = ap (λ (k : ℕ). suc k) (length-entries n (drop 16 l))
 
 take-min : (n : ℕ) (l : List ℕ) → take (min n (length l)) l ≡ take n l
 take-min n l = ⊎-elim

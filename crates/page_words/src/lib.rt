@@ -241,3 +241,38 @@ pub fn put_entries(
     }
     t
 }
+
+// Whether an entry of the n would be skipped, by a run of all of them on a copy of the words. It has a loop of its own: where two functions share
+// one, the compiler puts it into neither, and each message 13 pays for the call.
+pub fn would_skip(
+    words: &PageWords,
+    count: usize,
+    limit: usize,
+    view: u16,
+    n: u16,
+    d: &[u8],
+) -> bool
+    ensures { λ r. ⌜ r ≡ runEntries limit view (entriesOf n (now (d .entry))) (now (words .entry)) count .skipped ⌝ }
+{
+    // An array lent as a slice is known to have its length.
+    let lent: &[u64] = words;
+    let mut copy = *words;
+    let first = ((view % 8) as u64) * kvmi::PAGES;
+    let mut t = Taken {
+        count: wire::smaller(count, lent.len()),
+        skipped: false,
+    };
+    let mut hint = 0;
+    let mut i = 0;
+    while i < n {
+        let a = wire::smaller((i as usize) * 16, d.len());
+        let b = wire::smaller(a + 16, d.len());
+        let e = read_entry(&d[a..b]);
+        let key = first + e.page;
+        let at = near(&copy, t.count, key, hint);
+        t = put_entry(&mut copy, t.count, limit, at, key, e.access, t.skipped);
+        hint = next_hint(at, t.count);
+        i += 1;
+    }
+    t.skipped
+}
