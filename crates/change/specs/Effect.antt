@@ -1,7 +1,7 @@
 -- What code says of a change: the number that it moves, its code, and how it is answered.
 use Prim.Native.Nat.{ℕ, _%_, _^_}
 use mathlib.Core.List.{List}
-use mathlib.Core.Bool.{cond}
+use mathlib.Core.Bool.{Bool, cond}
 use lib.ListN.{drop}
 use lib.Dec.{eqb}
 use Rattle.kvmi.specs.declared.Change.{Change}
@@ -120,3 +120,11 @@ pagesTaken t p =
 
 unfoldable pub pagesSet : Tool → List ℕ → ℕ → ℕ → List ℕ → PagesChanged
 pagesSet t pages view count d = pagesTaken t (runEntries pageLimit view (entriesOf count (drop 8 d)) pages (t .pages))
+
+-- whether an entry of it would be skipped
+abbrev pub skipsOne : List ℕ → ℕ → ℕ → ℕ → List ℕ → Bool
+skipsOne pages used view count d = runEntries pageLimit view (entriesOf count (drop 8 d)) pages used .skipped
+
+-- nothing of it is applied
+abbrev pub heldBack : Tool → Effect
+heldBack t = record { kind = CodeOnly; moved = 2; value = t .pages; code = ENOMEM; by = t .mode; signal = Quiet }

@@ -3,16 +3,21 @@ use kvmi::Change;
 use kvmi::Feed;
 use kvmi::ReplyKind;
 use kvmi::Signal;
+use page_words::PageWords;
 use session::Session;
 use session::Tool;
 ghost use mathlib.Core.Path.{_≡_};
+ghost use mathlib.Core.Bool.{_||_};
+ghost use Prim.Native.Nat.{_+_};
+ghost use lib.Dec.{leb, ltb, eqb};
 ghost use lib.ListN.{drop};
 ghost use Rattle.wire.specs.Bytes.{store};
+ghost use Rattle.kvmi.specs.Limits.{pageLimit};
 ghost use Rattle.session.specs.State.{state};
 ghost use Rattle.kvmi.specs.Change.{replySignal};
 ghost use Rattle.kvmi.specs.declared.ReplyKind.the-variants.{CodeOnly};
 ghost use Rattle.kvmi.specs.declared.Signal.the-variants.{Quiet};
-ghost use Rattle.change.specs.Effect.{enactedOf, effect, plainEffect, toolAfter, pagesEffect, pagesSet};
+ghost use Rattle.change.specs.Effect.{enactedOf, effect, plainEffect, toolAfter, pagesEffect, pagesSet, skipsOne, heldBack};
 
 // Which number of the tool moves: its VM event switches, how many page words are in use, its reply mode. 0: none.
 const MOVED_EVENTS: u32 = 1;
@@ -20,6 +25,9 @@ const MOVED_EVENTS: u32 = 1;
 const MOVED_PAGES: u32 = 2;
 
 const MOVED_MODE: u32 = 3;
+
+// The limit of pages, as a number of page words in use is written.
+const PAGE_LIMIT: u64 = 1024;
 
 // What a change gives: what kind of reply answers it, which number of the tool it moves and that number after it (0 for none), 0 or the error that it
 // met, the number of the mode by which it is answered, and what the host is to do.
@@ -99,6 +107,60 @@ fn set_pages(tool: Tool, pages: &mut [u64], view: u16, count: u16, d: &[u8]) -> 
     e
 }
 
+// Whether page access is all or nothing: in revision 2.
+fn is_all_or_nothing(revision: u32) -> bool
+    ensures { λ r. ⌜ r ≡ eqb revision 2 ⌝ }
+{
+    revision == 2
+}
+
+// Whether n entries find room, whatever they ask, where so many page words are in use.
+fn has_room_for(used: u64, n: u16) -> bool
+    ensures { λ r. ⌜ r ≡ leb (used + n) pageLimit ⌝ }
+{
+    if PAGE_LIMIT < (n as u64) {
+        return false;
+    }
+    used <= PAGE_LIMIT - n as u64
+}
+
+// Whether a run of n entries of which one is skipped can change something: a single one cannot, unless more words are said to be in use than there
+// are, which a run sets right.
+fn can_change(used: u64, n: u16) -> bool
+    ensures { λ r. ⌜ r ≡ (ltb pageLimit used || ltb 1 n) ⌝ }
+{
+    if PAGE_LIMIT < used {
+        return true;
+    }
+    1 < n
+}
+
+// Whether an entry of VM_SET_PAGE_ACCESS would be skipped.
+fn would_skip(pages: &PageWords, used: u64, view: u16, count: u16, d: &[u8]) -> bool
+    ensures { λ r. ⌜ r ≡ skipsOne (now (pages .entry)) used view count (now (d .entry)) ⌝ }
+{
+    let from = if 8 <= d.len() { 8 } else { d.len() };
+    page_words::would_skip(
+        pages,
+        used as usize,
+        Session::PAGE_LIMIT,
+        view,
+        count,
+        &d[from..],
+    )
+}
+
+// VM_SET_PAGE_ACCESS with an entry that would be skipped, where it is all or nothing: no page changes.
+fn hold_back(tool: Tool) -> Effect
+    ensures { λ r. ⌜ r ≡ heldBack tool ⌝ }
+{
+    let mut e = quiet(tool.mode);
+    e.moved = MOVED_PAGES;
+    e.value = tool.pages;
+    e.code = -12;
+    e
+}
+
 // What an event's reply has the host do.
 fn reply_signal(resumes: bool, vcpu: u16, action: u32, value: u64, feed: Feed) -> Signal
     ensures { λ r. ⌜ r ≡ replySignal resumes vcpu action value feed ⌝ }
@@ -121,7 +183,7 @@ fn reply_signal(resumes: bool, vcpu: u16, action: u32, value: u64, feed: Feed) -
 pub fn apply(
     s: Session,
     vcpus: &mut [u64],
-    pages: &mut [u64],
+    pages: &mut PageWords,
     guest: &mut [u8],
     d: &[u8],
     c: Change,
@@ -158,7 +220,20 @@ pub fn apply(
             store::words::write_msr(vcpus, vcpu, msr, on);
             quiet(tool.mode)
         }
-        Change::SetPages { view, count } => set_pages(tool, pages, view, count, d),
+        // The tests stand here, and each by itself: so the compiler takes what they guard for rare, and leaves it and its copy of the words out
+        // of the code that every message runs.
+        Change::SetPages { view, count } => {
+            if !has_room_for(tool.pages, count) {
+                if can_change(tool.pages, count) {
+                    if is_all_or_nothing(s.settings.revision) {
+                        if would_skip(pages, tool.pages, view, count, d) {
+                            return hold_back(tool);
+                        }
+                    }
+                }
+            }
+            set_pages(tool, pages, view, count, d)
+        }
         Change::SetSinglestep { on, vcpu } => {
             store::words::write_field(vcpus, vcpu, store::words::SINGLESTEP, on as u64);
             quiet(tool.mode)

@@ -97,7 +97,7 @@ fn fail(s: Session, out: &mut [u8], id: u16, seq: u32, code: i32, padding: usize
 fn handle(
     s: Session,
     vcpus: &mut [u64],
-    pages: &mut [u64],
+    pages: &mut PageWords,
     id: u16,
     seq: u32,
     d: &[u8],
