@@ -1,6 +1,6 @@
 // Runs stored scripts, each a list of calls on a session of its own, and prints for each step its letter, the answer's number, and its count or
 // offset. A step is a letter, a u32, and as many bytes:
-//   F settings   a session begins fresh          S settings   settings for the images that are read from now on (32 bytes, as in C)
+//   F settings   a session begins fresh          S settings   settings for the images that are read from now on (36 bytes, as in C)
 //   R vCPU       is marked ready                 E vCPU       enters, with a register block of zeros
 //   M message    is taken                        W room       the image is written, into so many bytes
 //   L image      is read                         A            the image that was written last is read
@@ -49,6 +49,7 @@ fn settings_of(arg: &[u8]) -> Settings {
         descriptors: wire::byte(arg, 29),
         breakpoints: wire::byte(arg, 30),
         execute_only: wire::byte(arg, 31),
+        revision: wire::load32(arg, 32),
     }
 }
 

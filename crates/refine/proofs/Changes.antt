@@ -1,9 +1,9 @@
 -- Each change on the words is the model's change. Assumes nothing.
-use mathlib.Core.Path.{_≡_, refl, sym, ap, _∙_}
+use mathlib.Core.Path.{_≡_, refl, sym, ap, subst, _∙_}
 use Prim.Native.Nat.{ℕ, zero, suc, _+_, _-_, _*_, _/_, _%_, _^_, _≤_, _<_}
 use native.Mathlib.Omega.{arith}
 use mathlib.Core.List.{List, [], _∷_}
-use mathlib.Core.Bool.{Bool, true, false, cond, not, So}
+use mathlib.Core.Bool.{Bool, true, false, cond, not, _&&_, So}
 use mathlib.Core.Option.{Option, none, some}
 use lib.ListN.{length, getD, set, take, drop}
 use lib.Seq.{set-out}
@@ -16,7 +16,7 @@ use Rattle.kvmi.specs.declared.Change.{Change}
 use Rattle.kvmi.specs.declared.Change.the-variants.{Nothing, SetVmEvent, WritePhysical, QueuePause, SetVcpuEvent, SetCr, SetMsr, SetPages, SetSinglestep, SetReplies, EndWait}
 use Rattle.kvmi.specs.Bits.{bit, every, putBit}
 use Rattle.kvmi.specs.Codes.{OK, ENOMEM}
-use Rattle.kvmi.specs.Settings.{inRange}
+use Rattle.kvmi.specs.Settings.{inRange, allOrNothing}
 use Rattle.kvmi.specs.Tables.{Vcpu, Msr, Tables, vcpuAt, setVcpu, withCrs, withEvents, withPauses, withSinglestep, withVcpus, withMsrs, withPages, crBit}
 use Rattle.kvmi.specs.declared.Feed.{Feed}
 use Rattle.kvmi.specs.Feed.{Fault, noFault}
@@ -24,14 +24,14 @@ use Rattle.kvmi.specs.Model.{Awaited, awaiting, withTables, withMode, withAwait
 use Rattle.kvmi.specs.Message.{Entry, entriesOf, isVmEvent, isVcpuEvent}
 use Rattle.kvmi.specs.Verdict.{isAccess}
 use Rattle.kvmi.specs.Limits.{pageLimit}
-use Rattle.kvmi.specs.Change.{Run, takeEntries, setMsr, Applied, applied, apply}
+use Rattle.kvmi.specs.Change.{Run, takeEntries, runBy, setPages, setMsr, Applied, applied, appliedRun, apply}
 use Rattle.store.specs.Words.{field, setField, setMsrBit, putBit64, SINGLESTEP, CRS, EVENTS, PAUSES, setFault, AWAITED, AWAITED-SEQ, FAULT-GVA, FAULT-GPA, FAULT-ACCESS}
-use Rattle.page_words.specs.PageWords.{PageTable, runEntries}
+use Rattle.page_words.specs.PageWords.{PageTable, pageTable, runEntries}
 use Rattle.store.specs.Meaning.{msrsOf, vcpusOf, vcpuOfWords}
 use Rattle.page_words.specs.Meaning.{pagesOf}
 use Rattle.kvmi.specs.Mode.{numberOfMode, modeOfNumber}
 use Rattle.session.specs.State.{State, state, withField, withVcpuWords}
-use Rattle.change.specs.Change.{StateChanged, changed, change}
+use Rattle.change.specs.Change.{StateChanged, changed, changedPages, pagesBy, change}
 use Rattle.session.specs.Meaning.{faultIn, awaitedIn, awaitedOf, tablesOf, modelOf, WordsGood}
 use Rattle.laws.proofs.Bool.{test, every-and}
 use Rattle.laws.proofs.Kept.{vm-event-small, vcpu-event-small}
@@ -92,7 +92,7 @@ module _ (st : State) (g : WordsGood st) (few : st .session .settings .vcpus ≤
       (λ i. awaited-fields words (setField words v k x) i (λ j b c. field-set-other words v k x i j (omega arith) (omega arith) (λ p q. omega arith))) in
       words-model (setField words v k x) _ _ _ vcpus msrs awaited
 
-  pub pause-meant : (v : ℕ) (wait : Bool) → v < count → field words v PAUSES < 8 → Meant (change st guest d (QueuePause wait v)) (apply (modelOf st) guest d (QueuePause wait v))
+  pub pause-meant : (v : ℕ) (wait : Bool) → v < count → field words v PAUSES < 8 → Meant (change st guest d (QueuePause wait v)) (apply (st .session .settings) (modelOf st) guest d (QueuePause wait v))
   unfolding change apply
   pause-meant v wait h p =
       let one : (field words v PAUSES + 1) % 2 ^ 64 ≡ field words v PAUSES + 1 = omega arith in
@@ -105,7 +105,7 @@ module _ (st : State) (g : WordsGood st) (few : st .session .settings .vcpus ≤
         words = field-kept st g few v h PAUSES (field words v PAUSES + 1) (omega arith) (λ e. absurd (omega arith));
       })
 
-  pub event-meant : (v event : ℕ) (on : Bool) → v < count → So (isVcpuEvent event) → Meant (change st guest d (SetVcpuEvent on v event)) (apply (modelOf st) guest d (SetVcpuEvent on v event))
+  pub event-meant : (v event : ℕ) (on : Bool) → v < count → So (isVcpuEvent event) → Meant (change st guest d (SetVcpuEvent on v event)) (apply (st .session .settings) (modelOf st) guest d (SetVcpuEvent on v event))
   unfolding change apply vcpuOfWords
   event-meant v event on h e =
       let small = vcpu-event-small event e in
@@ -119,7 +119,7 @@ module _ (st : State) (g : WordsGood st) (few : st .session .settings .vcpus ≤
         words = field-kept st g few v h EVENTS x (omega arith) (λ q. absurd (omega arith));
       })
 
-  pub cr-meant : (v cr : ℕ) (on : Bool) → v < count → Meant (change st guest d (SetCr on v cr)) (apply (modelOf st) guest d (SetCr on v cr))
+  pub cr-meant : (v cr : ℕ) (on : Bool) → v < count → Meant (change st guest d (SetCr on v cr)) (apply (st .session .settings) (modelOf st) guest d (SetCr on v cr))
   unfolding change apply vcpuOfWords
   cr-meant v cr on h =
       let x = putBit (field words v CRS) (crBit cr) on in
@@ -135,7 +135,7 @@ module _ (st : State) (g : WordsGood st) (few : st .session .settings .vcpus ≤
   bit-one true = omega arith
   bit-one false = omega arith
 
-  pub single-meant : (v : ℕ) (on : Bool) → v < count → Meant (change st guest d (SetSinglestep on v)) (apply (modelOf st) guest d (SetSinglestep on v))
+  pub single-meant : (v : ℕ) (on : Bool) → v < count → Meant (change st guest d (SetSinglestep on v)) (apply (st .session .settings) (modelOf st) guest d (SetSinglestep on v))
   unfolding change apply
   single-meant v on h =
       let l = block-inside st g few v h in
@@ -146,7 +146,7 @@ module _ (st : State) (g : WordsGood st) (few : st .session .settings .vcpus ≤
         words = field-kept st g few v h SINGLESTEP (bit on) (omega arith) (λ q. bit-one on);
       }
 
-  pub msr-meant : (v msr : ℕ) (on : Bool) → v < count → Meant (change st guest d (SetMsr on v msr)) (apply (modelOf st) guest d (SetMsr on v msr))
+  pub msr-meant : (v msr : ℕ) (on : Bool) → v < count → Meant (change st guest d (SetMsr on v msr)) (apply (st .session .settings) (modelOf st) guest d (SetMsr on v msr))
   unfolding change apply
   msr-meant v msr on h =
       let l = block-inside st g few v h in
@@ -162,7 +162,7 @@ module _ (st : State) (g : WordsGood st) (few : st .session .settings .vcpus ≤
         words = msr-kept st g few v h msr on;
       }
 
-  pub vm-event-meant : (event : ℕ) (on : Bool) → So (isVmEvent event) → Meant (change st guest d (SetVmEvent on event)) (apply (modelOf st) guest d (SetVmEvent on event))
+  pub vm-event-meant : (event : ℕ) (on : Bool) → So (isVmEvent event) → Meant (change st guest d (SetVmEvent on event)) (apply (st .session .settings) (modelOf st) guest d (SetVmEvent on event))
   unfolding change apply
   vm-event-meant event on e =
       let small = vm-event-small event e in
@@ -174,7 +174,7 @@ module _ (st : State) (g : WordsGood st) (few : st .session .settings .vcpus ≤
         words = tool-kept st g _ refl (g .opened) (g .mode);
       })
 
-  pub replies-meant : (mode : ReplyMode) (now : Bool) → Meant (change st guest d (SetReplies now mode)) (apply (modelOf st) guest d (SetReplies now mode))
+  pub replies-meant : (mode : ReplyMode) (now : Bool) → Meant (change st guest d (SetReplies now mode)) (apply (st .session .settings) (modelOf st) guest d (SetReplies now mode))
   unfolding change apply
   replies-meant mode now =
       record {
@@ -184,21 +184,26 @@ module _ (st : State) (g : WordsGood st) (few : st .session .settings .vcpus ≤
         words = tool-kept st g _ refl (g .opened) (mode-small mode);
       }
 
+  -- a run that stands, or the pages as they were
+  pages-either : (back : Bool) (t : PageTable) → WordsGood (changedPages st guest t .state)
+      → Meant (changedPages st guest (cond back (pageTable (st .pages) (st .session .tool .pages) true) t))
+      (appliedRun (modelOf st) guest (cond back (record { pages = tablesOf st .pages; skipped = true }) (record { pages = pagesOf (t .words) (t .count); skipped = t .skipped })))
+  pages-either true t kept = record { model = refl; guest = refl; code = refl; words = pages-kept st g (st .session .tool .pages) (st .pages) (g .pageWords) (g .pages) }
+  pages-either false t kept = record { model = refl; guest = refl; code = refl; words = kept }
+
   pub pages-meant : (view n : ℕ) → view < 8 → So (every (λ (e : Entry). isAccess (e .access)) (entriesOf n (drop 8 d)))
-      → Meant (change st guest d (SetPages view n)) (apply (modelOf st) guest d (SetPages view n))
-  unfolding change apply
+      → Meant (change st guest d (SetPages view n)) (apply (st .session .settings) (modelOf st) guest d (SetPages view n))
+  unfolding change apply setPages pagesBy runBy
   pages-meant view n v h =
       let es = entriesOf n (drop 8 d) in
       let l = g .pageWords in
       let m = run-entries pageLimit view es (st .pages) (st .session .tool .pages) (g .pages) v
       (every-and (λ (e : Entry). isAccess (e .access)) (λ (e : Entry). ltb (e .page) (2 ^ 52)) es h (entries-small n (drop 8 d))) (omega arith) in
       let t = runEntries pageLimit view es (st .pages) (st .session .tool .pages) in
-      record {
-        model = ap (λ (r : Run). withTables (modelOf st) (withPages (tablesOf st) (r .pages))) (m .run);
-        guest = refl;
-        code = λ j. cond (m .run j .skipped) ENOMEM OK;
-        words = pages-kept st g (t .count) (t .words) (m .long ∙ l) (m .good);
-      }
+      let whole = allOrNothing (st .session .settings) in
+      subst (λ (r : Run). Meant (changedPages st guest (cond (whole && t .skipped) (pageTable (st .pages) (st .session .tool .pages) true) t))
+      (appliedRun (modelOf st) guest (cond (whole && r .skipped) (record { pages = tablesOf st .pages; skipped = true }) r))) (m .run)
+      (pages-either (whole && t .skipped) t (pages-kept st g (t .count) (t .words) (m .long ∙ l) (m .good)))
 
   -- the awaited event of a vCPU
   wait-words : (v event seq : ℕ) (f : Fault) → v < count → awaitedIn (waitWords words v event seq f) v ≡ cond (eqb event 0) none (some (awaiting event seq f))
@@ -246,7 +251,7 @@ module _ (st : State) (g : WordsGood st) (few : st .session .settings .vcpus ≤
       ∙ ap (λ (x : List ℕ). setField x v FAULT-ACCESS 0) (again FAULT-GPA) ∙ again FAULT-ACCESS
 
   pub end-meant : (resumes : Bool) (v action value : ℕ) (feed : Feed)
-      → Meant (change st guest d (EndWait resumes v action value feed)) (apply (modelOf st) guest d (EndWait resumes v action value feed))
+      → Meant (change st guest d (EndWait resumes v action value feed)) (apply (st .session .settings) (modelOf st) guest d (EndWait resumes v action value feed))
   unfolding change apply
   end-meant resumes v action value feed =
       rw (ended-as words v)

@@ -79,7 +79,7 @@ module _ (st : State) (g : WordsGood st) (ok : So (inRange (st .session .setting
   views = let h = ok in leb-true (s .views) 8 (search (and-l, and-r))
 
   abbrev M : Change → Type 0
-  M c = Meant (change st guest d c) (apply (modelOf st) guest d c)
+  M c = Meant (change st guest d c) (apply s (modelOf st) guest d c)
 
   -- changes of guest memory and of nothing
   still : (to : List ℕ) → Meant (changed st to) (applied (modelOf st) to)
@@ -243,15 +243,15 @@ module _ (st : State) (f : WellFormed st) (out guest : List ℕ) where
   cfg = st .session .settings
 
   does-simulates : (id seq : ℕ) (d : List ℕ) → 4112 ≤ length out → (c : Change) → (inOnePage (gpaOf d) (sizeOf d) ≡ true) ⊎ (id ≡ 6 → ⊥)
-      → Meant (change st guest d c) (apply (modelOf st) guest d c) → S (judgedOf st id seq d out guest (Does c)) (model.judged cfg (modelOf st) id seq d out guest (Does c))
+      → Meant (change st guest d c) (apply cfg (modelOf st) guest d c) → S (judgedOf st id seq d out guest (Does c)) (model.judged cfg (modelOf st) id seq d out guest (Does c))
   unfolding judgedOf model.judged
   does-simulates id seq d long c fits m =
       let r = change st guest d c in
       let mode = modeFor (modeOfNumber (st .session .tool .mode)) c in
       let l = length-answer (layoutOf id .reply) mode (r .state .session .tool .seq) id seq (r .code) (r .state .session .settings) (r .guest) d fits in
       let here = answering-simulates st (r .state) mode id seq (r .code) d (signalOf c) out (r .guest) (omega arith) (change-keeps st guest d c) (m .words) in
-      subst (λ (x : Model). S (answeringOf mode id seq (r .code) d (signalOf c) out (r .guest) (r .state)) (model.answering cfg mode id seq (apply (modelOf st) guest d c .code) d (signalOf c) out (apply (modelOf st) guest d c .guest) x)) (m .model)
-      (subst (λ (x : List ℕ). S (answeringOf mode id seq (r .code) d (signalOf c) out (r .guest) (r .state)) (model.answering cfg mode id seq (apply (modelOf st) guest d c .code) d (signalOf c) out x (modelOf (r .state)))) (m .guest)
+      subst (λ (x : Model). S (answeringOf mode id seq (r .code) d (signalOf c) out (r .guest) (r .state)) (model.answering cfg mode id seq (apply cfg (modelOf st) guest d c .code) d (signalOf c) out (apply cfg (modelOf st) guest d c .guest) x)) (m .model)
+      (subst (λ (x : List ℕ). S (answeringOf mode id seq (r .code) d (signalOf c) out (r .guest) (r .state)) (model.answering cfg mode id seq (apply cfg (modelOf st) guest d c .code) d (signalOf c) out x (modelOf (r .state)))) (m .guest)
       (subst (λ (x : ℤ). S (answeringOf mode id seq (r .code) d (signalOf c) out (r .guest) (r .state)) (model.answering cfg mode id seq x d (signalOf c) out (r .guest) (modelOf (r .state)))) (m .code) here))
 
   fails-simulates : (id seq : ℕ) (d : List ℕ) → 4112 ≤ length out → (code : ℤ) → isError code ≡ true

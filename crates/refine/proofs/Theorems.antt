@@ -1,7 +1,7 @@
 -- The theorems on sessions. A session that fresh makes, on whatever words were lent, is well formed, and every call leaves one that is; so is one
 -- that an accepted image makes (`history/Images`). Assumes nothing.
 use mathlib.Core.Path.{_≡_, refl, sym, ap, _∙_, subst}
-use mathlib.Core.Logic.{_≢_, inl, inr}
+use mathlib.Core.Logic.{_⊎_, _≢_, inl, inr, ⊎-elim}
 use Prim.Native.Nat.{ℕ, zero, suc, _+_, _*_, _≤_, _<_}
 use native.Mathlib.Omega.{arith}
 use mathlib.Core.List.{List, [], _∷_}
@@ -22,7 +22,7 @@ use Rattle.kvmi.specs.declared.Verdict.{Verdict}
 use Rattle.kvmi.specs.Answer.{handled}
 use Rattle.kvmi.specs.Limits.{pageLimit}
 use Rattle.kvmi.specs.Codes.{isError, OK, ENOMEM}
-use Rattle.kvmi.specs.Settings.{inRange}
+use Rattle.kvmi.specs.Settings.{inRange, allOrNothing}
 use Rattle.kvmi.specs.Tables.{Tables, resting, emptyTables, withVcpus, withMsrs, withPages}
 use Rattle.kvmi.specs.Model.{Model, fresh, withTables, withAwaited}
 use Rattle.kvmi.specs.Message.{namesVcpu, vcpuOf, enables, registerOf, countOf, viewOf, entriesOf}
@@ -30,11 +30,11 @@ use Rattle.kvmi.specs.Verdict.{changeOf, modeOf, verdict}
 use Rattle.kvmi.specs.Valid.{Valid}
 use Rattle.kvmi.specs.Call as model
 use Rattle.store.specs.Words.{field, setField, setMsrBit, cleared, SINGLESTEP, CRS, EVENTS, PAUSES, AWAITED, AWAITED-SEQ, FAULT-GVA, FAULT-GPA, FAULT-ACCESS, setFault, endedWait, vcpuWordCount}
-use Rattle.page_words.specs.PageWords.{runEntries, pageWordCount}
+use Rattle.page_words.specs.PageWords.{PageTable, pageTable, runEntries, pageWordCount}
 use Rattle.kvmi.specs.Mode.{modeOfNumber}
 use Rattle.session.specs.State.{State, state, freshSession, clearedState, withField, withSeqOf, isClosed}
 use Rattle.session.specs.Calls.{Told, toldSame, freshOf, readyOf}
-use Rattle.change.specs.Change.{change}
+use Rattle.change.specs.Change.{changedPages, pagesBy, change}
 use Rattle.message.specs.Message.{factsIn, codeBy, answeringOf, judgedOf, headedOf, messageOf}
 use Rattle.entry.specs.Entry.{enterOf}
 use Rattle.session.specs.Meaning.{tablesOf, modelOf, WordsGood, WellFormed}
@@ -162,23 +162,36 @@ message-apart st msg out guest i other =
     by-header Broken = λ h. absurd (h refl)
     by-header (Whole id size seq) = judged-apart st guest (drop 8 msg) i other id seq out (factsIn st (length guest) (vcpuOf (drop 8 msg)))
 
--- ---- an error changes no tables and no guest memory, message 13 with -12 excepted
-limit-code : (b : Bool) → isError (cond b ENOMEM OK) ≡ true → cond b ENOMEM OK ≡ ENOMEM
-limit-code true e = refl
-limit-code false e = absurd (false≢true e)
-
+-- ---- an error changes no tables and no guest memory, message 13 with -12 in revision 1 excepted
 -- pages and the next event's seq can be changed in either order
 pages-seq : (st x : State) (seq : ℕ) → x ≡ withPagesOf st (x .session .tool .pages) (x .pages) → withSeqOf x seq ≡ withPagesOf (withSeqOf st seq) (x .session .tool .pages) (x .pages)
 pages-seq st x seq e = ap (λ (y : State). withSeqOf y seq) e
 
+same-seq : (st x : State) (seq : ℕ) → x ≡ withPagesOf st (st .session .tool .pages) (st .pages) → withSeqOf x seq ≡ withSeqOf st seq
+same-seq st x seq e = ap (λ (y : State). withSeqOf y seq) e
+
 module _ (st : State) (guest d : List ℕ) where
+  -- the pages as they were, or not all or nothing and other pages
+  abbrev Pages-by : State → Type 0
+  Pages-by x =
+      (x ≡ withPagesOf st (st .session .tool .pages) (st .pages))
+      ⊎ ((allOrNothing (st .session .settings) ≡ false) × (x ≡ withPagesOf st (x .session .tool .pages) (x .pages)))
+
+  by-revision : (whole skipped : Bool) (t : PageTable) → allOrNothing (st .session .settings) ≡ whole → t .skipped ≡ skipped
+      → let r = changedPages st guest (cond (whole && skipped) (pageTable (st .pages) (st .session .tool .pages) true) t) in
+      isError (r .code) ≡ true → (r .code ≡ ENOMEM) × Pages-by (r .state)
+  by-revision true true t w k e = (refl, inl refl)
+  by-revision true false t w k e = absurd (false≢true (rw k at e))
+  by-revision false true t w k e = (rw k, inr (w, refl))
+  by-revision false false t w k e = absurd (false≢true (rw k at e))
+
   abbrev Only-13 : ℕ → Change → Type 0
   Only-13 id c =
       let r = change st guest d c in
-      isError (r .code) ≡ true → (id ≡ 13) × (r .code ≡ ENOMEM) × (r .guest ≡ guest) × (r .state ≡ withPagesOf st (r .state .session .tool .pages) (r .state .pages))
+      isError (r .code) ≡ true → (id ≡ 13) × (r .code ≡ ENOMEM) × (r .guest ≡ guest) × Pages-by (r .state)
 
   only-13 : (id : ℕ) → Only-13 id (changeOf id d)
-  unfolding changeOf change
+  unfolding changeOf change pagesBy
   only-13 id =
       pick (Only-13 id) (eqb id 5) _ _ (λ _ e. absurd (false≢true e))
       (λ _. pick (Only-13 id) (eqb id 7) _ _ (λ _ e. absurd (false≢true e))
@@ -186,7 +199,8 @@ module _ (st : State) (guest d : List ℕ) where
       (λ _. pick (Only-13 id) (eqb id 10) _ _ (λ _ e. absurd (false≢true e))
       (λ _. pick (Only-13 id) (eqb id 11) _ _ (λ _ e. absurd (false≢true e))
       (λ _. pick (Only-13 id) (eqb id 12) _ _ (λ _ e. absurd (false≢true e))
-      (λ _. pick (Only-13 id) (eqb id 13) _ _ (λ h e. (eqb-true id 13 h, limit-code (runEntries pageLimit (viewOf d) (entriesOf (countOf d) (drop 8 d)) (st .pages) (st .session .tool .pages) .skipped) e, refl, refl))
+      (λ _. pick (Only-13 id) (eqb id 13) _ _ (λ h e. let t = runEntries pageLimit (viewOf d) (entriesOf (countOf d) (drop 8 d)) (st .pages) (st .session .tool .pages) in
+      let b = by-revision (allOrNothing (st .session .settings)) (t .skipped) t refl refl e in (eqb-true id 13 h, b .0, refl, b .1))
       (λ _. pick (Only-13 id) (eqb id 14) _ _ (λ _ e. absurd (false≢true e))
       (λ _. pick (Only-13 id) (eqb id 15) _ _ (λ _ e. absurd (false≢true e)) (λ _ e. absurd (false≢true e))))))))))
 
@@ -199,7 +213,8 @@ module _ (st : State) (guest d : List ℕ) where
   spared-by msg id size seq out f w =
       verdict-cases (Spared-by msg id size seq out) (st .session .settings) f id seq d (λ e. absurd (false≢true e)) (λ code _ _. inl (refl, refl))
       (λ _ e. let o = only-13 id e in
-      inr ((size, seq, w ∙ ap (λ (n : ℕ). Whole n size seq) (o .0)), o .1, (o .2, pages-seq st _ _ (o .3))))
+      ⊎-elim (λ q. inl (o .2, same-seq st _ _ q))
+      (λ q. inr ((size, seq, w ∙ ap (λ (n : ℕ). Whole n size seq) (o .0)), o .1, q .0, (o .2, pages-seq st _ _ (q .1)))) (o .3))
       (λ _ e. absurd (false≢true e))
 
 -- a message that is answered with an error

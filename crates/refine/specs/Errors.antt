@@ -3,7 +3,7 @@ use mathlib.Core.Path.{_≡_}
 use mathlib.Core.Logic.{_⊎_}
 use Prim.Native.Nat.{ℕ}
 use mathlib.Core.List.{List}
-use mathlib.Core.Bool.{cond, not}
+use mathlib.Core.Bool.{false, cond, not}
 use lib.IntN.{ℤ}
 use lib.ListN.{length, drop}
 use lib.Dec.{ltb, eqb}
@@ -13,6 +13,7 @@ use Rattle.wire.specs.declared.Header.the-variants.{Whole, Broken}
 use Rattle.kvmi.specs.declared.Verdict.{Verdict}
 use Rattle.kvmi.specs.declared.Verdict.the-variants.{Closes, Fails, Does}
 use Rattle.kvmi.specs.Limits.{leastOut}
+use Rattle.kvmi.specs.Settings.{allOrNothing}
 use Rattle.kvmi.specs.Codes.{OK, ENOMEM}
 use Rattle.kvmi.specs.Message.{vcpuOf}
 use Rattle.kvmi.specs.Verdict.{verdict}
@@ -49,6 +50,7 @@ abbrev pub SparedButPages : State → List ℕ → Told → Type 0
 SparedButPages st guest r =
     (r .guest ≡ guest) × (r .state ≡ withPagesOf (withSeqOf st (r .state .session .tool .seq)) (r .state .session .tool .pages) (r .state .pages))
 
--- "An error changes no standing or guest memory, message 13 with -12 excepted."
+-- "An error changes no standing or guest memory, message 13 with -12 excepted."; W7: "In revision 2, message 13 loses its exception"
 abbrev pub ErrorSpares : State → List ℕ → List ℕ → ℤ → Told → Type 0
-ErrorSpares st msg guest code r = Spared st guest r ⊎ (HasId msg 13 × (code ≡ ENOMEM) × SparedButPages st guest r)
+ErrorSpares st msg guest code r =
+    Spared st guest r ⊎ (HasId msg 13 × (code ≡ ENOMEM) × (allOrNothing (st .session .settings) ≡ false) × SparedButPages st guest r)
