@@ -25,19 +25,19 @@ abbrev pub Rests : Settings → Model → Type 0
 Rests s m = m .closed ≡ true → m ≡ closedModel s
 
 -- no change closes
-apply-lives : (m : Model) (guest d : List ℕ) (c : Change) → apply m guest d c .model .closed ≡ m .closed
+apply-lives : (s : Settings) (m : Model) (guest d : List ℕ) (c : Change) → apply s m guest d c .model .closed ≡ m .closed
 unfolding apply
-apply-lives m guest d Nothing = refl
-apply-lives m guest d (SetVmEvent on event) = refl
-apply-lives m guest d (WritePhysical gpa) = refl
-apply-lives m guest d (QueuePause wait vcpu) = refl
-apply-lives m guest d (SetVcpuEvent on vcpu event) = refl
-apply-lives m guest d (SetCr on vcpu cr) = refl
-apply-lives m guest d (SetMsr on vcpu msr) = refl
-apply-lives m guest d (SetPages view count) = refl
-apply-lives m guest d (SetSinglestep on vcpu) = refl
-apply-lives m guest d (SetReplies now mode) = refl
-apply-lives m guest d (EndWait resumes vcpu action value feed) = refl
+apply-lives s m guest d Nothing = refl
+apply-lives s m guest d (SetVmEvent on event) = refl
+apply-lives s m guest d (WritePhysical gpa) = refl
+apply-lives s m guest d (QueuePause wait vcpu) = refl
+apply-lives s m guest d (SetVcpuEvent on vcpu event) = refl
+apply-lives s m guest d (SetCr on vcpu cr) = refl
+apply-lives s m guest d (SetMsr on vcpu msr) = refl
+apply-lives s m guest d (SetPages view count) = refl
+apply-lives s m guest d (SetSinglestep on vcpu) = refl
+apply-lives s m guest d (SetReplies now mode) = refl
+apply-lives s m guest d (EndWait resumes vcpu action value feed) = refl
 
 module _ (s : Settings) (m : Model) (rests : Rests s m) where
   abbrev R : Step → Type 0
@@ -51,7 +51,7 @@ module _ (s : Settings) (m : Model) (rests : Rests s m) where
   unfolding judged answering
   judged-rests id seq d out guest lives Closes = λ _. refl
   judged-rests id seq d out guest lives (Fails code) = still-lives lives _ refl
-  judged-rests id seq d out guest lives (Does c) = still-lives lives _ (apply-lives m guest d c)
+  judged-rests id seq d out guest lives (Does c) = still-lives lives _ (apply-lives s m guest d c)
 
   headed-rests : (d out guest : List ℕ) → m .closed ≡ false → (h : Header) → R (headed s m d out guest h)
   unfolding headed

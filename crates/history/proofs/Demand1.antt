@@ -367,12 +367,19 @@ module _ (st : State) where
 -- ---- how a session begins
 in-range : (s : Settings) → inRange s ≡ true → InRange s
 unfolding inRange
-in-range s h =
-    (leb-true 1 (s .vcpus) (search (and-l, and-r)), leb-true (s .vcpus) 16 (search (and-l, and-r)), leb-true 1 (s .views) (search (and-l, and-r)), leb-true (s .views) 8 (search (and-l, and-r)))
+in-range s h = (
+  leb-true 1 (s .vcpus) (search (and-l, and-r)),
+  leb-true (s .vcpus) 16 (search (and-l, and-r)),
+  leb-true 1 (s .views) (search (and-l, and-r)),
+  leb-true (s .views) 8 (search (and-l, and-r)),
+  leb-true 1 (s .revision) (search (and-l, and-r)),
+  leb-true (s .revision) 2 (search (and-l, and-r)),
+)
 
 range-in : (s : Settings) → InRange s → inRange s ≡ true
 unfolding inRange
-range-in s (a, b, c, d) = rw (le-leb 1 (s .vcpus) a, le-leb (s .vcpus) 16 b, le-leb 1 (s .views) c, le-leb (s .views) 8 d)
+range-in s (a, b, c, d, e, f) =
+    rw (le-leb 1 (s .vcpus) a, le-leb (s .vcpus) 16 b, le-leb 1 (s .views) c, le-leb (s .views) 8 d, le-leb 1 (s .revision) e, le-leb (s .revision) 2 f)
 
 out-of-range : (s : Settings) → (InRange s → ⊥) → inRange s ≡ false
 out-of-range s f = test (inRange s) (λ h. absurd (f (in-range s h))) (λ h. h)

@@ -39,7 +39,7 @@ use Rattle.kvmi.specs.Reply.{messageBytes, replyBytes, replyData, commandErrorE
 use Rattle.page_words.specs.PageWords.{runEntries}
 use Rattle.session.specs.State.{State, isClosed}
 use Rattle.session.specs.Calls.{Told, toldSame}
-use Rattle.change.specs.Change.{change}
+use Rattle.change.specs.Change.{pagesBy, change}
 use Rattle.message.specs.Message.{factsIn, codeBy, answeringOf, judgedOf, headedOf, messageOf}
 use Rattle.stream.specs.declared.Code.the-variants.{Written}
 use Rattle.stream.specs.Line.{errorOf}
@@ -89,7 +89,7 @@ change-fits st guest d (SetVcpuEvent on vcpu event) = sfits-lit tt
 change-fits st guest d (SetCr on vcpu cr) = sfits-lit tt
 change-fits st guest d (SetMsr on vcpu msr) = sfits-lit tt
 change-fits st guest d (SetPages view count) =
-    pick (SFits w32) (runEntries pageLimit view (entriesOf count (drop 8 d)) (st .pages) (st .session .tool .pages) .skipped) ENOMEM OK (λ _. sfits-lit tt) (λ _. sfits-lit tt)
+    pick (SFits w32) (pagesBy (st .session .settings) (st .pages) (st .session .tool .pages) (runEntries pageLimit view (entriesOf count (drop 8 d)) (st .pages) (st .session .tool .pages)) .skipped) ENOMEM OK (λ _. sfits-lit tt) (λ _. sfits-lit tt)
 change-fits st guest d (SetSinglestep on vcpu) = sfits-lit tt
 change-fits st guest d (SetReplies now mode) = sfits-lit tt
 change-fits st guest d (EndWait resumes vcpu action value feed) = sfits-lit tt
@@ -208,4 +208,4 @@ invalid-spares st msg out guest e = by (error-spares st msg out guest (rw e))
 
     by : ErrorSpares st msg guest (codeOf st msg out guest) (messageOf st msg out guest) → Spared st guest (messageOf st msg out guest)
     by (inl w) = w
-    by (inr (_, twelve, _)) = let no = ap below (sym e ∙ twelve) in absurd (omega arith)
+    by (inr (_, twelve, _, _)) = let no = ap below (sym e ∙ twelve) in absurd (omega arith)

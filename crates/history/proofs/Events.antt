@@ -175,10 +175,10 @@ over st vcpu block event own out fits a = rw (fits, none-fits, a, none-asked)
 
 -- ---- a call between: the awaited record of a vCPU stays
 -- no command ends a wait
-change-waits : (m : Model) (guest d : List ℕ) (id : ℕ) → apply m guest d (changeOf id d) .model .awaited ≡ m .awaited
+change-waits : (s : Settings) (m : Model) (guest d : List ℕ) (id : ℕ) → apply s m guest d (changeOf id d) .model .awaited ≡ m .awaited
 unfolding changeOf apply
-change-waits m guest d id =
-    let K : Change → Type 0 = λ c. apply m guest d c .model .awaited ≡ m .awaited in
+change-waits s m guest d id =
+    let K : Change → Type 0 = λ c. apply s m guest d c .model .awaited ≡ m .awaited in
     pick K (eqb id 5) _ _ (λ _. refl)
     (λ _. pick K (eqb id 7) _ _ (λ _. refl)
     (λ _. pick K (eqb id 9) _ _ (λ _. refl)
@@ -199,7 +199,7 @@ module _ (s : Settings) (m : Model) (vcpu : ℕ) (waits : isSome (awaitedBy m vc
   headed-waits msg out guest other (Whole id size seq) w =
       let d = drop 8 msg in
       verdict-cases (λ v. Waits (judged s m id seq d out guest v)) s (factsOf m (length guest) (vcpuOf d)) id seq d (λ o. absurd (true≢false o)) (λ code _ _. refl)
-      (λ _ _. ap (λ (l : List (Option Awaited)). getD l vcpu none) (change-waits m guest d id))
+      (λ _ _. ap (λ (l : List (Option Awaited)). getD l vcpu none) (change-waits s m guest d id))
       (λ p _. let gone = other (size, seq, w ∙ ap (λ (n : ℕ). Whole n size seq) (p .reply)) in
       getD-set-other (m .awaited) (vcpuOf d) vcpu none none (λ e. gone (sym e)))
 
@@ -255,7 +255,7 @@ module _ (s : Settings) (m : Model) (known : KnownEvents m) where
   headed-known d out guest Broken = every-replicate isKnown (s .vcpus) none refl
   headed-known d out guest (Whole id size seq) =
       verdict-cases (λ v. K (judged s m id seq d out guest v)) s (factsOf m (length guest) (vcpuOf d)) id seq d (every-replicate isKnown (s .vcpus) none refl) (λ _ _. known)
-      (λ _. subst (λ (l : List (Option Awaited)). So (every isKnown l)) (sym (change-waits m guest d id)) known) (λ _. set-known (vcpuOf d) none refl)
+      (λ _. subst (λ (l : List (Option Awaited)). So (every isKnown l)) (sym (change-waits s m guest d id)) known) (λ _. set-known (vcpuOf d) none refl)
 
   entering-known : (v : ℕ) (block : List ℕ) (event : ℕ) (own out : List ℕ) → offerFits event own ≡ true → K (entering m v block event own out)
   unfolding sending pausing

@@ -15,6 +15,7 @@ pub mod Pauses
 pub mod Events
 pub mod Faults
 pub mod ExecuteOnly
+pub mod Revisions
 pub mod Runs
 pub mod Padding
 pub mod Msrs

@@ -42,7 +42,7 @@ use Rattle.session.specs.Meaning.{awaitedOf, modelOf}
 use Rattle.message.specs.Message.{factsIn, codeBy, answeringOf, reportingOf, judgedOf, headedOf, messageOf}
 use Rattle.entry.specs.Entry.{enterOf, enteredOf}
 use Rattle.page_words.specs.PageWords.{runEntries}
-use Rattle.change.specs.Change.{change}
+use Rattle.change.specs.Change.{pagesBy, change}
 use Rattle.image_writer.specs.Write.{statedVcpus, statedTables, imageOf}
 use Rattle.image_reader.specs.Read.{toldLoaded, readOf}
 use Rattle.batch.specs.Batch.{toldTaken, messageTakes, batchOf}
@@ -405,7 +405,7 @@ module _ (st : State) (msg out guest : List ℕ) where
   changed-with (SetVcpuEvent on vcpu event) e = absurd (omega (arith, e))
   changed-with (SetCr on vcpu cr) e = absurd (omega (arith, e))
   changed-with (SetMsr on vcpu msr) e = absurd (omega (arith, e))
-  changed-with (SetPages view count) e = by (runEntries pageLimit view (entriesOf count (drop 8 (drop 8 msg))) (st .pages) (st .session .tool .pages) .skipped) e
+  changed-with (SetPages view count) e = by (pagesBy (st .session .settings) (st .pages) (st .session .tool .pages) (runEntries pageLimit view (entriesOf count (drop 8 (drop 8 msg))) (st .pages) (st .session .tool .pages)) .skipped) e
     where
       by : (b : Bool) → negatedOf (cond b ENOMEM OK) ≢ 22
       by true e = absurd (omega (arith, e))

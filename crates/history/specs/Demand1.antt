@@ -86,9 +86,9 @@ AwaitsAny st = (vcpu : ℕ) × (vcpu < 16) × Awaits st vcpu
 abbrev pub imageLength : State → ℕ
 imageLength st = length (image (statedTables st))
 
--- "vCPU count 1..16; view count 1..8"
+-- "vCPU count 1..16; view count 1..8"; W7: "a revision other than 1 or 2 is answer 7"
 abbrev pub InRange : Settings → Type 0
-InRange s = (1 ≤ s .vcpus) × (s .vcpus ≤ 16) × (1 ≤ s .views) × (s .views ≤ 8)
+InRange s = (1 ≤ s .vcpus) × (s .vcpus ≤ 16) × (1 ≤ s .views) × (s .views ≤ 8) × (1 ≤ s .revision) × (s .revision ≤ 2)
 
 -- what tests 2 to 6 say of a message with an id and a seq
 abbrev pub saidOf : State → List ℕ → List ℕ → ℕ → ℕ → Verdict
@@ -115,7 +115,7 @@ pub record NoSession (p : Paper) (s : Settings) (vcpuWords pageWords : List ℕ)
 -- ---- begin fresh: 7
 pub record FreshAnswers (s : Settings) (vcpus pages : List ℕ) (r : Told) : Type 0 where
   pub numbers : OneOf (0 ∷ 7 ∷ []) r
-  -- "7 bad settings | a count out of its range"
+  -- "7 bad settings | a count out of its range"; W7: "a revision other than 1 or 2 is answer 7"
   pub settings : Answers r 7 ↔ (InRange s → ⊥)
   -- "no session"
   pub refused : Answers r 7 → NoSession (plain 7) s vcpus pages r
@@ -214,7 +214,7 @@ pub record WriterAnswers (st : State) (out : List ℕ) (r : Told) : Type 0 where
 -- ---- "image reader 7, then 8 or 9"
 pub record ReaderAnswers (s : Settings) (l vcpus pages : List ℕ) (r : Told) : Type 0 where
   pub numbers : OneOf (0 ∷ 7 ∷ 8 ∷ 9 ∷ []) r
-  -- "7 bad settings | a count out of its range | no session"
+  -- "7 bad settings | a count out of its range | no session"; W7: "a revision other than 1 or 2 is answer 7"
   pub settings : Answers r 7 ↔ (InRange s → ⊥)
   pub refused : Answers r 7 → NoSession (plain 7) s vcpus pages r
   -- "8 bad form, offset | image breaks a rule | no session"

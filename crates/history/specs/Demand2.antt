@@ -61,7 +61,8 @@ pub record Demand2 : Type 0 where
   -- after every list of calls each message, and each other call too
   pub acted : (s : Settings) (st : State) (m : Model) → BeganOn s st m → (cs : List Call) (c : Call)
       → SameStep (stepOf (afterOf st cs) c) (step s (after s m cs) c)
-  -- "An error changes no standing or guest memory, message 13 with -12 excepted.": an error that stands in the bytes written
+  -- "An error changes no standing or guest memory, message 13 with -12 excepted.", W7: "In revision 2, message 13 loses its exception": an error that stands
+  -- in the bytes written
   pub errors : (st : State) (msg out guest : List ℕ) (code : ℤ) → So (isError code) → WritesError (messageOf st msg out guest) code
       → ErrorSpares st msg guest code (messageOf st msg out guest)
   -- and one that the tests or the entries give while replies are off, so that nothing is written

@@ -10,5 +10,6 @@ pub mod Events
 pub mod Faults
 pub mod Padding
 pub mod ExecuteOnly
+pub mod Revisions
 pub mod Msrs
 pub mod Batches
