@@ -4,7 +4,7 @@
  * guest's host keeps a struct semblurick, hands it each message, sends the tool the bytes that it writes, and programs the hardware
  * as its tables say, which it reads by lookups.
  *
- *     static struct semblurick guest;                              43,080 bytes; where it stands is the host's affair
+ *     static struct semblurick guest;                              43,088 bytes; where it stands is the host's affair
  *     struct semblurick_settings s = SEMBLURICK_SETTINGS;          one vCPU, one view, nothing allowed
  *     struct semblurick_result r;
  *     s.commands = s.events = SEMBLURICK_ALL;
@@ -48,7 +48,7 @@
  * it is above 1; a resume may come with bytes to feed the instruction with; and its reply is lent the guest's memory, since it asks how
  * long that is. Who calls semblurick_raw_enter hands it the pages. Since 6: nothing; `reserved` of struct semblurick_result has one word
  * less. */
-#define SEMBLURICK_VERSION 6
+#define SEMBLURICK_VERSION 7
 
 #include <stdbool.h>
 #include <stddef.h>
@@ -207,18 +207,20 @@ struct semblurick_settings {
     uint8_t breakpoints_taken;  /* by the host, for itself: the tool gets EBUSY */
     uint8_t execute_only;       /* since 3: the processor has execute-only pages, access 4. Without it message 13 with access 4 gets
                                    EINVAL, and an image that holds it is answered 9. KVMI_GET_VERSION does not tell it */
+    uint32_t revision;          /* since 7: of the protocol, 1 or 2; another is answered 7 */
 };
-SEMBLURICK_ASSERT(sizeof(struct semblurick_settings) == 32);
+SEMBLURICK_ASSERT(sizeof(struct semblurick_settings) == 40);
 SEMBLURICK_ASSERT(offsetof(struct semblurick_settings, tsc_speed) == 16);
 SEMBLURICK_ASSERT(offsetof(struct semblurick_settings, breakpoints_taken) == 30);
 SEMBLURICK_ASSERT(offsetof(struct semblurick_settings, execute_only) == 31);
+SEMBLURICK_ASSERT(offsetof(struct semblurick_settings, revision) == 32);
 
 /* What every host's settings begin with, so that a setting which is added later breaks no build: one vCPU, one view, nothing allowed,
  * every feature and flag 0.   struct semblurick_settings s = SEMBLURICK_SETTINGS;   then set by name what is to differ. A capability
  * that is added later is 0, too: what needs it is refused until a host sets it, even where an earlier version took it (execute_only).
  * Where settings are filled member by member without an initializer, one that nobody sets is whatever stands there: execute_only is
  * byte 31, padding before 3. */
-#define SEMBLURICK_SETTINGS {1, 1, 0, 0, 0, 0, 0, 0, 0, 0, 0, 0, 0}
+#define SEMBLURICK_SETTINGS {1, 1, 0, 0, 0, 0, 0, 0, 0, 0, 0, 0, 0, 1}
 
 /* A set of commands or events: s.events = SEMBLURICK_BIT(KVMI_EVENT_CR) | SEMBLURICK_BIT(KVMI_EVENT_MSR); */
 #define SEMBLURICK_BIT(number) (UINT32_C(1) << (number))
@@ -238,11 +240,11 @@ struct semblurick_session {
     uint32_t seq;        /* of the next event */
     uint64_t ready;      /* bit i: vCPU i is ready */
 };
-SEMBLURICK_ASSERT(sizeof(struct semblurick_session) == 72);
-SEMBLURICK_ASSERT(offsetof(struct semblurick_session, vm_events) == 32);
-SEMBLURICK_ASSERT(offsetof(struct semblurick_session, opened) == 48);
-SEMBLURICK_ASSERT(offsetof(struct semblurick_session, seq) == 56);
-SEMBLURICK_ASSERT(offsetof(struct semblurick_session, ready) == 64);
+SEMBLURICK_ASSERT(sizeof(struct semblurick_session) == 80);
+SEMBLURICK_ASSERT(offsetof(struct semblurick_session, vm_events) == 40);
+SEMBLURICK_ASSERT(offsetof(struct semblurick_session, opened) == 56);
+SEMBLURICK_ASSERT(offsetof(struct semblurick_session, seq) == 64);
+SEMBLURICK_ASSERT(offsetof(struct semblurick_session, ready) == 72);
 
 /* The vCPUs' records and MSR switches; anything may stand in them before a session begins. */
 struct semblurick_vcpus {
@@ -260,7 +262,7 @@ struct semblurick {
     struct semblurick_vcpus vcpus;
     struct semblurick_pages pages;
 };
-SEMBLURICK_ASSERT(sizeof(struct semblurick) == 43080);
+SEMBLURICK_ASSERT(sizeof(struct semblurick) == 43088);
 
 /* Where a call writes what goes to the tool or to a new host. */
 struct semblurick_output {

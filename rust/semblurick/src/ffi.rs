@@ -15,6 +15,7 @@ pub struct Settings {
     pub descriptors: u8,
     pub breakpoints_taken: u8,
     pub execute_only: u8,
+    pub revision: u32,
 }
 
 #[repr(C)]
@@ -89,9 +90,9 @@ pub type Vcpus = [u64; VCPU_WORDS];
 pub type Pages = [u64; PAGE_WORDS];
 
 const _: () = {
-    assert!(core::mem::size_of::<Settings>() == 32);
-    assert!(core::mem::offset_of!(Settings, execute_only) == 31);
-    assert!(core::mem::size_of::<Session>() == 72);
+    assert!(core::mem::size_of::<Settings>() == 40);
+    assert!(core::mem::offset_of!(Settings, execute_only) == 31 && core::mem::offset_of!(Settings, revision) == 32);
+    assert!(core::mem::size_of::<Session>() == 80);
     assert!(core::mem::size_of::<Outcome>() == 96);
     assert!(core::mem::size_of::<BatchOutcome>() == 96);
     assert!(core::mem::offset_of!(Outcome, source) == 56 && core::mem::offset_of!(BatchOutcome, source) == 56);

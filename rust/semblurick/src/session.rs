@@ -5,7 +5,7 @@ use core::mem::MaybeUninit;
 use core::num::NonZeroU32;
 use core::ptr::addr_of_mut;
 
-/// A session, with its tables: 43,080 bytes.
+/// A session, with its tables: 43,088 bytes.
 ///
 /// [`fresh`](Session::fresh) and [`from_image`](Session::from_image) give one by value. Where the stack is small or the move of 43 KB
 /// is too dear, keep the memory in a `static` or a box and begin in place: [`begin`](Session::begin) and [`load`](Session::load) on a
@@ -45,6 +45,7 @@ impl Session {
             descriptors: 0,
             breakpoints_taken: 0,
             execute_only: 0,
+            revision: 0,
         };
         let raw = ffi::Session { settings, vm_events: 0, pages: 0, opened: 0, mode: 0, seq: 0, ready: 0 };
         Session { raw, vcpus: [0; ffi::VCPU_WORDS], pages: [0; ffi::PAGE_WORDS] }

@@ -54,6 +54,8 @@ pub struct Settings {
     pub breakpoints_taken: bool,
     /// The processor has execute-only pages. Without it access 4 is refused, in `KVMI_VM_SET_PAGE_ACCESS` and in images.
     pub execute_only: bool,
+    /// The revision of the protocol: 1 or 2.
+    pub revision: u32,
 }
 
 impl Settings {
@@ -70,6 +72,7 @@ impl Settings {
             descriptors: false,
             breakpoints_taken: false,
             execute_only: false,
+            revision: 1,
         }
     }
 
@@ -137,6 +140,8 @@ impl Settings {
         /// # Ok::<(), Refusal>(())
         /// ```
         execute_only: bool,
+        /// The revision of the protocol, 1 or 2.
+        revision: u32,
     }
 
     #[inline]
@@ -152,6 +157,7 @@ impl Settings {
             descriptors: self.descriptors.into(),
             breakpoints_taken: self.breakpoints_taken.into(),
             execute_only: self.execute_only.into(),
+            revision: self.revision,
         }
     }
 
@@ -167,6 +173,7 @@ impl Settings {
             descriptors: raw.descriptors != 0,
             breakpoints_taken: raw.breakpoints_taken != 0,
             execute_only: raw.execute_only != 0,
+            revision: raw.revision,
         }
     }
 }
