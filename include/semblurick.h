@@ -5,10 +5,11 @@
  * as its tables say, which it reads by lookups.
  *
  *     static struct semblurick guest;                              43,088 bytes; where it stands is the host's affair
- *     struct semblurick_settings s = SEMBLURICK_SETTINGS;          one vCPU, one view, nothing allowed
+ *     struct semblurick_settings s = SEMBLURICK_SETTINGS;          one vCPU, one view, nothing allowed, revision 1
  *     struct semblurick_result r;
  *     s.commands = s.events = SEMBLURICK_ALL;
  *     s.execute_only = 1;                                          where the processor has execute-only pages
+ *     s.revision = 2;                                              where the tool speaks revision 2
  *     if (semblurick_fresh(&guest, &s) != SEMBLURICK_HANDLED) ..   then semblurick_ready for each vCPU
  *
  *     for each message that the tool sends:
@@ -47,7 +48,9 @@
  * Since 4: nothing. Since 5: nothing, unless it offers event 10, PF, which was answered 5 before. Then: answer 12 is no refusal, though
  * it is above 1; a resume may come with bytes to feed the instruction with; and its reply is lent the guest's memory, since it asks how
  * long that is. Who calls semblurick_raw_enter hands it the pages. Since 6: nothing; `reserved` of struct semblurick_result has one word
- * less. */
+ * less. Since 7: nothing, where its settings begin from SEMBLURICK_SETTINGS, which has revision 1. Settings that are filled in any other
+ * way, member by member, of zeros or by a list, need `revision` set: else it is 0 or whatever stands there, and a session is refused
+ * where it begins, with answer 7. The settings, and so struct semblurick, are 8 bytes longer. */
 #define SEMBLURICK_VERSION 7
 
 #include <stdbool.h>
@@ -114,7 +117,7 @@ SEMBLURICK_U32_ENUM(semblurick_answer) {
     SEMBLURICK_BAD_STATE = 5,      /* the register block is not 536 bytes; since 2 also: no such event can be offered, or its own
                                       bytes have another length, whether it is switched on or off */
     SEMBLURICK_WAITING = 6,        /* that vCPU's event reply is awaited */
-    SEMBLURICK_BAD_SETTINGS = 7,   /* a count is out of its range */
+    SEMBLURICK_BAD_SETTINGS = 7,   /* a count is out of its range; since 7 also: the revision is neither 1 nor 2 */
     SEMBLURICK_BAD_FORM = 8,       /* the image breaks a rule; result: offset */
     SEMBLURICK_FORBIDDEN = 9,      /* the image wants what the settings lack (since 3 also execute_only, for access 4); result: offset */
     SEMBLURICK_BUSY = 10,          /* an event reply is awaited, so that there is no image */
@@ -207,7 +210,9 @@ struct semblurick_settings {
     uint8_t breakpoints_taken;  /* by the host, for itself: the tool gets EBUSY */
     uint8_t execute_only;       /* since 3: the processor has execute-only pages, access 4. Without it message 13 with access 4 gets
                                    EINVAL, and an image that holds it is answered 9. KVMI_GET_VERSION does not tell it */
-    uint32_t revision;          /* since 7: of the protocol, 1 or 2; another is answered 7 */
+    uint32_t revision;          /* since 7: of the protocol that the tool speaks, 1 or 2; with another no session begins: answer 7.
+                                   KVMI_GET_VERSION reports it. In revision 2 message 13 is all or nothing
+                                   (struct kvmi_vm_set_page_access), and all else is as in revision 1 */
 };
 SEMBLURICK_ASSERT(sizeof(struct semblurick_settings) == 40);
 SEMBLURICK_ASSERT(offsetof(struct semblurick_settings, tsc_speed) == 16);
@@ -216,10 +221,10 @@ SEMBLURICK_ASSERT(offsetof(struct semblurick_settings, execute_only) == 31);
 SEMBLURICK_ASSERT(offsetof(struct semblurick_settings, revision) == 32);
 
 /* What every host's settings begin with, so that a setting which is added later breaks no build: one vCPU, one view, nothing allowed,
- * every feature and flag 0.   struct semblurick_settings s = SEMBLURICK_SETTINGS;   then set by name what is to differ. A capability
- * that is added later is 0, too: what needs it is refused until a host sets it, even where an earlier version took it (execute_only).
- * Where settings are filled member by member without an initializer, one that nobody sets is whatever stands there: execute_only is
- * byte 31, padding before 3. */
+ * every feature and flag 0, revision 1.   struct semblurick_settings s = SEMBLURICK_SETTINGS;   then set by name what is to differ. A
+ * capability that is added later is 0, too: what needs it is refused until a host sets it, even where an earlier version took it
+ * (execute_only). Where settings are filled member by member without an initializer, one that nobody sets is whatever stands there:
+ * execute_only is byte 31, padding before 3; and a revision that nobody sets is 0 in memory of zeros, which is answered 7. */
 #define SEMBLURICK_SETTINGS {1, 1, 0, 0, 0, 0, 0, 0, 0, 0, 0, 0, 0, 1}
 
 /* A set of commands or events: s.events = SEMBLURICK_BIT(KVMI_EVENT_CR) | SEMBLURICK_BIT(KVMI_EVENT_MSR); */
@@ -368,7 +373,8 @@ uint32_t semblurick_raw_page_at(const struct semblurick_session *session, const 
 /* ---- calls (since 1) */
 
 /* Begins a session: every switch off, no vCPU ready, no pause queued, every page at rwx, replies on, the next event's seq 0. What
- * stood in *guest does not matter. Answers 7 (a count of the settings is out of its range; the session is then a closed one), or 0. */
+ * stood in *guest does not matter. Answers 7 (a count of the settings or, since 7, their revision is out of its range; the session is then
+ * a closed one), or 0. */
 SEMBLURICK_CHECKED static inline enum semblurick_answer semblurick_fresh(struct semblurick *guest,
                                                                          const struct semblurick_settings *settings) {
     struct semblurick_result nothing;
@@ -386,7 +392,7 @@ SEMBLURICK_CHECKED static inline enum semblurick_answer semblurick_ready(struct 
  * SEMBLURICK_MESSAGE_OUT bytes. Answers 2, 3, tested in this order, or
  *   0: the first result->count bytes of the output, if any, go to the tool: a reply, or an event where the tool turned replies off
  *      but for errors. A command that fails is answered 0, too: its reply has the error, or, with replies off, an event where the tool
- *      asked for one; it changed nothing (but that of message 13 with ENOMEM the entries that had room are applied). See
+ *      asked for one; it changed nothing (but that in revision 1 of message 13 with ENOMEM the entries that had room are applied). See
  *      result->signal, and where it resumes a vCPU from a PF semblurick_fed.
  *   1: the message is cut, has a size that its id has not, or breaks another rule that closes. The session is closed, its tables
  *      are empty, nothing was written.
@@ -587,7 +593,7 @@ SEMBLURICK_CHECKED static inline enum semblurick_answer semblurick_image_write(c
 
 /* Begins a session as an image states, replies on, the next event's seq 0. Answers 7, or 8 or 9 for the first record that calls for
  * one, at result->offset, or 0. Refused, no word of the tables changes, and the session is a closed one. Since 3: a PA with access 4
- * is answered 9 where the settings lack execute_only. */
+ * is answered 9 where the settings lack execute_only. An image has no revision: it is that of the settings. */
 SEMBLURICK_CHECKED static inline enum semblurick_answer semblurick_image_read(struct semblurick *guest,
                                                                               const struct semblurick_settings *settings,
                                                                               const void *image, size_t image_size,
@@ -884,7 +890,7 @@ struct kvmi_features {
     uint8_t padding[3];
 };
 struct kvmi_get_version_reply {
-    uint32_t version;  /* 1 */
+    uint32_t version;  /* the settings' revision: 1 or, since 7, 2 */
     uint32_t padding;
     struct kvmi_features features;
 };
@@ -979,7 +985,9 @@ struct kvmi_vcpu_control_msr {
 };
 SEMBLURICK_ASSERT(sizeof(struct kvmi_vcpu_control_msr) == 8 && offsetof(struct kvmi_vcpu_control_msr, msr) == 4);
 
-/* 13 KVMI_VM_SET_PAGE_ACCESS; then `count` entries, which act in order; with EINVAL none acts. Access 7 forgets a page. */
+/* 13 KVMI_VM_SET_PAGE_ACCESS; then `count` entries, which act in order; with EINVAL none acts. Access 7 forgets a page. An entry for one
+ * more page below rwx finds no room where SEMBLURICK_PAGE_LIMIT of them stand when its turn comes, whatever a later entry forgets: ENOMEM.
+ * In revision 1 it is skipped, and the others act; in revision 2 (since 7) none acts. */
 struct kvmi_vm_set_page_access {
     uint16_t count;
     uint16_t view;

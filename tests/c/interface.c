@@ -176,8 +176,9 @@ static void settings(void) {
     struct semblurick_settings s = SEMBLURICK_SETTINGS;
     CHECK(s.vcpus == 1 && s.views == 1 && s.commands == 0 && s.events == 0 && s.tsc_speed == 0 && s.singlestep == 0 && s.vmfunc == 0);
     CHECK(s.eptp == 0 && s.ve == 0 && s.spp == 0 && s.descriptors == 0 && s.breakpoints_taken == 0 && s.execute_only == 0);
+    CHECK(s.revision == 1 && sizeof s == 40 && offsetof(struct semblurick_settings, revision) == 32);
     CHECK(SEMBLURICK_BIT(KVMI_VM_GET_INFO) == 16 && SEMBLURICK_BIT(31) == 0x80000000 && SEMBLURICK_ALL == 0xFFFFFFFF);
-    CHECK(SEMBLURICK_VERSION == 6);
+    CHECK(SEMBLURICK_VERSION == 7);
 
     /* memory of zeros is a closed session */
     CHECK(!semblurick_is_open(&guest) && semblurick_ready(&guest, 0) == SEMBLURICK_CLOSED);
@@ -1275,15 +1276,19 @@ static void parts(void) {
 
 /* ---- execute-only pages: access 4, and no other, goes by the flag */
 
-/* Two entries, of pages 3 and 4 in view 0. */
-static int32_t two_pages(uint8_t first, uint8_t second) {
+/* Two entries, of pages in view 0. */
+static void begin_pages(uint64_t one, uint8_t first, uint64_t another, uint8_t second) {
     struct kvmi_vm_set_page_access p;
     struct kvmi_page_access_entry e;
     memset(&p, 0, sizeof p), memset(&e, 0, sizeof e);
     p.count = 2;
     begin(KVMI_VM_SET_PAGE_ACCESS, 13), add(&p, sizeof p);
-    e.gpa = 3 * SEMBLURICK_PAGE_BYTES, e.access = first, add(&e, sizeof e);
-    e.gpa = 4 * SEMBLURICK_PAGE_BYTES, e.access = second, add(&e, sizeof e);
+    e.gpa = one * SEMBLURICK_PAGE_BYTES, e.access = first, add(&e, sizeof e);
+    e.gpa = another * SEMBLURICK_PAGE_BYTES, e.access = second, add(&e, sizeof e);
+}
+
+static int32_t two_pages(uint8_t first, uint8_t second) {
+    begin_pages(3, first, 4, second);
     return reply();
 }
 
@@ -1334,6 +1339,99 @@ static void execute_only(void) {
     CHECK(semblurick_image_read(&other, &lacks, image, size, &r) == SEMBLURICK_FORBIDDEN && r.offset == third);
     image[third + 4] = 0;
     CHECK(semblurick_image_read(&other, &lacks, image, size, &r) == SEMBLURICK_HANDLED && is_zero(&r) && semblurick_access(&other, 1, 3) == 0);
+}
+
+/* ---- revisions: in 2 message 13 is all or nothing, and KVMI_GET_VERSION reports it; no other number begins a session */
+
+/* Answer 7, fresh and from an image, which is not looked at: the session is closed, and every word of the tables is as it was. */
+static bool is_no_revision(const struct semblurick_settings *s, size_t image_size) {
+    const struct semblurick_settings good = settings_of(1, 1);
+    for (int from_image = 0; from_image < 2; from_image++) {
+        if (semblurick_fresh(&guest, &good) || page(0, 3, 1)) return false;
+        memcpy(&before, &guest, sizeof guest);
+        memset(&r, 0xAA, sizeof r);
+        if (from_image ? semblurick_image_read(&guest, s, image, image_size, &r) != SEMBLURICK_BAD_SETTINGS || !is_zero(&r)
+                       : semblurick_fresh(&guest, s) != SEMBLURICK_BAD_SETTINGS)
+            return false;
+        if (semblurick_is_open(&guest) || semblurick_page_count(&guest) || semblurick_ready(&guest, 0) != SEMBLURICK_CLOSED) return false;
+        if (memcmp(&before.vcpus, &guest.vcpus, sizeof guest.vcpus) || memcmp(&before.pages, &guest.pages, sizeof guest.pages)) return false;
+    }
+    return true;
+}
+
+static void revisions(void) {
+    static struct semblurick full;
+    static uint8_t full_image[SEMBLURICK_IMAGE_MAX];
+    struct semblurick_settings s = settings_of(1, 1), by_hand;
+    CHECK(semblurick_fresh(&guest, &s) == SEMBLURICK_HANDLED && semblurick_image_write(&guest, semblurick_output_of(image, sizeof image), &r) == SEMBLURICK_HANDLED);
+    const size_t size = r.count;
+
+    const uint32_t others[] = {0, 3, 4, 255, 256, 257, 258, 0x10001, 0x10002, 0x80000001, 0x80000002, UINT32_MAX};
+    for (size_t i = 0; i < sizeof others / sizeof others[0]; i++) {
+        s.revision = others[i];
+        CHECK(is_no_revision(&s, size) && is_no_revision(&s, 0) && is_no_revision(&s, size - 1));
+    }
+    /* settings as a host of version 6 may fill them, in memory of zeros: the revision is missing */
+    memset(&by_hand, 0, sizeof by_hand);
+    by_hand.vcpus = by_hand.views = 1, by_hand.commands = by_hand.events = SEMBLURICK_ALL;
+    CHECK(is_no_revision(&by_hand, size));
+    by_hand.revision = 1;
+    CHECK(semblurick_fresh(&guest, &by_hand) == SEMBLURICK_HANDLED && semblurick_image_read(&guest, &by_hand, image, size, &r) == SEMBLURICK_HANDLED);
+
+    for (uint32_t revision = 1; revision <= 2; revision++) {
+        struct kvmi_get_version_reply version;
+        struct kvmi_vm_control_cmd_response off;
+        s.revision = revision;
+        CHECK(semblurick_fresh(&guest, &s) == SEMBLURICK_HANDLED);
+        begin(KVMI_GET_VERSION, 7);
+        CHECK(reply() == 0 && r.count == 32);
+        memcpy(&version, REPLY_DATA, sizeof version);
+        CHECK(version.version == revision && version.padding == 0 && version.features.singlestep == 1 && guest.session.settings.revision == revision);
+
+        /* as many pages as there is room for, and their image */
+        for (uint64_t i = 0; i < SEMBLURICK_PAGE_LIMIT; i++) CHECK(page(0, i, 5) == 0);
+        memcpy(&full, &guest, sizeof full);
+        CHECK(semblurick_image_write(&full, semblurick_output_of(full_image, sizeof full_image), &r) == SEMBLURICK_HANDLED);
+        const size_t full_size = r.count;
+
+        /* a page is forgotten, and there is room for another */
+        begin_pages(3, 7, 5000, 1);
+        CHECK(reply() == 0 && semblurick_access(&guest, 0, 3) == 7 && semblurick_access(&guest, 0, 5000) == 1);
+        CHECK(semblurick_page_count(&guest) == SEMBLURICK_PAGE_LIMIT);
+
+        /* another finds no room, and a page is forgotten behind it: in revision 1 that acts, in revision 2 all is as it was */
+        const size_t left = revision == 1 ? SEMBLURICK_PAGE_LIMIT - 1 : SEMBLURICK_PAGE_LIMIT;
+        memcpy(&guest, &full, sizeof guest), begin_pages(5000, 1, 3, 7);
+        CHECK(reply() == -KVMI_ENOMEM && r.count == 16 && r.signal == SEMBLURICK_NONE && rest_is_zero());
+        CHECK(semblurick_access(&guest, 0, 3) == (revision == 1 ? 7 : 5) && semblurick_access(&guest, 0, 5000) == 7 && semblurick_page_count(&guest) == left);
+        CHECK(semblurick_image_write(&guest, semblurick_output_of(image, sizeof image), &r) == SEMBLURICK_HANDLED);
+        CHECK((r.count == full_size && !memcmp(image, full_image, full_size)) == (revision == 2));
+
+        /* the same in a batch, and with errors told by events, which count on */
+        memcpy(&guest, &full, sizeof guest), input_size = 0, join(), join_version();
+        CHECK(batch(sizeof wide, 16) == SEMBLURICK_HANDLED && is_batch(48 + 8, 16 + 32, 0) && singly(16) == SEMBLURICK_HANDLED);
+        CHECK(semblurick_page_count(&guest) == left);
+        memcpy(&guest, &full, sizeof guest), memset(&off, 0, sizeof off), off.flags = 1;
+        begin(KVMI_VM_CONTROL_CMD_RESPONSE, 1), add(&off, sizeof off);
+        CHECK(reply() == 0);
+        begin_pages(5000, 1, 3, 7);
+        CHECK(send() == SEMBLURICK_HANDLED && r.count == 568 && !memcmp(out + 552, "\xF4\xFF\xFF\xFF", 4) && guest.session.seq == 1);
+        CHECK(semblurick_page_count(&guest) == left);
+
+        /* EINVAL comes first, and pages that stand need no room */
+        memcpy(&guest, &full, sizeof guest), begin_pages(5000, 1, 3, 2);
+        CHECK(reply() == -KVMI_EINVAL && !memcmp(&guest, &full, sizeof guest));
+        CHECK(two_pages(1, 0) == 0 && semblurick_access(&guest, 0, 3) == 1 && semblurick_access(&guest, 0, 4) == 0);
+
+        /* an image has no revision: it is read under either, and the session goes by its settings */
+        struct semblurick_settings s_new = s;
+        s_new.revision = 3 - revision;
+        CHECK(semblurick_image_read(&guest, &s_new, full_image, full_size, &r) == SEMBLURICK_HANDLED && semblurick_page_count(&guest) == SEMBLURICK_PAGE_LIMIT);
+        begin_pages(5000, 1, 3, 7);
+        CHECK(reply() == -KVMI_ENOMEM && semblurick_access(&guest, 0, 3) == (s_new.revision == 1 ? 7 : 5));
+        CHECK(semblurick_image_read(&guest, &s, full_image, full_size, &r) == SEMBLURICK_HANDLED);
+        CHECK(semblurick_image_write(&guest, semblurick_output_of(image, sizeof image), &r) == SEMBLURICK_HANDLED && r.count == full_size && !memcmp(image, full_image, full_size));
+    }
 }
 
 /* the most of everything */
@@ -1429,6 +1527,7 @@ int main(void) {
     padding();
     parts();
     execute_only();
+    revisions();
     limits();
     numbers();
     texts();

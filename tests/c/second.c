@@ -35,6 +35,10 @@ SAME(offsetof(struct semblurick_result, length), 72);
 SAME(offsetof(struct semblurick_result, padding), 80);
 SAME(offsetof(struct semblurick_result, reserved), 88);
 SAME(sizeof(struct semblurick_result), 96);
+SAME(offsetof(struct semblurick_settings, revision), 32);
+SAME(sizeof(struct semblurick_settings), 40);
+SAME(offsetof(struct semblurick_session, vm_events), sizeof(struct semblurick_settings));
+SAME(sizeof(struct semblurick_session), 80);
 
 size_t second_unit(void);
 size_t second_unit(void) {
