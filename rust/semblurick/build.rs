@@ -9,8 +9,10 @@ use std::{env, fs};
 const BATCH: &[u8] = b"semblurick_raw_batch";
 
 /// What this wrapper counts on, by the version that brought it, and that the linker would not see to be missing: since 5 an entry has one
-/// argument more; since 6 an answer tells a padding byte, where that of an earlier library would say that there is none.
-const SINCE: [(u32, &str); 2] = [(5, "an entry that takes the pages"), (6, "the offset of a padding byte")];
+/// argument more; since 6 an answer tells a padding byte, where that of an earlier library would say that there is none; since 7 a session
+/// has a revision, and what stands behind it is 8 bytes further on.
+const SINCE: [(u32, &str); 3] =
+    [(5, "an entry that takes the pages"), (6, "the offset of a padding byte"), (7, "the setting of a revision")];
 
 /// How to make the library.
 const MAKE: &str = "in Semblurick's folder (the Rattle toolchain, rt, is needed):

@@ -547,7 +547,7 @@ pub enum Refusal {
     BadState,
     /// That vCPU's event reply is awaited.
     Waiting,
-    /// A count of the settings is out of its range.
+    /// A count of the settings is out of its range, or their [`revision`](crate::Settings::revision) is neither 1 nor 2.
     BadSettings,
     /// The image breaks a rule.
     BadForm {
@@ -617,7 +617,7 @@ impl fmt::Display for Refusal {
                 write!(f, "the register block is not {STATE_BYTES} bytes, or no event of that number and length can be offered")
             }
             Refusal::Waiting => f.write_str("this vCPU's event reply is awaited"),
-            Refusal::BadSettings => f.write_str("the settings have a count out of its range"),
+            Refusal::BadSettings => f.write_str("the settings have a count or the revision out of its range"),
             Refusal::BadForm { offset } => write!(f, "the image breaks a rule at byte {offset}"),
             Refusal::Forbidden { offset } => write!(f, "the image wants what the settings lack at byte {offset}"),
             Refusal::Busy => f.write_str("an event reply is awaited"),

@@ -50,7 +50,7 @@
 //! # What can grow
 //! Types that a later version adds to are `#[non_exhaustive]`: settings are made by [`Settings::new`] and setters, and a `match` has a
 //! `_` arm. A capability that is new in the settings is absent from [`Settings::new`] until a host names it, and present in
-//! [`Settings::allowing_all`]: see [`Settings::execute_only`].
+//! [`Settings::allowing_all`]: see [`Settings::execute_only`]. The [`revision`](Settings::revision) of the protocol is 1 in both.
 //!
 //! # Threads
 //! Every type here is [`Send`] and [`Sync`]. A call that changes a session borrows it mutably, so that there is one at a time for a

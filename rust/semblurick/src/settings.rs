@@ -20,7 +20,8 @@ macro_rules! setters {
 ///
 /// A host begins from [`Settings::new`], where nothing is allowed and nothing supported, and says by name what differs. A setting that
 /// is new in a later version then breaks no build. A capability that is new is absent, and what needs it is refused until the host
-/// names it, even where an earlier version took it: access 4 without [`execute_only`](Settings::execute_only).
+/// names it, even where an earlier version took it: access 4 without [`execute_only`](Settings::execute_only). The
+/// [`revision`](Settings::revision) is 1 until the host names 2.
 ///
 /// ```
 /// use semblurick::{Event, EventSet, Features, Settings, CommandSet};
@@ -54,12 +55,12 @@ pub struct Settings {
     pub breakpoints_taken: bool,
     /// The processor has execute-only pages. Without it access 4 is refused, in `KVMI_VM_SET_PAGE_ACCESS` and in images.
     pub execute_only: bool,
-    /// The revision of the protocol: 1 or 2.
+    /// The revision of the protocol that the tool speaks: 1 or 2. Told by `KVMI_GET_VERSION`.
     pub revision: u32,
 }
 
 impl Settings {
-    /// One view, nothing allowed and nothing supported, as the C header's `SEMBLURICK_SETTINGS`.
+    /// One view, nothing allowed and nothing supported, revision 1, as the C header's `SEMBLURICK_SETTINGS`.
     #[must_use]
     pub const fn new(vcpus: u32) -> Settings {
         Settings {
@@ -76,8 +77,8 @@ impl Settings {
         }
     }
 
-    /// One view, everything allowed and supported, breakpoints free. It says of the processor that it has execute-only pages: on one
-    /// that lacks them a host adds `.execute_only(false)`.
+    /// One view, everything allowed and supported, breakpoints free, revision 1. It says of the processor that it has execute-only pages:
+    /// on one that lacks them a host adds `.execute_only(false)`.
     #[must_use]
     pub const fn allowing_all(vcpus: u32) -> Settings {
         Settings::new(vcpus)
@@ -140,7 +141,48 @@ impl Settings {
         /// # Ok::<(), Refusal>(())
         /// ```
         execute_only: bool,
-        /// The revision of the protocol, 1 or 2.
+        /// The revision of the protocol that the tool speaks, 1 or 2, which `KVMI_GET_VERSION` reports. With another no session begins:
+        /// [`Refusal::BadSettings`](crate::Refusal::BadSettings). An image has none, so that a new host names it as the old one did.
+        ///
+        /// In revision 2 `KVMI_VM_SET_PAGE_ACCESS` is all or nothing. Its entries act in order; where one of them finds no room, since
+        /// [`PAGE_LIMIT`](crate::PAGE_LIMIT) pages stand below rwx when its turn comes, the error is ENOMEM and none acts. In revision 1
+        /// that one is skipped, and the others act. All else is the same in both.
+        ///
+        /// ```
+        /// use semblurick::{Access, Errno, Refusal, Session, Settings, MESSAGE_OUT, PAGE_LIMIT};
+        ///
+        /// // KVMI_VM_SET_PAGE_ACCESS: pages of view 0, and what it allows of each
+        /// let set = |entries: &[(u64, u8)]| {
+        ///     let [low, high] = (8 + 16 * entries.len() as u16).to_le_bytes();
+        ///     let mut message = vec![13, 0, low, high, 7, 0, 0, 0];
+        ///     message.extend((entries.len() as u64).to_le_bytes());
+        ///     for (page, access) in entries {
+        ///         message.extend((page << 12).to_le_bytes());
+        ///         message.extend([*access, 0, 0, 0, 0, 0, 0, 0]);
+        ///     }
+        ///     message
+        /// };
+        /// let most: Vec<_> = (0..PAGE_LIMIT as u64).map(|page| (page, 5)).collect();
+        /// let mut out = [0; MESSAGE_OUT];
+        ///
+        /// for revision in [1, 2] {
+        ///     let mut session = Session::fresh(&Settings::allowing_all(1).revision(revision))?;
+        ///     assert_eq!(session.message(&set(&most), &mut out, &mut [])?.error(), None);
+        ///
+        ///     // one page more, to r--, and then page 3 to rwx: the first of the two finds no room
+        ///     let error = session.message(&set(&[(5000, 1), (3, 7)]), &mut out, &mut [])?.error();
+        ///     assert_eq!(error, Some(Errno::Enomem));
+        ///     assert_eq!(session.access(0, 5000), Access::RWX);
+        ///     assert_eq!(session.access(0, 3).bits(), if revision == 1 { 7 } else { 5 });
+        ///
+        ///     // in the other order there is room
+        ///     let error = session.message(&set(&[(4, 7), (5000, 1)]), &mut out, &mut [])?.error();
+        ///     assert_eq!(error, None);
+        ///     assert_eq!((session.access(0, 4), session.access(0, 5000)), (Access::RWX, Access::R));
+        /// }
+        /// assert_eq!(Session::fresh(&Settings::new(1).revision(3)).err(), Some(Refusal::BadSettings));
+        /// # Ok::<(), Refusal>(())
+        /// ```
         revision: u32,
     }
 

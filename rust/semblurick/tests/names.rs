@@ -332,7 +332,7 @@ fn what_is_fed_is_said() {
 
 #[test]
 fn a_session_reads_as_names() {
-    let mut session = Session::fresh(&Settings::allowing_all(2)).unwrap();
+    let mut session = Session::fresh(&Settings::allowing_all(2).revision(2)).unwrap();
     session.ready(1).unwrap();
     let (mut out, mut guest) = ([0; MESSAGE_OUT], [0; 4096]);
     for message in [
@@ -356,6 +356,7 @@ fn a_session_reads_as_names() {
         "msrs_on: 1",
         "awaits_reply_to: KVMI_EVENT_PAUSE_VCPU",
         "execute_only: true",
+        "revision: 2",
     ] {
         assert!(text.contains(part), "{part} is not in {text}");
     }
@@ -388,6 +389,7 @@ fn every_refusal_of_a_beginning() {
     let settings = Settings::allowing_all(2);
     assert_eq!(Session::fresh(&settings.clone().views(9)).err(), Some(Refusal::BadSettings));
     assert_eq!(Session::fresh(&Settings::allowing_all(17)).err(), Some(Refusal::BadSettings));
+    assert_eq!(Session::fresh(&settings.clone().revision(0)).err(), Some(Refusal::BadSettings));
     let session = Session::fresh(&settings).unwrap();
     let mut image = vec![0; session.image_size()];
     session.write_image(&mut image).unwrap();

@@ -1,5 +1,5 @@
-//! The wrapper's own promises: settings by name, lookups, events that are offered, page faults, padding bytes, batches, the list form, in
-//! place and on threads.
+//! The wrapper's own promises: settings by name, revisions, lookups, events that are offered, page faults, padding bytes, batches, the list
+//! form, in place and on threads.
 use semblurick::{
     own, vcpu_list, Access, Action, Answer, Batch, Command, CommandSet, Entry, Errno, Event, EventSet, Features, Feed, Page,
     Pages, Refusal, Session, Settings, Signal, Signals, Vcpu, ENTRY_OUT, EVENT_MAX, IMAGE_MAX, MAX_VCPUS, MAX_VIEWS,
@@ -40,6 +40,7 @@ fn settings_by_name() {
     assert_eq!((least.vcpus, least.views, least.commands, least.events), (3, 1, CommandSet::NONE, EventSet::NONE));
     assert_eq!((least.tsc_speed, least.features), (0, Features::NONE));
     assert!(!least.descriptors && !least.breakpoints_taken && !least.execute_only);
+    assert_eq!([least.revision, Settings::default().revision, Settings::allowing_all(1).revision], [1; 3]);
     assert_eq!(Settings::default(), Settings::new(1));
     assert_eq!(Features::default(), Features::NONE);
     const CHOSEN: Settings = Settings::new(16)
@@ -50,14 +51,17 @@ fn settings_by_name() {
         .features(Features::NONE.singlestep(2).vmfunc(3).eptp(4).ve(5).spp(255))
         .descriptors(true)
         .breakpoints_taken(true)
-        .execute_only(true);
-    // each flag by itself: none stands for another
-    for i in 0..8 {
-        let [descriptors, breakpoints_taken, execute_only] = [1, 2, 4].map(|bit| i & bit != 0);
+        .execute_only(true)
+        .revision(2);
+    // each flag and the revision by itself: none stands for another
+    for i in 0..16 {
+        let [descriptors, breakpoints_taken, execute_only, second] = [1, 2, 4, 8].map(|bit| i & bit != 0);
+        let revision = if second { 2 } else { 1 };
         let flags = CHOSEN.descriptors(descriptors).breakpoints_taken(breakpoints_taken).execute_only(execute_only);
+        let flags = flags.revision(revision);
         assert_eq!(Session::fresh(&flags).unwrap().settings(), flags);
         assert_eq!((flags.descriptors, flags.breakpoints_taken), (descriptors, breakpoints_taken));
-        assert_eq!((flags.execute_only, flags.views), (execute_only, CHOSEN.views));
+        assert_eq!((flags.execute_only, flags.views, flags.revision), (execute_only, CHOSEN.views, revision));
     }
     assert_eq!((CHOSEN.views, CHOSEN.commands.bits(), CHOSEN.events.bits()), (8, 1 << 9, !(1 << 10)));
     let all = Settings::allowing_all(2);
@@ -979,6 +983,129 @@ fn execute_only_pages() {
     assert_eq!(Session::from_image(&lacks, &image).unwrap().page_count(), 3);
 }
 
+fn image_of(session: &Session) -> Vec<u8> {
+    let mut image = vec![0; session.image_size()];
+    session.write_image(&mut image).unwrap();
+    image
+}
+
+/// 1 and 2 begin a session, and `KVMI_GET_VERSION` reports which it is; with another number none begins, fresh or from an image, which
+/// is not looked at.
+#[test]
+fn revisions() {
+    let settings = Settings::allowing_all(1).features(Features::NONE.ve(9));
+    let (mut out, mut guest) = ([0; MESSAGE_OUT], [0; 4096]);
+    let image = image_of(&Session::fresh(&settings).unwrap());
+    for revision in [1, 2] {
+        let settings = settings.clone().revision(revision);
+        let mut session = Session::fresh(&settings).unwrap();
+        // a new host reads the image under either
+        for session in [&mut session, &mut Session::from_image(&settings, &image).unwrap()] {
+            assert_eq!(session.settings(), settings);
+            let asked = message(1, &[]);
+            let answer = session.message(&asked, &mut out, &mut guest).unwrap();
+            let reply =
+                [1, 0, 24, 0, 0, 0, 0, 0, 0, 0, 0, 0, 0, 0, 0, 0, revision as u8, 0, 0, 0, 0, 0, 0, 0, 0, 0, 0, 9, 0, 0, 0, 0];
+            assert_eq!(answer.bytes(), reply);
+        }
+    }
+    for revision in [0, 3, 4, 255, 256, 257, 258, 1 << 16 | 1, 1 << 16 | 2, 1 << 31 | 1, 1 << 31 | 2, u32::MAX] {
+        let other = settings.clone().revision(revision);
+        assert_eq!(Session::fresh(&other).err(), Some(Refusal::BadSettings), "revision {revision}");
+        for image in [&image[..], &image[1..], &[]] {
+            assert_eq!(Session::from_image(&other, image).err(), Some(Refusal::BadSettings), "revision {revision}");
+        }
+        // in place: what was there is closed
+        for image in [None, Some(&image)] {
+            let mut session = Session::fresh(&settings).unwrap();
+            send(&mut session, &[access(0, &[(3, 1)])]);
+            let begun = match image {
+                Some(image) => session.load(&other, image),
+                None => session.begin(&other),
+            };
+            assert_eq!(begun, Err(Refusal::BadSettings));
+            assert!(session.is_closed() && session.page_count() == 0 && session.access(0, 3) == Access::RWX);
+        }
+    }
+}
+
+/// How many pages stand, the entries of a message, and which of them are skipped.
+type Row<'a> = (usize, &'a [(u64, u8)], &'a [usize]);
+
+/// A message that sets the access of pages where there is little room: what of it acts is, in revision 1, all but what is skipped; in
+/// revision 2 all or nothing.
+#[test]
+fn page_access_by_revision() {
+    let (mut out, mut guest) = ([0; 2 * MESSAGE_OUT], [0; 4096]);
+    let rows: [Row; 13] = [
+        (PAGE_LIMIT, &[(3, 7), (5000, 1)], &[]),
+        (PAGE_LIMIT, &[(5000, 1), (3, 7)], &[0]),
+        (PAGE_LIMIT, &[(5000, 1)], &[0]),
+        (PAGE_LIMIT, &[(5000, 7), (6000, 7)], &[]),
+        (PAGE_LIMIT, &[(3, 1), (4, 0), (1023, 4)], &[]),
+        (PAGE_LIMIT, &[(3, 1), (5000, 1), (4, 0)], &[1]),
+        (PAGE_LIMIT, &[(5000, 1), (3, 7), (5000, 3)], &[0]),
+        (PAGE_LIMIT, &[(3, 7), (5000, 1), (6000, 1), (4, 7), (3, 1)], &[2]),
+        (PAGE_LIMIT, &[(3, 7), (3, 1), (3, 7), (3, 0)], &[]),
+        (PAGE_LIMIT - 1, &[(5000, 1)], &[]),
+        (PAGE_LIMIT - 1, &[(5000, 1), (6000, 1)], &[1]),
+        (PAGE_LIMIT - 1, &[(5000, 1), (5000, 7), (6000, 1)], &[]),
+        (PAGE_LIMIT - 2, &[(5000, 1), (6000, 1), (7000, 1), (8000, 1)], &[2, 3]),
+    ];
+    for revision in [1, 2] {
+        for (stand, entries, skipped) in rows {
+            let case = format!("revision {revision}, {stand} pages, {entries:?}");
+            let mut full = Session::fresh(&Settings::allowing_all(1).views(2).revision(revision)).unwrap();
+            let pages: Vec<_> = (1024 - stand as u64..1024).map(|page| (page, 5)).collect();
+            send(&mut full, &[access(1, &pages)]);
+            assert_eq!(full.page_count(), stand);
+
+            // what it should leave, by a message for each entry that acts
+            let mut left = full.clone();
+            if revision == 1 || skipped.is_empty() {
+                let acting = entries.iter().enumerate().filter(|(i, _)| !skipped.contains(i));
+                acting.for_each(|(_, entry)| send(&mut left, &[access(1, &[*entry])]));
+            }
+            let error = (!skipped.is_empty()).then_some(Errno::Enomem);
+            let set = access(1, entries);
+
+            let mut session = full.clone();
+            let answer = session.message(&set, &mut out, &mut guest).unwrap();
+            assert_eq!((answer.error(), answer.signal(), answer.padding()), (error, Signal::None, None), "{case}");
+            assert_eq!(answer.bytes().len(), 16, "{case}");
+            assert!(image_of(&session) == image_of(&left) && session.pages().eq(left.pages()), "{case}");
+
+            // with replies off but for errors, and off for all
+            for (flags, size) in [(1, 568), (0, 0)] {
+                let mut session = full.clone();
+                send(&mut session, &[message(15, &[0, 1, flags, 0, 0, 0, 0, 0])]);
+                let answer = session.message(&set, &mut out, &mut guest).unwrap();
+                let is_told = error.is_some() && size > 0;
+                assert_eq!(answer.error(), error.filter(|_| is_told), "{case}");
+                assert_eq!(answer.bytes().len(), if is_told { size } else { 0 }, "{case}");
+                assert!(format!("{session:?}").contains(&format!("next_event_seq: {}", u32::from(is_told))), "{case}");
+                assert_eq!(image_of(&session), image_of(&left), "{case}");
+            }
+
+            // in a batch
+            let mut session = full.clone();
+            let input = [set, message(1, &[])].concat();
+            let (number, used, bytes, ..) = batch(&mut session, &input, out.len(), 1);
+            assert_eq!((number, used, bytes.len()), (0, input.len(), 16 + 32), "{case}");
+            assert_eq!(image_of(&session), image_of(&left), "{case}");
+        }
+
+        // EINVAL comes first
+        let mut session = Session::fresh(&Settings::allowing_all(1).revision(revision)).unwrap();
+        let pages: Vec<_> = (0..PAGE_LIMIT as u64).map(|page| (page, 5)).collect();
+        send(&mut session, &[access(0, &pages)]);
+        let before = image_of(&session);
+        let error = session.message(&access(0, &[(5000, 1), (3, 7), (4, 2)]), &mut out, &mut guest).unwrap().error();
+        assert_eq!(error, Some(Errno::Einval));
+        assert_eq!(image_of(&session), before);
+    }
+}
+
 #[test]
 fn the_list_form() {
     assert_eq!(size_of::<Vcpu>(), 56);
@@ -1021,7 +1148,7 @@ fn refusals_are_errors() {
     fn begin(vcpus: u32) -> Result<Session, Box<dyn Error + Send + Sync>> {
         Ok(Session::fresh(&Settings::new(vcpus))?)
     }
-    assert_eq!(begin(0).unwrap_err().to_string(), "the settings have a count out of its range");
+    assert_eq!(begin(0).unwrap_err().to_string(), "the settings have a count or the revision out of its range");
     let refusals = [
         Refusal::Closed,
         Refusal::ShortOut,
@@ -1056,7 +1183,7 @@ fn a_session_begins_where_nothing_stands() {
     let mut again = vec![0; moved.image_size()];
     moved.write_image(&mut again).unwrap();
     assert_eq!(again, image);
-    assert_eq!(size_of::<Session>(), 43_080);
+    assert_eq!(size_of::<Session>(), 43_088);
 }
 
 /// Guest memory that no reference stands for.

@@ -28,6 +28,16 @@ pub const ENDS: [&str; 4] = ["the input is used up", "a resume", "short output",
 
 pub const FED: [&str; 3] = ["nothing", "the message", "guest memory"];
 
+pub const REVISIONS: [&str; 7] = [
+    "1 reported",
+    "1: pages set",
+    "1: no room, and nothing moves",
+    "1: no room, and the others act",
+    "2 reported",
+    "2: pages set",
+    "2: no room, and none acts",
+];
+
 pub const PADDING: [&str; 3] = ["EINVAL, and none is told", "EINVAL", "replies are off"];
 
 pub const LOOKUPS: [&str; 12] = [
@@ -60,6 +70,8 @@ pub struct Hostile {
     pub fed: [[u64; 3]; 2],
     /// Messages that ask for execute-only pages, access 4: refused without the flag, and taken with it.
     pub execute_only: [u64; 2],
+    /// By revision: `KVMI_GET_VERSION`, and what became of pages whose access a message sets.
+    pub revisions: [u64; 7],
     /// Messages that are invalid: without a padding byte, and with one; and those with one while replies are off.
     pub padding: [u64; 3],
     /// By event that was offered: passed over, written.
@@ -86,6 +98,7 @@ impl Hostile {
             ends: [0; 4],
             fed: [[0; 3]; 2],
             execute_only: [0; 2],
+            revisions: [0; 7],
             padding: [0; 3],
             events: [[0; 2]; 15],
             lookups: [[0; 2]; 12],
@@ -284,6 +297,8 @@ impl Hostile {
         }
         let size = message.len();
         let fed = Fault::awaited(message, self.end.vcpus).map(|fault| fault.fed(message, guest));
+        let is_access = message.starts_with(&[13, 0]);
+        let stood = if is_access { self.standing() } else { Vec::new() };
         let (answer, result) = self.told(2, refusal, |s| unsafe {
             let (input, to, memory) = (s.input(size), s.out(out), s.guest(guest));
             semblurick_raw_message(s.session, s.vcpus, s.pages, input, size, to, out, memory, guest, s.result).into()
@@ -291,6 +306,8 @@ impl Hostile {
         let written = self.same_out(out, result[0]);
         let is_done = written.get(8..12) == Some(&[0; 4]);
         let is_invalid = written.get(8..12) == Some(&(-22i32).to_le_bytes()[..]);
+        let is_full = written.get(8..12) == Some(&(-12i32).to_le_bytes()[..]);
+        let version = written.get(16..24).filter(|_| is_done && message.starts_with(&[1, 0])).map(little);
         let is_quiet = written.is_empty();
         // an id that is unknown or not allowed gets one of these errors, or closes: its padding is not looked at
         let is_unread = written.len() == 16 && [-1i32, -1000].iter().any(|error| written[8..12] == error.to_le_bytes());
@@ -300,10 +317,18 @@ impl Hostile {
         self.padding[2] += u64::from(padding != 0 && is_quiet);
         self.same_input(message);
         let mut entries = message.get(16..).unwrap_or_default().chunks_exact(16);
-        if answer == 0 && message[..2] == [13, 0] && entries.any(|entry| entry[8] == 4) {
+        if answer == 0 && is_access && entries.any(|entry| entry[8] == 4) {
             let has_flag = self.session().flags[7] != 0;
             assert!(has_flag || !is_done, "an execute-only page without the flag");
             self.execute_only[usize::from(has_flag)] += u64::from(if has_flag { is_done } else { is_invalid });
+        }
+        let revision = self.session().revision;
+        assert_eq!(version.unwrap_or(revision.into()), revision.into(), "KVMI_GET_VERSION reports the revision");
+        let acts = is_full && self.standing() != stood;
+        assert!(revision != 2 || !acts, "revision 2 is all or nothing");
+        if let (1 | 2, true) = (revision, version.is_some() || is_access && (is_done || is_full)) {
+            let outcome = usize::from(is_access) + usize::from(is_full) + usize::from(acts);
+            self.revisions[4 * (revision as usize - 1) + outcome] += 1;
         }
         // SAFETY: the sides are only read.
         let (ours, theirs) = unsafe { (seen(self.end.guest(guest), guest), seen(self.beginning.guest(guest), guest)) };
@@ -478,6 +503,12 @@ impl Hostile {
             assert_eq!(sent.map(u32::from) == Some(event), is_on, "event {event} is written exactly if it is on");
             self.events[event as usize][usize::from(is_on)] += 1;
         }
+    }
+
+    /// The words of the pages that stand below rwx.
+    fn standing(&self) -> Vec<u8> {
+        // SAFETY: the session and its tables are only read, and no more pages are told than there are words.
+        unsafe { seen(self.end.pages, 8 * semblurick_raw_page_count(self.end.session)).to_vec() }
     }
 
     /// View and number of a page that stands below rwx.
@@ -758,11 +789,12 @@ impl Hostile {
     /// Some bits of what stands become others.
     fn spoil(&mut self) {
         let mut session = self.session();
-        match self.random.below(6) {
+        match self.random.below(7) {
             0 => session.opened ^= 1,
             1 => session.pages = self.random.word(),
             2 => session.ready = self.random.word(),
             3 => session.mode = self.random.word() as u32,
+            4 => session.revision = self.random.count(2),
             _ => {
                 let word = self.random.word().to_le_bytes();
                 let (at, in_pages) = (self.random.word() as usize, self.random.percent(50));

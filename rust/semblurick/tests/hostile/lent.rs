@@ -17,6 +17,8 @@ pub fn session(random: &mut Random) -> Session {
             1 => random.word().to_le_bytes(),
             _ => [1; 8],
         },
+        revision: random.count(2),
+        settings_padding: random.word() as u32,
         vm_events: random.word(),
         pages: match random.below(4) {
             0 => random.word(),

@@ -18,6 +18,8 @@ pub struct Session {
     pub tsc_speed: u64,
     /// The five features, and then whether descriptor events can be caught, breakpoints are taken, pages can be execute-only.
     pub flags: [u8; 8],
+    pub revision: u32,
+    pub settings_padding: u32,
     pub vm_events: u64,
     pub pages: u64,
     pub opened: u32,
@@ -28,7 +30,7 @@ pub struct Session {
 }
 
 pub const SESSION: usize = size_of::<Session>();
-const _: () = assert!(SESSION == 72);
+const _: () = assert!(SESSION == 80);
 
 pub type Bytes = *mut u8;
 

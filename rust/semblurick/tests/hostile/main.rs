@@ -12,7 +12,7 @@ mod library;
 mod memory;
 mod random;
 
-use calls::{Hostile, ENDS, FED, KINDS, LOOKUPS, PADDING, SIGNALS};
+use calls::{Hostile, ENDS, FED, KINDS, LOOKUPS, PADDING, REVISIONS, SIGNALS};
 use library::{_exit, fork, signal, waitpid, write};
 use memory::{Room, PAGE};
 // the library comes with it
@@ -119,6 +119,10 @@ fn memory_of_any_bits() {
     let [refused, taken] = hostile.execute_only;
     println!("{refused:>9}  execute-only pages: refused without the flag\n{taken:>9}  execute-only pages: taken with it");
     assert!(refused > 0 && taken > 0, "execute-only pages met only one of both with seed {seed}");
+    for (name, count) in REVISIONS.iter().zip(&hostile.revisions) {
+        println!("{count:>9}  revision {name}");
+        assert!(*count > 0, "revision {name} was not seen with seed {seed}");
+    }
     for (name, count) in PADDING.iter().zip(&hostile.padding) {
         println!("{count:>9}  padding byte: {name}");
         assert!(*count > 0, "no message had a padding byte: {name}, with seed {seed}");
