@@ -343,6 +343,7 @@ int main(int argc, char **argv) {
     settings.commands = settings.events = SEMBLURICK_ALL;
     settings.singlestep = settings.descriptors = 1;
     settings.execute_only = has_execute_only();
+    settings.revision = 1; /* 2 where the tool's vendor speaks revision 2: page access all or nothing */
     uint32_t answer = semblurick_fresh(&here, &settings);
     if (answer) fail("fresh", answer);
     for (uint32_t i = 0; i < VCPUS; i++)

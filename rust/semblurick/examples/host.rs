@@ -355,7 +355,8 @@ fn check(hardware: &Hardware, image: &[u8]) -> bool {
 }
 
 fn run(stream: &[u8]) -> Result<bool, Refusal> {
-    let settings = Settings::allowing_all(VCPUS).execute_only(has_execute_only());
+    // 2 where the tool's vendor speaks revision 2: page access all or nothing
+    let settings = Settings::allowing_all(VCPUS).execute_only(has_execute_only()).revision(1);
     let session = Session::fresh(&settings)?;
     let mut host = Host {
         session,
