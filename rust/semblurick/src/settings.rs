@@ -141,7 +141,8 @@ impl Settings {
         /// # Ok::<(), Refusal>(())
         /// ```
         execute_only: bool,
-        /// The revision of the protocol that the tool speaks, 1 or 2, which `KVMI_GET_VERSION` reports. With another no session begins:
+        /// The revision of the protocol that the tool speaks, 1 or 2, which `KVMI_GET_VERSION` reports. Every constructor has 1; with a
+        /// number other than these two, in C also where settings are filled by hand without it, no session begins:
         /// [`Refusal::BadSettings`](crate::Refusal::BadSettings). An image has none, so that a new host names it as the old one did.
         ///
         /// In revision 2 `KVMI_VM_SET_PAGE_ACCESS` is all or nothing. Its entries act in order; where one of them finds no room, since
