@@ -265,9 +265,18 @@ impl Hostile {
         }
     }
 
+    /// Whether a session can begin under these settings.
+    fn fits(&self) -> bool {
+        let Session { vcpus, views, revision, .. } = self.session();
+        (1..=16).contains(&vcpus) && (1..=8).contains(&views) && (1..=2).contains(&revision)
+    }
+
     fn fresh(&mut self) {
+        let fits = self.fits();
         let reads = |answer| if answer == 7 { Reads::Tables } else { Reads::Nothing };
-        self.told(0, reads, |s| unsafe { semblurick_raw_fresh(s.session, s.vcpus, s.pages, s.result).into() });
+        let (answer, _) =
+            self.told(0, reads, |s| unsafe { semblurick_raw_fresh(s.session, s.vcpus, s.pages, s.result).into() });
+        assert_eq!(answer != 7, fits, "a fresh session");
         self.awaited = None;
     }
 
@@ -611,12 +620,13 @@ impl Hostile {
             }
         }
         self.lend_input(&image);
-        let size = image.len();
+        let (size, fits) = (image.len(), self.fits());
         let reads = |answer| if answer == 0 { Reads::Nothing } else { Reads::Tables };
         let (answer, result) = self.told(5, reads, |s| unsafe {
             semblurick_raw_image_read(s.session, s.vcpus, s.pages, s.input(size), size, s.result).into()
         });
         self.same_input(&image);
+        assert_eq!(answer != 7, fits, "a session from an image");
         assert!(result[1] <= size as u64, "an offset outside the image");
         if answer == 0 {
             // what was taken is what is written
