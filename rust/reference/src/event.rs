@@ -120,6 +120,7 @@ mod tests {
             descriptors: true,
             breakpoints: false,
             execute_only: true,
+            revision: 1,
         };
         let mut session = Session::fresh(settings).unwrap();
         session.next_seq = u32::MAX;

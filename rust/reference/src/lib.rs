@@ -4,8 +4,8 @@
 //! the order of the tests, the host's answers and the table image, and decides
 //! where kvmi.rst is silent or contradicts itself. Document 02 changes them: of
 //! its requests W1, the other events, W2, execute-only pages, W3, several
-//! messages in one write, W5, page faults, and W6, which padding byte it was,
-//! are built; W4 changes no answer.
+//! messages in one write, W5, page faults, W6, which padding byte it was, and
+//! W7, revision 2, are built; W4 changes no answer.
 //! Comments quote or name the sentence that a rule stands for; `NOTES.md` lists
 //! the readings of sentences that are open.
 //!
@@ -36,7 +36,8 @@ pub use session::Session;
 use standing::EXECUTE_ONLY;
 
 /// Document 01, "Settings, and a session's standing": the first paragraph; and
-/// document 02, W2: "It becomes a settings flag".
+/// document 02, W2: "It becomes a settings flag", W7: "The revision is a
+/// setting".
 #[derive(Clone, Debug, PartialEq, Eq)]
 pub struct Settings {
     /// vCPU count, 1..=16.
@@ -58,12 +59,16 @@ pub struct Settings {
     pub breakpoints: bool,
     /// Whether the processor has execute-only pages, access 4.
     pub execute_only: bool,
+    /// The revision that GET_VERSION tells, 1 or 2: by 2, message 13 applies
+    /// all of its entries or none.
+    pub revision: u32,
 }
 
 impl Settings {
-    /// Answer 7: "a count out of its range".
+    /// Answer 7: "a count out of its range", and by document 02, W7, "a revision
+    /// other than 1 or 2".
     fn check(&self) -> Result<(), Answer> {
-        if (1..=16).contains(&self.vcpus) && (1..=8).contains(&self.views) {
+        if (1..=16).contains(&self.vcpus) && (1..=8).contains(&self.views) && (1..=2).contains(&self.revision) {
             Ok(())
         } else {
             Err(Answer::BadSettings)
@@ -93,6 +98,12 @@ impl Settings {
     /// every host has. Message 13 and a PA record are refused by this alike.
     fn has_access(&self, access: u8) -> bool {
         access != EXECUTE_ONLY || self.execute_only
+    }
+
+    /// Document 02, W7: "revision 2 applies no entry of a page-access message if
+    /// any would be skipped".
+    fn all_or_nothing(&self) -> bool {
+        self.revision == 2
     }
 }
 
@@ -162,7 +173,8 @@ pub enum Answer {
     BadState,
     /// 6: that vCPU's event reply is awaited.
     Waiting,
-    /// 7: a count of the settings is out of its range.
+    /// 7: a count of the settings is out of its range, or the revision is
+    /// neither 1 nor 2.
     BadSettings,
     /// 8: the image breaks a rule of form at this offset.
     BadForm { offset: usize },

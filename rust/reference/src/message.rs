@@ -14,9 +14,6 @@ use std::ops::Range;
 /// Answer 3: "output below 4,112 (message)".
 pub(crate) const LEAST_OUTPUT: usize = REPLY + PAGE as usize;
 
-/// "Version is 1".
-const VERSION: u32 = 1;
-
 /// Bytes of `struct kvmi_vm_set_page_access` before its entries, and of one
 /// `struct kvmi_page_access_entry`.
 const ACCESS_HEAD: usize = 8;
@@ -174,10 +171,11 @@ impl Session {
 
     /// kvmi.rst, "KVMI_GET_VERSION": version u32, padding u32, features: five
     /// bytes and padding[3]. "features are the five setting bytes and three
-    /// zeros".
+    /// zeros"; document 02, W7: "The revision is a setting, [...] reported by
+    /// GET_VERSION."
     fn get_version(&self, reply: &mut [u8]) -> Done {
         reply[..16].fill(0);
-        reply[..4].copy_from_slice(&VERSION.to_le_bytes());
+        reply[..4].copy_from_slice(&self.settings.revision.to_le_bytes());
         reply[8..13].copy_from_slice(&self.settings.features);
         Done::with_data(16)
     }
@@ -317,12 +315,20 @@ impl Session {
             valid(self.settings.has_access(entry[8]))?;
             valid(is_zero(&entry[9..16]))?;
         }
+        let pages = &mut self.standing.pages;
+        let entries = entries.map(|entry| (u64_at(entry, 0) / PAGE, entry[8]));
+        // Document 02, W7: "revision 2 applies no entry of a page-access message
+        // if any would be skipped, else acts as revision 1." With room for every
+        // entry none would be.
+        if self.settings.all_or_nothing() && !pages.has_room(entries.len()) {
+            ensure(pages.set_all(view, entries), ENOMEM)?;
+            return Ok(Done::PLAIN);
+        }
         // "Entries of message 13 act in order. [...] Others are applied, later
         // ones too; any skip gives -12."
         let mut skipped = false;
-        for entry in entries {
-            let page = u64_at(entry, 0) / PAGE;
-            if !self.standing.pages.set(view, page, entry[8]) {
+        for (page, access) in entries {
+            if !pages.set(view, page, access) {
                 skipped = true;
             }
         }

@@ -179,25 +179,57 @@ pub(crate) struct Pages {
 impl Pages {
     const PAGE_BITS: u32 = 52;
 
-    /// One entry of message 13 acts; false if it is skipped: "An entry is
-    /// skipped exactly if its page stands at rwx, it asks for less, and 1,024
-    /// pages (all views together) stand below rwx then."
+    fn key(view: u16, page: u64) -> u64 {
+        u64::from(view) << Pages::PAGE_BITS | page
+    }
+
+    /// One entry of message 13 acts; false if it is skipped.
     pub fn set(&mut self, view: u16, page: u64, access: u8) -> bool {
-        let key = u64::from(view) << Pages::PAGE_BITS | page;
+        self.put(Pages::key(view, page), access).is_some()
+    }
+
+    /// The entries of a message act in order, or none of them if one would be
+    /// skipped; false then.
+    pub fn set_all(&mut self, view: u16, entries: impl ExactSizeIterator<Item = (u64, u8)>) -> bool {
+        let mut changed = Vec::with_capacity(entries.len());
+        for (page, access) in entries {
+            let key = Pages::key(view, page);
+            let Some(before) = self.put(key, access) else {
+                // Taken back from the last to the first, so that each finds the
+                // room that it had.
+                for (key, before) in changed.into_iter().rev() {
+                    self.put(key, before);
+                }
+                return false;
+            };
+            changed.push((key, before));
+        }
+        true
+    }
+
+    /// Whether so many more pages are within the limit.
+    pub fn has_room(&self, more: usize) -> bool {
+        self.below.len() + more <= PAGE_LIMIT
+    }
+
+    /// Sets an access and gives the one before; none if it is skipped: "An
+    /// entry is skipped exactly if its page stands at rwx, it asks for less, and
+    /// 1,024 pages (all views together) stand below rwx then."
+    #[inline(always)]
+    fn put(&mut self, key: u64, access: u8) -> Option<u8> {
         if access == RWX {
             // "Access 7 forgets a page, and its room is used again."
-            self.below.remove(&key);
-            return true;
+            return Some(self.below.remove(&key).unwrap_or(RWX));
         }
         let full = self.below.len() >= PAGE_LIMIT;
         match self.below.entry(key) {
-            Entry::Occupied(mut entry) => *entry.get_mut() = access,
-            Entry::Vacant(_) if full => return false,
+            Entry::Occupied(mut entry) => Some(entry.insert(access)),
+            Entry::Vacant(_) if full => None,
             Entry::Vacant(entry) => {
                 entry.insert(access);
+                Some(RWX)
             }
         }
-        true
     }
 
     /// The access of a page that stands below rwx; none does in a view above 7
@@ -206,7 +238,7 @@ impl Pages {
         if view > 7 || page >> Pages::PAGE_BITS != 0 {
             return None;
         }
-        self.below.get(&(u64::from(view) << Pages::PAGE_BITS | page)).copied()
+        self.below.get(&Pages::key(view as u16, page)).copied()
     }
 
     /// How many pages stand below rwx.

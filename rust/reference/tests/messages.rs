@@ -687,14 +687,16 @@ fn ready_marks_and_settings() {
 
     for vcpus in [0, 1, 16, 17, u32::MAX] {
         for views in [0, 1, 8, 9, u32::MAX] {
-            let settings = Settings { vcpus, views, ..settings() };
-            let fits = (1..=16).contains(&vcpus) && (1..=8).contains(&views);
-            let begun = Session::fresh(settings.clone());
-            assert_eq!(begun.is_ok(), fits);
-            if !fits {
-                assert_eq!(begun.err(), Some(Answer::BadSettings));
-                let loaded = Session::read_image(settings, &[]);
-                assert_eq!(loaded.err(), Some(Answer::BadSettings));
+            for revision in [0, 1, 2, 3, u32::MAX] {
+                let settings = Settings { vcpus, views, revision, ..settings() };
+                let fits = (1..=16).contains(&vcpus) && (1..=8).contains(&views) && [1, 2].contains(&revision);
+                let begun = Session::fresh(settings.clone());
+                assert_eq!(begun.is_ok(), fits);
+                if !fits {
+                    assert_eq!(begun.err(), Some(Answer::BadSettings));
+                    let loaded = Session::read_image(settings, &[]);
+                    assert_eq!(loaded.err(), Some(Answer::BadSettings));
+                }
             }
         }
     }

@@ -54,7 +54,8 @@ fn switch<T: Ord>(set: &mut BTreeSet<T>, switch: T, enable: u8) {
 }
 
 impl Book {
-    /// A message that was handled without error, or message 13 with -12.
+    /// A message that was handled without error, or by revision 1 message 13
+    /// with -12.
     fn acted(&mut self, message: &[u8]) {
         let data = &message[8..];
         let u16_at = |at: usize| u16::from_le_bytes([data[at], data[at + 1]]);
@@ -146,6 +147,7 @@ fn random_settings(random: &mut Random) -> Settings {
         descriptors: random.once_in(2),
         breakpoints: random.once_in(2),
         execute_only: random.once_in(2),
+        revision: random.pick(&[1, 2]),
     }
 }
 
@@ -329,6 +331,9 @@ fn lists_of_calls_against_a_book() {
     let mut fed = [0; 4];
     // By where padding is not zero: in the first eight bytes, and behind them.
     let mut spoiled = [0; 2];
+    // Of messages 13 with -12, by revision: those by which revision 1 changes
+    // the table, and those by which it changes nothing.
+    let mut skips = [[0; 2]; 2];
     for _ in 0..200 {
         let settings = random_settings(&mut random);
         let vcpus = settings.vcpus as u16;
@@ -352,6 +357,14 @@ fn lists_of_calls_against_a_book() {
                         book.acted(&message);
                     }
                 }
+            }
+        }
+        // Some begin with a table that is nearly full.
+        if random.once_in(4) {
+            let pages: Vec<_> = (0..1015 + random.below(7)).map(|page| (page << 13, 1)).collect();
+            let message = page_access(0, &pages);
+            if bench.error(&message) == 0 {
+                book.acted(&message);
             }
         }
         for _ in 0..300 {
@@ -453,6 +466,15 @@ fn lists_of_calls_against_a_book() {
                     let succeeds = succeeded(&book, &settings, &message);
                     let with_the_flag = Settings { execute_only: true, ..settings.clone() };
                     messages_lacking += u32::from(!succeeds && succeeded(&book, &with_the_flag, &message));
+                    // Document 02, W7: by revision 2 "message 13 loses its
+                    // exception in document 01".
+                    let skipped = id == 13 && !succeeds && well_formed_13(&settings, &message);
+                    let acts = succeeds || skipped && settings.revision == 1;
+                    if skipped {
+                        let mut pages = Book { pages: book.pages.clone(), ..Book::default() };
+                        pages.acted(&message);
+                        skips[settings.revision as usize - 1][usize::from(pages.pages == book.pages)] += 1;
+                    }
                     assert_eq!(matches!(signal, Signal::Kick { .. }), id == 9 && succeeds);
                     assert!(signal == expected || id == 9);
                     let new_mode = (message.get(8) == Some(&1), message.get(10) == Some(&1));
@@ -466,24 +488,23 @@ fn lists_of_calls_against_a_book() {
                     } else if own {
                         let error = i32::from_le_bytes(bytes[8..12].try_into().unwrap());
                         assert_eq!(error == 0, succeeds, "{message:?}");
-                        if succeeds || id == 13 && error == ENOMEM {
-                            book.acted(&message);
+                        assert_eq!(error == ENOMEM, skipped, "{message:?}");
+                        if id == 1 {
+                            assert_eq!(bytes[16..20], settings.revision.to_le_bytes());
                         }
                     } else if !succeeds && mode.1 {
                         assert_eq!(bytes.len(), 568);
                         assert_eq!(bytes[4..8], u32::to_le_bytes(next_seq));
                         let error = i32::from_le_bytes(bytes[552..556].try_into().unwrap());
                         assert_ne!(error, 0);
+                        assert_eq!(error == ENOMEM, skipped, "{message:?}");
                         next_seq += 1;
                         events[13] += 1;
-                        if id == 13 && error == ENOMEM {
-                            book.acted(&message);
-                        }
                     } else {
                         assert!(bytes.is_empty());
-                        if succeeds || id == 13 && well_formed_13(&settings, &message) {
-                            book.acted(&message);
-                        }
+                    }
+                    if acts {
+                        book.acted(&message);
                     }
                     if id == 15 && succeeds {
                         mode = (new_mode.0, new_mode.1 && !new_mode.0);
@@ -516,6 +537,11 @@ fn lists_of_calls_against_a_book() {
                     assert_eq!(Session::read_image(without_the_flag, &image).err(), expected);
                     images_lacking += u32::from(expected.is_some());
                     assert!(settings.execute_only || expected.is_none());
+                    // The other revision reads it all the same.
+                    let other = Settings { revision: 3 - settings.revision, ..settings.clone() };
+                    let loaded = Session::read_image(other, &image).unwrap();
+                    assert_eq!(loaded.write_image(&mut again), handled(image.len()));
+                    assert_eq!(again, image);
                 }
             } else {
                 assert_eq!(bench.session.write_image(&mut [0; 9]), Answer::Busy);
@@ -530,6 +556,7 @@ fn lists_of_calls_against_a_book() {
     }
     assert!(fed.iter().all(|seen| *seen > 10), "{fed:?}");
     assert!(spoiled.iter().all(|seen| *seen > 10), "{spoiled:?}");
+    assert!(skips.iter().flatten().all(|seen| *seen > 10), "{skips:?}");
 }
 
 /// Whether message 13 would pass all but the page limit.

@@ -30,7 +30,8 @@ pub const fn with_padding(count: usize, padding: usize) -> Answer {
 }
 
 /// The runner's settings: 2 vCPUs, 1 view, all allowed, all five features 1,
-/// TSC speed 0, descriptor events catchable, breakpoints free, execute-only pages.
+/// TSC speed 0, descriptor events catchable, breakpoints free, execute-only
+/// pages, revision 1.
 pub fn settings() -> Settings {
     Settings {
         vcpus: 2,
@@ -42,6 +43,7 @@ pub fn settings() -> Settings {
         descriptors: true,
         breakpoints: false,
         execute_only: true,
+        revision: 1,
     }
 }
 
