@@ -264,36 +264,30 @@ wrong_message! {
     }
 }
 
-/// A reply to an event with one action, taken as another would be.
-fn taken_as(right: &mut Plain, message: &[u8], out: &mut [u8], wanted: (u8, u8), action: u8) -> (Answer, Option<i32>) {
+/// A reply to an event with one action, as it would be with another; any other message as it is.
+fn with_action(message: &[u8], wanted: (u8, u8), action: u8) -> Vec<u8> {
     let mut message = message.to_vec();
     match &mut message[..] {
         [16, 0, _, _, _, _, _, _, _, _, _, _, _, _, _, _, told, event, ..] if (*event, *told) == wanted => *told = action,
         _ => {}
     }
-    right.message(&message, out, &mut [])
+    message
 }
 
 wrong_message! {
-    takes_a_retry_of_a_pause, RetryTaken, 5, |right, message, out, guest| {
-        match message {
-            [16, 0, ..] => taken_as(right, message, out, (2, 1), 0),
-            _ => right.message(message, out, guest),
-        }
+    takes_a_retry_of_a_pause, RetryTaken, 5 in PATIENCE, |right, message, out, guest| {
+        right.message(&with_action(message, (2, 1), 0), out, guest)
     }
 }
 
 wrong_message! {
     takes_a_retry_of_an_msr, MsrRetried, 6, |right, message, out, guest| {
-        match message {
-            [16, 0, ..] => match taken_as(right, message, out, (9, 1), 0) {
-                (Answer::Handled { count, signal: Signal::Resume { vcpu, value, .. }, feed, padding }, error) if message[16] == 1 => {
-                    let signal = Signal::Resume { vcpu, action: Action::Retry, value };
-                    (Answer::Handled { count, signal, feed, padding }, error)
-                }
-                result => result,
-            },
-            _ => right.message(message, out, guest),
+        match right.message(&with_action(message, (9, 1), 0), out, guest) {
+            (Answer::Handled { count, signal: Signal::Resume { vcpu, value, .. }, feed, padding }, error) if message[16] == 1 => {
+                let signal = Signal::Resume { vcpu, action: Action::Retry, value };
+                (Answer::Handled { count, signal, feed, padding }, error)
+            }
+            result => result,
         }
     }
 }

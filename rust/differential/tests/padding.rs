@@ -65,8 +65,9 @@ impl Case<'_> {
 
     /// Whether a message 13 has as many entries as it counts.
     fn fits(&self) -> bool {
-        let count = u16::from_le_bytes([self.message[8], self.message[9]]);
-        self.message.len() == 16 + 16 * usize::from(count)
+        // one that is not allowed may have no count
+        let count = self.message[8..].first_chunk().map(|count| u16::from_le_bytes(*count));
+        count.is_some_and(|count| self.message.len() == 16 + 16 * usize::from(count))
     }
 
     /// Whether the message with good padding would be -22 all the same.
