@@ -103,7 +103,7 @@ fn put_settings(f: &mut fmt::Formatter<'_>, s: &Settings) -> fmt::Result {
     f.write_str(" features=")?;
     put_hex(f, &s.features)?;
     write!(f, " descriptors={} breakpoints={}", u8::from(s.descriptors), u8::from(s.breakpoints))?;
-    write!(f, " execute_only={}", u8::from(s.execute_only))
+    write!(f, " execute_only={} revision={}", u8::from(s.execute_only), s.revision)
 }
 
 fn put_hex(f: &mut fmt::Formatter<'_>, bytes: &[u8]) -> fmt::Result {
@@ -242,6 +242,7 @@ impl<'a> Fields<'a> {
             descriptors: self.flag("descriptors")?,
             breakpoints: self.flag("breakpoints")?,
             execute_only: self.flag("execute_only")?,
+            revision: self.number("revision")?,
         })
     }
 }

@@ -6,6 +6,7 @@ use crate::event_counts::{EventCounts, Stands};
 use crate::fault_counts::FaultCounts;
 use crate::look::LOOKUPS;
 use crate::padding_counts::PaddingCounts;
+use crate::revision_counts::RevisionCounts;
 use crate::run::Taken;
 use crate::{Call, Lookup, Told};
 use reference::{Action, Answer, Batch, Settings, Signal};
@@ -121,6 +122,7 @@ pub struct Counts {
     batches: BatchCounts,
     faults: FaultCounts,
     padding: PaddingCounts,
+    pub(crate) revisions: RevisionCounts,
     refused: [[u64; 2]; 8],
 }
 
@@ -129,6 +131,7 @@ impl Counts {
     pub(crate) fn saw(&mut self, call: &Call, answer: Answer, bytes: &[u8], stands: Stands) {
         let row = WORDS.iter().position(|word| *word == call.word()).expect("a row for each word");
         self.answers[row][answer.number() as usize] += 1;
+        self.revisions.saw(call, answer, bytes);
         match call {
             Call::Message { bytes: message, guest, .. } => {
                 self.saw_message(message, answer, bytes);
@@ -204,6 +207,7 @@ impl Counts {
     pub(crate) fn saw_taken(&mut self, call: &Call, batch: &Batch, taken: &[Taken]) {
         self.batches.saw_taken(call, batch, taken);
         self.faults.saw_taken(call, batch, taken);
+        self.revisions.saw_taken(batch, taken);
     }
 
     /// How many batches there were, and how many messages they used.
@@ -323,6 +327,7 @@ impl Counts {
         self.batches.add(&other.batches);
         self.faults.add(&other.faults);
         self.padding.add(&other.padding);
+        self.revisions.add(&other.revisions);
         sum(self.refused.as_flattened_mut(), other.refused.as_flattened());
     }
 
@@ -356,6 +361,7 @@ impl Counts {
         list.extend(self.batches.wanted());
         list.extend(self.faults.wanted());
         list.extend(self.padding.wanted());
+        list.extend(self.revisions.wanted());
         for (place, [form, forbidden]) in PLACES.iter().zip(self.refused) {
             list.push((format!("image: bad form at {place}"), form));
             if matches!(*place, "VM" | "VC" | "PA") {

@@ -1,8 +1,10 @@
 //! Whole runs: sessions and images from a seed, on two threads.
 
+use crate::batch::{messages, messages_mut};
 use crate::guide::Guide;
+use crate::limit::{self, Deed, Table};
 use crate::run::Looks;
-use crate::{image, list, settings, shrink, Answer, Call, Counts, Filter, Mismatch, Random, Runner, Settings};
+use crate::{image, list, settings, shrink, Answer, Batch, Call, Counts, Filter, Mismatch, Random, Runner, Settings};
 use std::fmt;
 use std::sync::atomic::{AtomicBool, Ordering};
 use std::thread;
@@ -79,6 +81,15 @@ pub fn work<L: Filter, R: Filter>(seed: u64, worker: u64, quota: Quota, stop: &A
     Ok(player.runner.counts)
 }
 
+/// What can be seen of a call by itself.
+#[derive(Debug, PartialEq)]
+struct Seen {
+    answer: Option<Answer>,
+    batch: Option<Batch>,
+    bytes: Vec<u8>,
+    image: Vec<u8>,
+}
+
 /// Plays sessions and keeps the calls of the present one.
 struct Player<L, R> {
     runner: Runner<L, R>,
@@ -110,6 +121,9 @@ const FAULTS: u64 = 120;
 const SPOILT: u64 = 20;
 const SPOILT_AT_END: u64 = 3;
 const SPOILS: u64 = 1 << 63;
+
+/// Once in so many sessions, messages 13 come for a table that is full, or nearly so; and as often, the same calls by both revisions.
+const LIMITS: u64 = 12;
 
 /// One in so many replies to these closes the session, and one in so many at its end.
 const WRONG: u64 = 60;
@@ -222,6 +236,12 @@ impl<L: Filter, R: Filter> Player<L, R> {
             let call = list::call(&mut self.looks);
             self.call(call)?;
         }
+        if random.one_in(LIMITS) {
+            self.at_limit(random, &settings)?;
+        }
+        if random.one_in(LIMITS) {
+            self.by_both_revisions(random, &settings, &image)?;
+        }
         match self.images.len() {
             KEPT => self.images[random.index(KEPT)] = (settings, image),
             _ => self.images.push((settings, image)),
@@ -325,7 +345,8 @@ impl<L: Filter, R: Filter> Player<L, R> {
             let image = image::mutated(random, image, settings);
             let settings = match random.below(40) {
                 0 => settings::bad(random),
-                1..8 => settings::other(random, settings),
+                1 => Settings { revision: settings::odd_revision(random), ..settings.clone() },
+                2..8 => settings::other(random, settings),
                 _ => settings.clone(),
             };
             self.call(Call::Load { settings, keep: false, image })?;
@@ -359,6 +380,131 @@ impl<L: Filter, R: Filter> Player<L, R> {
         Ok(())
     }
 
+    /// Messages 13 for a table that is full, or nearly so, with the image before each and behind it; then by the other revision.
+    fn at_limit(&mut self, random: &mut Random, settings: &Settings) -> Result<(), Mismatch> {
+        let mut settings = settings.clone();
+        if !random.one_in(40) {
+            settings.commands |= 1 << 13;
+        }
+        let count = random.pick(&[1024, 1024, 1024, 1023, 1023, 1022, 1020, 1000]);
+        let mut image = image::full(random, &settings, count);
+        for _ in 0..2 {
+            self.call(Call::Load { settings: settings.clone(), keep: true, image })?;
+            let mut guide = Guide::new(random, &settings);
+            if guide.command_allowed(15) && random.percent(40) {
+                let call = guide.quiet(random);
+                self.guided(&mut guide, call)?;
+            }
+            for _ in 0..2 + random.below(6) {
+                self.call(Call::Image { room: 0 })?;
+                let table = limit::table(self.runner.image());
+                let call = match random.one_in(8) {
+                    true => guide.batch_at_limit(random, &table),
+                    false => Call::message(guide.at_limit(random, &table)),
+                };
+                self.guided(&mut guide, call)?;
+            }
+            if guide.closed {
+                break;
+            }
+            self.call(Call::Image { room: 0 })?;
+            image = self.runner.image().to_vec();
+            settings.revision = 3 - settings.revision;
+        }
+        Ok(())
+    }
+
+    /// The same calls by both revisions, until a message 13 skips an entry. But for the version that is told, every answer and all that
+    /// is written are the same, images too.
+    fn by_both_revisions(&mut self, random: &mut Random, settings: &Settings, image: &[u8]) -> Result<(), Mismatch> {
+        let revisions = random.pick(&[[1, 2], [2, 1]]);
+        let [first, second] = revisions.map(|revision| Settings { revision, ..settings.clone() });
+        let begin = |settings: &Settings, image: &Option<Vec<u8>>| match image.clone() {
+            Some(image) => Call::Load { settings: settings.clone(), keep: true, image },
+            None => Call::Fresh { settings: settings.clone() },
+        };
+        let image = match random.below(4) {
+            0 => None,
+            1 => Some(image.to_vec()),
+            _ => {
+                let count = random.pick(&[1024, 1023, 1020, 1000]);
+                Some(image::full(random, settings, count))
+            }
+        };
+
+        self.calls.clear();
+        self.runner.reset();
+        let mut guide = Guide::new(random, &first);
+        self.guided(&mut guide, begin(&first, &image))?;
+        let mut table = image.as_deref().map(limit::table).unwrap_or_default();
+        let (mut seen, mut skips) = (Vec::new(), false);
+        let mut marks = guide.marks(random);
+        for _ in 0..random.pick(&[20, 60, 150]) {
+            let call = match marks.pop() {
+                Some(call) => call,
+                None if table.len() > 900 && random.one_in(6) => Call::message(guide.at_limit(random, &table)),
+                None if random.one_in(30) => guide.batch(random),
+                None if random.one_in(20) => Call::Image { room: 0 },
+                None => guide.call(random),
+            };
+            self.guided(&mut guide, call.clone())?;
+            skips = self.skips(&first, &mut table, &call);
+            seen.push((call, self.seen()));
+            if guide.closed || skips {
+                break;
+            }
+        }
+        let last = Call::Image { room: 0 };
+        self.call(last.clone())?;
+        let end = self.seen();
+
+        self.calls.clear();
+        self.runner.reset();
+        self.call(begin(&second, &image))?;
+        let count = seen.len();
+        for (at, (call, before)) in seen.into_iter().enumerate() {
+            self.call(call.clone())?;
+            // the messages of a batch behind one that skips may find other tables
+            let is_compared = !(skips && at + 1 == count && matches!(call, Call::Batch { .. }));
+            if is_compared {
+                assert_eq!(before, self.seen(), "both sides tell the revisions apart by {call}");
+                self.runner.counts.revisions.saw_alike(&call);
+            }
+        }
+        self.call(last.clone())?;
+        let is_same = end == self.seen();
+        assert!(is_same || skips, "both sides tell the revisions apart by an image");
+        if is_same {
+            self.runner.counts.revisions.saw_alike(&last);
+        }
+        self.runner.counts.revisions.saw_end(skips, is_same);
+        Ok(())
+    }
+
+    /// What the last call gave and wrote, but for the version that message 1 tells.
+    fn seen(&self) -> Seen {
+        let mut bytes = self.runner.bytes().to_vec();
+        for reply in messages_mut(&mut bytes) {
+            if let [1, 0, 24, 0, _, _, _, _, _, _, _, _, _, _, _, _, version @ ..] = reply {
+                version[..4].fill(0);
+            }
+        }
+        Seen { answer: self.runner.answer(), batch: self.runner.batch().copied(), bytes, image: self.runner.image().to_vec() }
+    }
+
+    /// Whether a message 13 of the last call skips an entry; the table is as the call leaves it, if none does.
+    fn skips(&self, settings: &Settings, table: &mut Table, call: &Call) -> bool {
+        let taken = match (call, self.runner.answer(), self.runner.batch()) {
+            (Call::Message { bytes, .. }, Some(Answer::Handled { .. }), _) => &bytes[..],
+            (Call::Batch { bytes, .. }, _, Some(batch)) => &bytes[..batch.used],
+            _ => &[],
+        };
+        messages(taken).any(|message| {
+            let entries = limit::right_entries(settings, message);
+            entries.is_some_and(|(view, entries)| limit::act(table, view, &entries).contains(&Deed::Skipped))
+        })
+    }
+
     /// The longest image there is, and some like it.
     fn longest(&mut self, random: &mut Random) -> Result<(), Mismatch> {
         self.calls.clear();
@@ -373,6 +519,7 @@ impl<L: Filter, R: Filter> Player<L, R> {
             descriptors: true,
             breakpoints: false,
             execute_only: true,
+            revision: 1,
         };
         let image = image::longest(random, &settings);
         self.call(Call::Load { settings: settings.clone(), keep: true, image: image.clone() })?;

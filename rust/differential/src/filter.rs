@@ -235,6 +235,7 @@ impl Filter for Proved {
             descriptors: told.descriptors,
             breakpoints: told.breakpoints_taken,
             execute_only: told.execute_only,
+            revision: told.revision,
         })
     }
 
@@ -383,6 +384,7 @@ fn wrapped(settings: &Settings) -> semblurick::Settings {
         .descriptors(settings.descriptors)
         .breakpoints_taken(settings.breakpoints)
         .execute_only(settings.execute_only)
+        .revision(settings.revision)
 }
 
 /// The plain implementation.

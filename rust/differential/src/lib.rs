@@ -4,8 +4,9 @@
 //! * [`Call`] is one call, with a text form that can be replayed;
 //! * [`Runner`] makes calls on both sides and compares answers, outputs, guest memory and images, and what lookups tell;
 //! * [`look`] has the lookups that are asked between calls;
-//! * [`settings`], [`guide`], [`batch`], [`event`], [`fault`], [`image`] and [`list`] make settings, calls, writes of several messages,
-//!   entries with their events, page faults with what feeds their instructions, images and lists of records, good and damaged;
+//! * [`settings`], [`guide`], [`batch`], [`event`], [`fault`], [`limit`], [`image`] and [`list`] make settings, calls, writes of several
+//!   messages, entries with their events, page faults with what feeds their instructions, messages for tables with little room or none,
+//!   images and lists of records, good and damaged;
 //! * [`shrink`] makes a failing list of calls short;
 //! * [`drive`] does all this for a seed, and [`Counts`] says what was seen.
 
@@ -24,11 +25,13 @@ mod fault_counts;
 mod filter;
 pub mod guide;
 pub mod image;
+pub mod limit;
 pub mod list;
 pub mod look;
 mod message;
 mod padding_counts;
 mod random;
+mod revision_counts;
 mod run;
 pub mod settings;
 pub mod shrink;

@@ -91,7 +91,8 @@ pub struct Runner<L, R> {
     written: usize,
     image: usize,
     listed: usize,
-    /// The last call's result, if it was a batch.
+    /// The last call's answer, and its result if it was a batch.
+    answer: Option<Answer>,
     batch: Option<Batch>,
     /// The most output that was lent, since it was all as at first.
     lent: usize,
@@ -176,6 +177,7 @@ impl<L: Filter, R: Filter> Runner<L, R> {
             written: 0,
             image: 0,
             listed: 0,
+            answer: None,
             batch: None,
             lent: 0,
             counts: Counts::default(),
@@ -185,7 +187,8 @@ impl<L: Filter, R: Filter> Runner<L, R> {
     /// No session, and lent memory as at first.
     pub fn reset(&mut self) {
         (self.session, self.passing) = (None, None);
-        (self.written, self.image, self.listed, self.batch) = (0, 0, 0, None);
+        (self.written, self.image, self.listed) = (0, 0, 0);
+        (self.answer, self.batch) = (None, None);
         let end = compared(self.lent);
         for lent in [&mut self.left, &mut self.right, &mut self.single] {
             lent.out[..end].copy_from_slice(&self.pattern[..end]);
@@ -193,6 +196,11 @@ impl<L: Filter, R: Filter> Runner<L, R> {
             lent.signals.copy_from_slice(&self.signals);
         }
         self.lent = 0;
+    }
+
+    /// The last call's answer.
+    pub fn answer(&self) -> Option<Answer> {
+        self.answer
     }
 
     /// The last call's result, if it was a batch.
@@ -218,14 +226,16 @@ impl<L: Filter, R: Filter> Runner<L, R> {
             lent.signals[..self.listed].copy_from_slice(&self.signals[..self.listed]);
         }
         (self.written, self.image, self.listed) = (0, 0, 0);
-        (self.batch, self.passing) = (None, None);
-        self.make(call).map_err(|Unlike { part, left, right }| {
+        (self.answer, self.batch, self.passing) = (None, None, None);
+        let answer = self.make(call).map_err(|Unlike { part, left, right }| {
             let id = match call {
                 Call::Message { bytes, .. } => bytes.first_chunk().map_or(0, |id| u16::from_le_bytes(*id)),
                 _ => 0,
             };
             Mismatch { at, word: call.word(), part, id, left, right, lookup: None }
-        })
+        })?;
+        self.answer = answer;
+        Ok(answer)
     }
 
     /// Asks both sides what stands after a call, the `at`th: the first lookup that is answered unlike would be the next call.

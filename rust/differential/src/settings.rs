@@ -25,6 +25,7 @@ pub fn good(random: &mut Random) -> Settings {
         descriptors: random.percent(75),
         breakpoints: random.percent(25),
         execute_only: random.percent(50),
+        revision: 1 + random.below(2) as u32,
     }
 }
 
@@ -58,10 +59,16 @@ fn features(random: &mut Random) -> [u8; 5] {
     features
 }
 
-/// Settings with a count out of its range.
+/// Settings with a count out of its range, or with a revision that is neither 1 nor 2.
 pub fn bad(random: &mut Random) -> Settings {
     let mut settings = good(random);
-    let which = random.below(3);
+    let which = random.below(5);
+    if which > 2 || random.one_in(6) {
+        settings.revision = odd_revision(random);
+    }
+    if which > 2 {
+        return settings;
+    }
     if which != 0 {
         settings.vcpus = random.pick(&[0, 17, 18, 32, 256, 257, 1 << 16, (1 << 16) + 2, 1 << 31, u32::MAX]);
     }
@@ -71,10 +78,15 @@ pub fn bad(random: &mut Random) -> Settings {
     settings
 }
 
+/// A revision that is neither 1 nor 2.
+pub fn odd_revision(random: &mut Random) -> u32 {
+    random.pick(&[0, 0, 3, 3, 4, 256, 257, 1 << 16, (1 << 16) + 2, 1 << 25, (1 << 31) + 1, u32::MAX])
+}
+
 /// Settings that differ in what an image can want.
 pub fn other(random: &mut Random, settings: &Settings) -> Settings {
     let mut other = settings.clone();
-    match random.below(11) {
+    match random.below(12) {
         0 => other.vcpus = (other.vcpus % 16) + 1,
         1 => other.vcpus = random.pick(&[1, 2, 16]),
         2 => other.views = 1 + random.below(8) as u32,
@@ -85,6 +97,7 @@ pub fn other(random: &mut Random, settings: &Settings) -> Settings {
         7 => other.descriptors = false,
         8 => other.breakpoints = true,
         9 => other.execute_only = !other.execute_only,
+        10 => other.revision = 3 - other.revision,
         _ => other.commands = set(random),
     }
     other

@@ -362,6 +362,7 @@ const BEGINNINGS: &[fn(&mut Call)] = &[
     |call| with_settings(call, |settings| settings.descriptors = true),
     |call| with_settings(call, |settings| settings.breakpoints = false),
     |call| with_settings(call, |settings| settings.execute_only = true),
+    |call| with_settings(call, |settings| settings.revision = 1),
     |call| with_settings(call, |settings| settings.views = 1),
     |call| with_settings(call, |settings| settings.vcpus = 2),
     |call| with_settings(call, |settings| settings.vcpus = 1),

@@ -155,7 +155,7 @@ wrong_batch! {
 }
 
 wrong_batch! {
-    stops_at_a_crash, AtCrash, 5 in QUOTA, "used bytes", |right, input, lent| {
+    stops_at_a_crash, AtCrash, 6 in QUOTA, "used bytes", |right, input, lent| {
         Ways { goes_on: |signal| goes_on(signal) && !matches!(signal, Signal::Crash { .. }), ..RIGHT }.batch(right, input, lent)
     }
 }
@@ -248,7 +248,7 @@ wrong_batch! {
 }
 
 wrong_batch! {
-    wants_4113_bytes_of_output, Least4113, 2 in QUOTA, "used bytes", |right, input, lent| {
+    wants_4113_bytes_of_output, Least4113, 6 in QUOTA, "used bytes", |right, input, lent| {
         Ways { least: 4113, ..RIGHT }.batch(right, input, lent)
     }
 }

@@ -48,8 +48,9 @@ fn texts_are_read_back() {
         descriptors: false,
         breakpoints: true,
         execute_only: false,
+        revision: 1,
     };
-    let executing = Settings { execute_only: true, ..settings.clone() };
+    let executing = Settings { execute_only: true, revision: u32::MAX, ..settings.clone() };
     let odd = Record { ready: 1, singlestep: 2, crs: 3, events: 4, pauses: 5, awaited: 6, awaited_seq: u64::MAX };
     let calls = [
         Call::Fresh { settings: settings.clone() },
@@ -84,10 +85,13 @@ fn texts_are_read_back() {
     let lines: Vec<String> = calls.iter().map(Call::to_string).collect();
     assert_eq!(parse(&format!("# calls\n\n{}\n", lines.join("\n"))).unwrap(), calls);
     let settings = "vcpus=1 views=1 commands=0 events=0 tsc=0 features=0000000000 descriptors=0 breakpoints=0";
-    parse(&format!("fresh {settings} execute_only=0")).expect("a line with all settings");
+    parse(&format!("fresh {settings} execute_only=0 revision=2")).expect("a line with all settings");
     for line in [
-        &format!("fresh {settings}"),
-        &format!("fresh {settings} execute_only=2"),
+        &format!("fresh {settings} revision=1"),
+        &format!("fresh {settings} execute_only=0"),
+        &format!("fresh {settings} execute_only=2 revision=1"),
+        &format!("fresh {settings} execute_only=0 revision=-1"),
+        &format!("fresh {settings} execute_only=0 revision=0x100000000"),
         "wake vcpu=0",
         "ready",
         "ready vcpu=-1",
@@ -450,7 +454,7 @@ wrong_message! {
 
 wrong_message! {
     /// Where the table has no room, that is told.
-    tells_a_full_table_before_access_4, FullFirst, 12, |right, message, out, guest| {
+    tells_a_full_table_before_access_4, FullFirst, 16, |right, message, out, guest| {
         let otherwise = with_5_for_4(right, message);
         match (right.message(message, out, guest), otherwise) {
             (result @ (Answer::Handled { count: 16, .. }, Some(-22)), (_, Some(-12))) => told(result, out, -12),
