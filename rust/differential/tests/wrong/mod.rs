@@ -8,6 +8,10 @@ use std::sync::atomic::AtomicBool;
 
 /// A way to be wrong: each function does what the right filter does, unless a fault says otherwise.
 pub trait Fault {
+    fn fresh(&self, settings: &Settings) -> Result<Plain, Answer> {
+        Plain::fresh(settings)
+    }
+
     fn load(&self, settings: &Settings, image: &[u8]) -> Result<Plain, Answer> {
         Plain::load(settings, image)
     }
@@ -101,7 +105,8 @@ fn fault() -> Box<dyn Fault> {
 
 impl Filter for Wrong {
     fn fresh(settings: &Settings) -> Result<Wrong, Answer> {
-        Ok(Wrong { right: Plain::fresh(settings)?, fault: fault() })
+        let fault = fault();
+        Ok(Wrong { right: fault.fresh(settings)?, fault })
     }
 
     fn load(settings: &Settings, image: &[u8]) -> Result<Wrong, Answer> {
