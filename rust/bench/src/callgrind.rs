@@ -59,11 +59,11 @@ fn instructions(row: usize, side: &str) -> Result<f64, String> {
 /// another number of instructions than when the bound was set, the machine or its C library is another one: that is said, and the
 /// row is not judged.
 pub fn table() -> Result<(), String> {
-    println!("{:<52}{:>10}{:>12}{:>10}", "instructions a call", "proved", "reference", "bound");
+    println!("{:<64}{:>10}{:>12}{:>10}", "instructions a call", "proved", "reference", "bound");
     let mut above = Vec::new();
     for (i, (name, ..)) in ROWS.iter().enumerate() {
         let ((bound, then), ours, theirs) = (bound(name)?, instructions(i, "p")?, instructions(i, "r")?);
-        println!("{name:<52}{ours:>10.1}{theirs:>12.1}{bound:>10}");
+        println!("{name:<64}{ours:>10.1}{theirs:>12.1}{bound:>10}");
         if (theirs - then).abs() > then / 10.0 {
             println!("  not judged: the reference took {then} where the bound was set");
         } else if ours > bound {

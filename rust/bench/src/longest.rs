@@ -15,9 +15,9 @@ struct Host {
 }
 
 impl Host {
-    fn new() -> Host {
+    fn new(revision: u32) -> Host {
         let mut session = Box::new(Session::closed());
-        session.begin(&proved_settings()).expect("settings in range");
+        session.begin(&proved_settings(revision)).expect("settings in range");
         (0..VCPUS).for_each(|vcpu| session.ready(vcpu).expect("a vCPU"));
         Host { session, out: vec![0; IMAGE_MAX], guest: vec![0; GUEST] }
     }
@@ -41,7 +41,7 @@ impl Host {
             .skip(2)
             .collect();
         times.sort_by(f64::total_cmp);
-        println!("{name:<76}{runs:>6}{:>10.2}{:>10.2}", times[runs / 2], times[runs - 1]);
+        println!("{name:<92}{runs:>6}{:>10.2}{:>10.2}", times[runs / 2], times[runs - 1]);
     }
 }
 
@@ -67,24 +67,38 @@ fn longest_image() -> Vec<u8> {
 
 pub fn table() {
     println!("the longest calls of the proved filter: microseconds a call, with whatever else the machine does meanwhile");
-    println!("{:<76}{:>6}{:>10}{:>10}", "", "runs", "median", "worst");
-    let mut host = Host::new();
+    println!("{:<92}{:>6}{:>10}{:>10}", "", "runs", "median", "worst");
+    let mut host = Host::new(1);
     let nothing = |_: &mut Host| {};
 
     let empty = host.session.clone();
-    host.send(&access(0, &(1..=PAGE_LIMIT as u64).map(|page| (page, 5)).collect::<Vec<_>>()));
+    let every_page = access(0, &(1..=PAGE_LIMIT as u64).map(|page| (page, 5)).collect::<Vec<_>>());
+    host.send(&every_page);
     let full = host.session.clone();
+    let mut other = Host::new(2);
+    other.send(&every_page);
+    let full_2 = other.session;
     let mut r = Random(6);
     let mut random = |pages| (0..ENTRIES).map(|_| (r.below(pages), [0, 1, 3, 4, 5, 7][r.below(6) as usize])).collect();
     let again = |page| (0..ENTRIES).map(|i| (page, [7, 5][i as usize % 2])).collect();
+    // the last entry is the first that is skipped
+    let and_skipped = |page| {
+        let mut entries: Vec<_> = again(page);
+        entries.drain(..2);
+        entries.extend([(page, 1), (5000, 1)]);
+        entries
+    };
     type Case<'a> = (&'a str, &'a Session, Vec<(u64, u8)>);
-    let cases: [Case; 6] = [
+    let cases: [Case; 9] = [
         ("ascending, on an empty table", &empty, (0..ENTRIES).map(|page| (page, 5)).collect()),
         ("descending, on an empty table", &empty, (0..ENTRIES).rev().map(|page| (page, 5)).collect()),
         ("random, on an empty table", &empty, random(1 << 40)),
         ("random among 2,048 pages, on a full table", &full, random(2048)),
         ("the last of 1,024 pages forgotten and set", &full, again(PAGE_LIMIT as u64)),
         ("the first of 1,024 pages forgotten and set", &full, again(1)),
+        ("random among 2,048 pages, on a full table, revision 2", &full_2, random(2048)),
+        ("the first of 1,024 pages forgotten and set, revision 2", &full_2, again(1)),
+        ("the same and then one that is skipped, revision 2", &full_2, and_skipped(1)),
     ];
     for (name, start, entries) in cases {
         let message = access(0, &entries);
@@ -93,7 +107,7 @@ pub fn table() {
         host.row(&name, 500, |host| host.session.as_mut().clone_from(start), |host| host.send(&message));
     }
 
-    let (image, settings) = (longest_image(), proved_settings());
+    let (image, settings) = (longest_image(), proved_settings(1));
     host.row("image read, 2,111,662 bytes", 200, nothing, |host| {
         host.session.load(&settings, black_box(&image)).expect("an image");
     });
@@ -115,7 +129,7 @@ pub fn table() {
     host.row("fresh", 1000, nothing, |host| host.session.begin(black_box(&settings)).expect("settings in range"));
 
     // to compare: two that depend on no table
-    let mut host = Host::new();
+    let mut host = Host::new(1);
     let small = on_vcpu(11, 0, 3, [1, 0, 0, 0, 3, 0, 0, 0]);
     host.row("message 11", 10_000, nothing, |host| host.send(&small));
     host.row("an entry without an event", 10_000, nothing, |host| {

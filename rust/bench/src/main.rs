@@ -13,7 +13,7 @@ const GUEST: usize = 16 * 4096;
 
 /// What both can do. An answer is how many bytes were written; every call here is handled, and that is asserted.
 trait Filter: Sized {
-    fn fresh() -> Self;
+    fn fresh(revision: u32) -> Self;
     fn ready(&mut self, vcpu: u32);
     fn message(&mut self, message: &[u8], out: &mut [u8], guest: &mut [u8]) -> usize;
     fn batch(&mut self, input: &[u8], out: &mut [u8], signals: &mut [u32], guest: &mut [u8]) -> usize;
@@ -29,13 +29,13 @@ fn unexpected() -> ! {
     panic!("a call of the bench is not answered 0")
 }
 
-fn proved_settings() -> semblurick::Settings {
-    semblurick::Settings::allowing_all(VCPUS).views(8)
+fn proved_settings(revision: u32) -> semblurick::Settings {
+    semblurick::Settings::allowing_all(VCPUS).views(8).revision(revision)
 }
 
 impl Filter for semblurick::Session {
-    fn fresh() -> Self {
-        semblurick::Session::fresh(&proved_settings()).expect("settings in range")
+    fn fresh(revision: u32) -> Self {
+        semblurick::Session::fresh(&proved_settings(revision)).expect("settings in range")
     }
 
     fn ready(&mut self, vcpu: u32) {
@@ -64,11 +64,11 @@ impl Filter for semblurick::Session {
     }
 
     fn from_image(image: &[u8]) -> Self {
-        semblurick::Session::from_image(&proved_settings(), image).expect("an image")
+        semblurick::Session::from_image(&proved_settings(1), image).expect("an image")
     }
 }
 
-fn reference_settings() -> reference::Settings {
+fn reference_settings(revision: u32) -> reference::Settings {
     reference::Settings {
         vcpus: VCPUS,
         views: 8,
@@ -79,6 +79,7 @@ fn reference_settings() -> reference::Settings {
         descriptors: true,
         breakpoints: false,
         execute_only: true,
+        revision,
     }
 }
 
@@ -90,8 +91,8 @@ fn count(answer: reference::Answer) -> usize {
 }
 
 impl Filter for reference::Session {
-    fn fresh() -> Self {
-        reference::Session::fresh(reference_settings()).expect("settings in range")
+    fn fresh(revision: u32) -> Self {
+        reference::Session::fresh(reference_settings(revision)).expect("settings in range")
     }
 
     fn ready(&mut self, vcpu: u32) {
@@ -117,7 +118,7 @@ impl Filter for reference::Session {
     }
 
     fn from_image(image: &[u8]) -> Self {
-        reference::Session::read_image(reference_settings(), image).expect("an image")
+        reference::Session::read_image(reference_settings(1), image).expect("an image")
     }
 }
 
@@ -216,16 +217,20 @@ impl Bench {
 }
 
 fn begun<F: Filter>() -> F {
-    let mut f = F::fresh();
+    begun_by(1)
+}
+
+fn begun_by<F: Filter>(revision: u32) -> F {
+    let mut f = F::fresh(revision);
     for vcpu in 0..VCPUS {
         f.ready(vcpu);
     }
     f
 }
 
-/// 1,000 pages of view 0, every third page number.
-fn thousand() -> Vec<Vec<u8>> {
-    let pages: Vec<(u64, u8)> = (0..1000).map(|i| (3 * i, 5)).collect();
+/// So many pages of view 0, every third page number.
+fn thirds(count: u64) -> Vec<Vec<u8>> {
+    let pages: Vec<(u64, u8)> = (0..count).map(|i| (3 * i, 5)).collect();
     pages.chunks(250).map(|part| access(0, part)).collect()
 }
 
@@ -318,13 +323,14 @@ fn pause_cycles<F: Filter>() -> Measured {
     })
 }
 
-fn ascending<F: Filter>() -> Measured {
-    let (mut f, mut b) = (begun::<F>(), Bench::new());
-    b.send(&mut f, &thousand());
+/// On so many pages, all of which stand below rwx before and behind each message.
+fn ascending<F: Filter, const REVISION: u32, const PAGES: u64>() -> Measured {
+    let (mut f, mut b) = (begun_by::<F>(REVISION), Bench::new());
+    b.send(&mut f, &thirds(PAGES));
     let mut r = Random(3);
     let list: Vec<_> = (0..512)
         .map(|_| {
-            let first = r.below(1000 - 16);
+            let first = r.below(PAGES - 16);
             let entries: Vec<_> = (first..first + 16).map(|i| (3 * i, [0, 1, 3, 4, 5][r.below(5) as usize])).collect();
             access(0, &entries)
         })
@@ -333,8 +339,8 @@ fn ascending<F: Filter>() -> Measured {
     measure(list.len() * 8, || (0..8).for_each(|_| b.send(&mut f, &list)))
 }
 
-fn random_entries<F: Filter>() -> Measured {
-    let (mut f, mut b) = (begun::<F>(), Bench::new());
+fn random_entries<F: Filter, const REVISION: u32>() -> Measured {
+    let (mut f, mut b) = (begun_by::<F>(REVISION), Bench::new());
     let mut r = Random(4);
     // 256 random pages set, and the same forgotten in another order
     let list: Vec<_> = (0..64)
@@ -347,7 +353,7 @@ fn random_entries<F: Filter>() -> Measured {
             [access(0, &set), access(0, &gone)]
         })
         .collect();
-    b.send(&mut f, &thousand()[..2]);
+    b.send(&mut f, &thirds(500));
     b.send(&mut f, &list);
     measure(list.len() * 4, || (0..4).for_each(|_| b.send(&mut f, &list)))
 }
@@ -398,14 +404,34 @@ fn image_reads<F: Filter>() -> Measured {
 
 type Round = fn() -> Measured;
 
-const ROWS: [(&str, Round, Round); 10] = [
+const ROWS: [(&str, Round, Round); 13] = [
     ("small commands: 5, 10, 11, 12", small_commands::<semblurick::Session>, small_commands::<reference::Session>),
     ("pause, entry, reply: each call", pause_cycles::<semblurick::Session>, pause_cycles::<reference::Session>),
-    ("message 13: 16 ascending entries on 1,000 pages", ascending::<semblurick::Session>, ascending::<reference::Session>),
+    (
+        "message 13: 16 ascending entries on 1,000 pages",
+        ascending::<semblurick::Session, 1, 1000>,
+        ascending::<reference::Session, 1, 1000>,
+    ),
     (
         "message 13: 256 random entries, set and forgotten",
-        random_entries::<semblurick::Session>,
-        random_entries::<reference::Session>,
+        random_entries::<semblurick::Session, 1>,
+        random_entries::<reference::Session, 1>,
+    ),
+    (
+        "message 13: 16 ascending entries on 1,000 pages, revision 2",
+        ascending::<semblurick::Session, 2, 1000>,
+        ascending::<reference::Session, 2, 1000>,
+    ),
+    (
+        "message 13: 256 random entries, set and forgotten, revision 2",
+        random_entries::<semblurick::Session, 2>,
+        random_entries::<reference::Session, 2>,
+    ),
+    // more entries than there is room, and none of them needs any
+    (
+        "message 13: 16 ascending entries on 1,020 pages, revision 2",
+        ascending::<semblurick::Session, 2, 1020>,
+        ascending::<reference::Session, 2, 1020>,
     ),
     ("read 4,096 bytes", reads::<semblurick::Session>, reads::<reference::Session>),
     ("write 4,096 bytes", writes::<semblurick::Session>, writes::<reference::Session>),
@@ -423,10 +449,10 @@ fn best(proved: Round, reference: Round) -> (f64, f64) {
 /// The rows that have a word, or all of them for an empty one.
 fn times(word: &str) {
     println!("ns a message or image, best of {ROUNDS} rounds; output and guest buffers are not cleared between calls");
-    println!("{:<52}{:>10}{:>12}{:>8}", "", "proved", "reference", "ratio");
+    println!("{:<64}{:>10}{:>12}{:>8}", "", "proved", "reference", "ratio");
     for (name, proved, reference) in ROWS.into_iter().filter(|row| row.0.contains(word)) {
         let (ours, theirs) = best(proved, reference);
-        println!("{name:<52}{ours:>10.1}{theirs:>12.1}{:>7.2}x", theirs / ours);
+        println!("{name:<64}{ours:>10.1}{theirs:>12.1}{:>7.2}x", theirs / ours);
     }
     println!("ratio: the reference's time over the proved filter's; above 1 the proved filter is faster");
 }
