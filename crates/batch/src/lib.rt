@@ -22,7 +22,7 @@ const CRASH: u32 = 512;
 // How far a batch is, or where it ended: the answer's number, how many bytes of the input are used, bytes of the output written and signals listed,
 // the session after the messages that were taken, and the resume that ended it, if one did. The numbers stand first: behind the other two the compiler
 // keeps fewer of them in registers, and a message of a batch takes ten instructions more.
-#[derive(Drop)]
+#[derive(Clone, Copy)]
 pub struct Batched {
     pub number: u32,
     pub used: usize,

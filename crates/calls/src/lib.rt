@@ -21,14 +21,14 @@ pub const RESULT_WORDS: usize = 12;
 pub type ResultWords = [u64; RESULT_WORDS];
 
 // What a call gives: the answer's number, and the session after it.
-#[derive(Drop)]
+#[derive(Clone, Copy)]
 pub struct Returned {
     pub code: u32,
     pub session: Session,
 }
 
 // What a message gives: the answer's number, what it moved of the session, and the moved number of the tool after it (message::Received's).
-#[derive(Drop)]
+#[derive(Clone, Copy)]
 pub struct Moved {
     pub code: u32,
     pub moved: u32,
@@ -239,7 +239,7 @@ pub fn image_size(s: Session, vcpus: &VcpuWords, pages: &PageWords) -> usize
 // ---- the calls on a list of vCPU records that the host keeps, on one record
 
 // What such a call gives: the record after it, and the answer's number.
-#[derive(Drop)]
+#[derive(Clone, Copy)]
 pub struct ListReturned {
     pub vcpu: Vcpu,
     pub code: u32,

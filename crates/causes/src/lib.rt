@@ -19,7 +19,7 @@ pub const EOPNOTSUPP: i32 = -95;
 pub const ENOSYS: i32 = -1000;
 
 // A field for each cause, in the order of their codes; the last has none, and closes the session.
-#[derive(Drop)]
+#[derive(Clone, Copy)]
 pub struct Causes {
     pub invalid: bool,
     pub unready: bool,

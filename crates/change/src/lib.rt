@@ -24,7 +24,7 @@ const PAGE_LIMIT: u64 = 1024;
 
 // What a change gives: what kind of reply answers it, which number of the tool it moves and that number after it (0 for none), 0 or the error that it
 // met, the number of the mode by which it is answered, and what the host is to do.
-#[derive(Drop)]
+#[derive(Clone, Copy)]
 pub struct Effect {
     pub kind: ReplyKind,
     pub moved: u32,

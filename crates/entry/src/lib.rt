@@ -11,7 +11,7 @@ use session::{Done, Session, Tool};
 use store::words::VcpuWords;
 
 // How many bytes go out of an entry, and the next event's seq after them.
-#[derive(Drop)]
+#[derive(Clone, Copy)]
 struct HandedOut {
     count: usize,
     next: u32,

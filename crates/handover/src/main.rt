@@ -16,7 +16,7 @@ use session::{Done, Session};
 use store::words::{VCPU_WORDS, VcpuWords};
 
 // What goes from step to step beside the lent words: the session, the settings for images, and how long the last image is.
-#[derive(Drop)]
+#[derive(Clone, Copy)]
 struct Held {
     session: Session,
     settings: Settings,

@@ -9,7 +9,7 @@ use kvmi::Settings;
 use session::Session;
 
 // The kind of the record at a place, where all of it is there.
-#[derive(Drop)]
+#[derive(Clone, Copy)]
 pub enum Mark {
     Vm,
     Vc,

@@ -14,7 +14,7 @@ use store::words::{BLOCK_WORDS, MSRS};
 const FOUR: usize = 256;
 
 // Four words side by side: all words of switches are looked at in fours, of which most are 0.
-#[derive(Drop)]
+#[derive(Clone, Copy)]
 struct Four {
     a: u64,
     b: u64,
@@ -23,7 +23,7 @@ struct Four {
 }
 
 // What is found in a vCPU's words: how many switches are on, and which fours have one, the first in the lowest bit.
-#[derive(Drop)]
+#[derive(Clone, Copy)]
 struct Found {
     on: usize,
     fours: u64,

@@ -10,7 +10,7 @@ use image_form::Mark;
 use kvmi::Settings;
 
 // What the tests of a record ask of those before it.
-#[derive(Drop)]
+#[derive(Clone, Copy)]
 pub struct Progress {
     // Where the next record stands, and how many stand before it. The count wraps, since it may start at any number.
     pub at: usize,
@@ -28,7 +28,7 @@ pub struct Progress {
 }
 
 // What a test of all of an image says: what an accepted one states, or where the first record stands that breaks a rule.
-#[derive(Drop)]
+#[derive(Clone, Copy)]
 pub enum Outcome {
     Accepted {
         events: u64,
@@ -44,7 +44,7 @@ pub enum Outcome {
 }
 
 // What the test of one record says.
-#[derive(Drop)]
+#[derive(Clone, Copy)]
 pub enum Advance {
     Next { progress: Progress },
     Stop { outcome: Outcome },

@@ -9,7 +9,7 @@ pub const PAGES: u64 = 4503599627370496;
 
 // What the host allows and has, fixed for a session. Unsigned integers only: a flag is set where it is not 0.
 #[repr(C)]
-#[derive(Drop)]
+#[derive(Clone, Copy)]
 pub struct Settings {
     pub vcpus: u32,
     pub views: u32,
@@ -33,7 +33,7 @@ pub struct Settings {
 }
 
 // Whether commands are replied to. With ErrorsOnly they are not, and one that fails is told by a CMD_ERROR event.
-#[derive(Drop)]
+#[derive(Clone, Copy)]
 pub enum ReplyMode {
     On,
     Off,
@@ -42,7 +42,7 @@ pub enum ReplyMode {
 
 // What the host is to do beside sending the bytes. In it, and in `Change`, the fields of every variant stand in one order: a flag, then
 // 16, 32 and 64 bits. So a place in memory has one width whatever the variant, and the compiler keeps all of it in registers.
-#[derive(Drop)]
+#[derive(Clone, Copy)]
 pub enum Signal {
     Quiet,
     Kick {
@@ -64,7 +64,7 @@ pub enum Signal {
 
 // The bytes that feed an instruction whose read a page fault stopped, on a continue: those that the tool supplied, a part of its message, or the guest
 // page's, a part of guest memory; where in it they begin, and how many they are.
-#[derive(Drop)]
+#[derive(Clone, Copy)]
 pub struct Feed {
     pub at: u64,
     pub length: u32,
@@ -75,7 +75,7 @@ pub struct Feed {
 // The values of answers 0 and 12: what the host is to do, where a command's first padding byte stands that is not zero (its message offset; 0: none),
 // and how many bytes were written. The count stands last: a store of its own width ends each answer with values, so that the compiler keeps answers in
 // registers.
-#[derive(Drop)]
+#[derive(Clone, Copy)]
 pub struct Values {
     pub signal: Signal,
     pub padding: usize,
@@ -83,7 +83,7 @@ pub struct Values {
 }
 
 // What a host call answers.
-#[derive(Drop)]
+#[derive(Clone, Copy)]
 pub enum Answer {
     Handled(Values),
     Closing,
@@ -100,7 +100,7 @@ pub enum Answer {
 }
 
 // How many data bytes a message has.
-#[derive(Drop)]
+#[derive(Clone, Copy)]
 pub enum SizeRule {
     Exactly { bytes: u16 },
     // 16 and as many as its size field says.
@@ -114,7 +114,7 @@ pub enum SizeRule {
 }
 
 // What answers a message that is taken: an error code alone, one with data behind it, or nothing.
-#[derive(Drop)]
+#[derive(Clone, Copy)]
 pub enum ReplyKind {
     CodeOnly,
     WithData,
@@ -122,7 +122,7 @@ pub enum ReplyKind {
 }
 
 // Which message it is.
-#[derive(Drop)]
+#[derive(Clone, Copy)]
 pub enum Handler {
     GetVersion,
     VmCheckCommand,
@@ -144,7 +144,7 @@ pub enum Handler {
 }
 
 // A row of the table of messages.
-#[derive(Drop)]
+#[derive(Clone, Copy)]
 pub struct Layout {
     pub size: SizeRule,
     pub reply: ReplyKind,
@@ -153,7 +153,7 @@ pub struct Layout {
 
 // The switch that an event asks for before it is sent: the VM's, the vCPU's, or the vCPU's and that of the register, or a guard on the page, that its
 // bytes name.
-#[derive(Drop)]
+#[derive(Clone, Copy)]
 pub enum EventSwitch {
     // An entry is not offered it.
     Unoffered,
@@ -167,7 +167,7 @@ pub enum EventSwitch {
 }
 
 // What the reply to an event has behind its first 16 data bytes: nothing, the new value of a register, or the context of a page fault.
-#[derive(Drop)]
+#[derive(Clone, Copy)]
 pub enum ReplyForm {
     Plain,
     NewValue,
@@ -176,7 +176,7 @@ pub enum ReplyForm {
 
 // A row of the table of events: the switch that it asks for, whether its reply may be a retry and what form it has, how many bytes it has of its own
 // behind the state block, and how many data bytes its reply has.
-#[derive(Drop)]
+#[derive(Clone, Copy)]
 pub struct EventRow {
     pub switch: EventSwitch,
     pub form: ReplyForm,
@@ -188,7 +188,7 @@ pub struct EventRow {
 // What the tests of a message ask of the session: the reply mode, how many bytes of guest memory are lent, and what stands
 // for the vCPU that the message names: its ready mark, queued pauses, the event whose reply it awaits (0: none), that event's seq, and of a page fault
 // its addresses and access.
-#[derive(Drop)]
+#[derive(Clone, Copy)]
 pub struct Facts {
     pub mode: ReplyMode,
     pub guest: usize,
@@ -202,7 +202,7 @@ pub struct Facts {
 }
 
 // What a message that passes all tests changes. The fields are in the order that stands at `Signal`.
-#[derive(Drop)]
+#[derive(Clone, Copy)]
 pub enum Change {
     Nothing,
     SetVmEvent {
@@ -254,7 +254,7 @@ pub enum Change {
 }
 
 // What the tests say of a message: it closes the session, it fails with an error code, or it makes one change.
-#[derive(Drop)]
+#[derive(Clone, Copy)]
 pub enum Verdict {
     Closes,
     Fails(i32),
@@ -264,7 +264,7 @@ pub enum Verdict {
 // A verdict, and beside it what test 6 found: the message offset of the first padding byte that is not zero, or 0 where there is none or the test
 // was not reached. It stands beside the verdict and not in `Fails`: there it would share its place with a change, and the compiler would keep
 // neither in registers.
-#[derive(Drop)]
+#[derive(Clone, Copy)]
 pub struct Judgement {
     pub verdict: Verdict,
     pub padding: usize,

@@ -22,7 +22,7 @@ const SEQ: u32 = 4;
 const CLOSED: u32 = 8;
 
 // What a message gives: its answer, what it moved, and the moved number of the tool after it (0 for none).
-#[derive(Drop)]
+#[derive(Clone, Copy)]
 pub struct Received {
     pub answer: Answer,
     pub moved: u32,

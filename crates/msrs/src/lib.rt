@@ -11,7 +11,7 @@ const SECOND: u32 = 0xC0000000;
 pub const PLACES: usize = 16384;
 
 // Where a vCPU's switch for an MSR stands among its 16,384, or that there is none.
-#[derive(Drop)]
+#[derive(Clone, Copy)]
 pub enum Place {
     At(u16),
     None,

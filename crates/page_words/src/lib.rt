@@ -20,14 +20,14 @@ const KEYS: u64 = 2305843009213693952;
 const TOP: u64 = 9223372036854775808;
 
 // How many words are in use after entries were taken, and whether one was skipped for want of room.
-#[derive(Drop)]
+#[derive(Clone, Copy)]
 pub struct Taken {
     pub count: usize,
     pub skipped: bool,
 }
 
 // An entry of message 13: a page number and the access that it is to have.
-#[derive(Drop)]
+#[derive(Clone, Copy)]
 pub struct PageEntry {
     pub page: u64,
     pub access: u8,

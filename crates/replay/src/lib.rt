@@ -12,7 +12,7 @@ use store::words::VcpuWords;
 use stream::{Cut, End, Line};
 
 // What a message leaves: the session for the next one, the facts of its line, and whether it closed the session.
-#[derive(Drop)]
+#[derive(Clone, Copy)]
 pub struct Passed {
     pub session: Session,
     pub line: Line,
@@ -20,14 +20,14 @@ pub struct Passed {
 }
 
 // What follows a turn: another, or the end of the run, of which its own line is still to be printed.
-#[derive(Drop)]
+#[derive(Clone, Copy)]
 pub enum Next {
     On,
     Over(End),
 }
 
 // What a turn leaves: the session for the next one, how many bytes of text are to be printed, and what follows.
-#[derive(Drop)]
+#[derive(Clone, Copy)]
 pub struct Turned {
     pub session: Session,
     pub count: usize,

@@ -17,7 +17,7 @@ use kvmi::{Handler, ReplyKind, Settings};
 pub const STATE_BYTES: usize = 536;
 
 // The data of a reply.
-#[derive(Drop)]
+#[derive(Clone, Copy)]
 enum Contents {
     Nothing,
     Version,
@@ -28,7 +28,7 @@ enum Contents {
 }
 
 // How many bytes an answer has, and whether it is a CMD_ERROR event, which takes a seq.
-#[derive(Drop)]
+#[derive(Clone, Copy)]
 pub struct Answered {
     pub count: usize,
     pub took_seq: bool,

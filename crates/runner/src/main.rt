@@ -11,7 +11,7 @@ use store::words::{VCPU_WORDS, VcpuWords};
 use stream::End;
 
 // What one turn leaves: the session for the next one, or the end of the run. Mute: a line could not be written.
-#[derive(Drop)]
+#[derive(Clone, Copy)]
 enum Turn {
     Next(Session),
     Over(End),

@@ -13,7 +13,7 @@ use store::words::VcpuWords;
 
 // What one introspection tool owns: unsigned integers only, so that any bits are a value. A flag is set where it is not 0.
 #[repr(C)]
-#[derive(Drop)]
+#[derive(Clone, Copy)]
 pub struct Tool {
     // VM event switches, bit e for event e.
     pub events: u64,
@@ -29,14 +29,14 @@ pub struct Tool {
 
 // What all of a guest's tools share.
 #[repr(C)]
-#[derive(Drop)]
+#[derive(Clone, Copy)]
 pub struct Shared {
     // Bit i is the ready mark of vCPU i.
     pub ready: u64,
 }
 
 #[repr(C)]
-#[derive(Drop)]
+#[derive(Clone, Copy)]
 pub struct Session {
     pub settings: Settings,
     pub tool: Tool,
@@ -44,7 +44,7 @@ pub struct Session {
 }
 
 // What a call gives back: its answer, and the session after it. The session stands first, so that it is copied by whole words.
-#[derive(Drop)]
+#[derive(Clone, Copy)]
 pub struct Done {
     pub session: Session,
     pub answer: Answer,

@@ -37,7 +37,7 @@ pub const MSRS: usize = 16;
 
 // What is pending of a vCPU: how many pauses are queued, and the event whose reply is awaited (0 for none) with its seq and, of a page fault, its
 // addresses and access.
-#[derive(Drop)]
+#[derive(Clone, Copy)]
 pub struct Pending {
     pub pauses: u64,
     pub awaited: u64,

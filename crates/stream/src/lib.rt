@@ -10,7 +10,7 @@ use kvmi::Answer;
 
 // What the first bytes of a message, at most 8 of them, say of it: there is none; its header is cut, and these bytes are all
 // of it; it is too long to be taken; or it has so many bytes in all.
-#[derive(Drop)]
+#[derive(Clone, Copy)]
 pub enum Cut {
     End,
     Tail,
@@ -19,21 +19,21 @@ pub enum Cut {
 }
 
 // An id or a seq, where all of it is there.
-#[derive(Drop)]
+#[derive(Clone, Copy)]
 pub enum Number {
     Missing,
     Shown(u32),
 }
 
 // The error in what was written, where anything was.
-#[derive(Drop)]
+#[derive(Clone, Copy)]
 pub enum Code {
     Unwritten,
     Written(i32),
 }
 
 // What is told of a message: its id and seq, the host answer's number, how many bytes were written, and the error in them.
-#[derive(Drop)]
+#[derive(Clone, Copy)]
 pub struct Line {
     pub id: Number,
     pub seq: Number,
@@ -43,7 +43,7 @@ pub struct Line {
 }
 
 // How a run ends: the input is over, a message closed the session, or the next one is too long to be taken.
-#[derive(Drop)]
+#[derive(Clone, Copy)]
 pub enum End {
     Open,
     Closed,

@@ -7,7 +7,7 @@ use kvmi::Answer;
 
 // A vCPU's whole record: unsigned integers only, so that any bits are a record. A flag is set where it is not 0.
 #[repr(C)]
-#[derive(Drop)]
+#[derive(Clone, Copy)]
 pub struct Vcpu {
     pub ready: u64,
     pub singlestep: u64,
@@ -23,7 +23,7 @@ pub struct Vcpu {
 }
 
 // A record after a call, and the call's answer.
-#[derive(Drop)]
+#[derive(Clone, Copy)]
 pub struct Changed {
     pub vcpu: Vcpu,
     pub answer: Answer,

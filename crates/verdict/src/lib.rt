@@ -7,7 +7,7 @@ ghost use Rattle.verdict.specs.Handlers.{facts_for, passes_row, refusal};
 use kvmi::{Change, Facts, Handler, Judgement, Layout, ReplyMode, Settings, Verdict};
 
 // What the tests ask of a session: its settings and reply mode, how many bytes of guest memory are lent, and the ready marks, bit i for vCPU i.
-#[derive(Drop)]
+#[derive(Clone, Copy)]
 pub struct Asked {
     pub settings: Settings,
     pub mode: ReplyMode,

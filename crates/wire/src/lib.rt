@@ -7,7 +7,7 @@ ghost use Rattle.wire.specs.Header.{header_of};
 ghost use Rattle.wire.specs.Code.{negated, twos, code_bytes};
 
 // What stands at the start of a message: a header with all of its data behind it, or none.
-#[derive(Drop)]
+#[derive(Clone, Copy)]
 pub enum Header {
     Whole { id: u16, size: u16, seq: u32 },
     Broken,
