@@ -1,5 +1,7 @@
 // Several messages of the tool in one write, end to end: each is cut off by its size field and taken as a single one is, on what the one before it
 // left. What they write stands end to end in one output, their signals in a list that the host lends.
+#![tactic(auto)]
+
 ghost use Rattle.std.specs.Prelude.{◌≡◌, ℕ, ◌+◌, ◌≤◌, ◌<◌, true, List, [], ◌∷◌, ◌++◌, eqb, length, take};
 ghost use Rattle.kvmi.specs.Batch.{next_length, listed_as, feed_in, resume_of, is_resume, refusal_of, goes_on, counted, turn_of};
 ghost use Rattle.kvmi.specs.Answer.{paper};

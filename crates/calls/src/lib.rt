@@ -1,5 +1,7 @@
 // The calls as a host has them: an answer is a number and a few words for its values, and a vCPU's number is a u32. Each is a function on the
 // session by value; `host` has them over a session behind a pointer.
+#![tactic(auto)]
+
 ghost use Rattle.std.specs.Prelude.{◌≡◌, min, []};
 ghost use Rattle.kvmi.specs.Answer.{paper};
 ghost use Rattle.kvmi.specs.Settings.{is_set};

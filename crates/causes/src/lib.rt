@@ -1,4 +1,6 @@
 // What stands against a command, and the order in which it counts.
+#![tactic(auto)]
+
 ghost use Rattle.std.specs.Prelude.{◌≡◌};
 ghost use Rattle.causes.specs.Causes.{first_causes, decided, refused_unready};
 

@@ -1,4 +1,6 @@
 // What a message that passes its tests changes, in the session's numbers and in the lent words and bytes.
+#![tactic(auto)]
+
 ghost use Rattle.std.specs.Prelude.{◌≡◌, ◌||◌, ◌+◌, leb, ltb, eqb, drop};
 ghost use Rattle.wire.specs.Bytes.{store};
 ghost use Rattle.kvmi.specs.Limits.{page_limit};

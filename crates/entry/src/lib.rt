@@ -1,4 +1,6 @@
 // The call by which a vCPU enters the guest: an event that it is offered goes out if the tool asked for it, or else a queued pause.
+#![tactic(auto)]
+
 ghost use Rattle.std.specs.Prelude.{◌≡◌, List, [], ℕ, ◌≤◌, length};
 ghost use Rattle.kvmi.specs.Event.{offer_fits};
 ghost use Rattle.session.specs.State.{state};

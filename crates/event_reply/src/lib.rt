@@ -1,4 +1,6 @@
 // EVENT_REPLY: whether it is the reply that its vCPU awaits, and what it says. It takes any data.
+#![tactic(auto)]
+
 ghost use Rattle.std.specs.Prelude.{◌≡◌, ◌&&◌, eqb, length};
 ghost use Rattle.kvmi.specs.Message.{action_of};
 ghost use Rattle.kvmi.specs.Event.{takes_action, value_of};

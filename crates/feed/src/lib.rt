@@ -1,4 +1,6 @@
 // A page fault's reply: its context, and the bytes that feed the instruction whose read the fault stopped. Every function takes any bytes and numbers.
+#![tactic(auto)]
+
 ghost use Rattle.std.specs.Prelude.{◌≡◌, take, drop};
 ghost use Rattle.kvmi.specs.Feed.{in_context, context_fits, wants_bytes, page_feed, chosen_feed};
 ghost use Rattle.feed.specs.Fed.{fed_bytes};

@@ -6,6 +6,8 @@
 //   L image      is read                         A            the image that was written last is read
 //   C image      is compared with the image that was written last
 // A refused image leaves the session and its words as they were, and the script goes on with them.
+#![tactic(auto)]
+
 ghost use Rattle.std.specs.Prelude.{◌≤◌, length};
 ghost use Rattle.io.specs.Counts.{IsPrefixLen};
 

@@ -1,1 +1,2 @@
 // Theorems over lists of calls: no code.
+#![tactic(auto)]

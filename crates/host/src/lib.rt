@@ -3,6 +3,8 @@
 // session out of the reference, calls that function, and stores back what the call can change: a ready mark what the tools share; an entry the next
 // event's seq; a message, only where something moved and number by number, all but the settings of the session that `message::session_after` makes; a
 // beginning all of it. They are the raw calls: the header has calls over a struct of session and tables beside them, by these.
+#![tactic(auto)]
+
 ghost use Rattle.std.specs.Prelude.{◌≡◌};
 ghost use Rattle.calls.specs.Given.{fresh_given, ready_given, message_given, enter_given, size_given, write_given, read_given};
 ghost use Rattle.lookup.specs.Lookup.{look_open, look_ready, look_vm_event, look_count, look_access, numbers_of, look_page, look_event, look_cr, look_msr, look_singlestep, look_pauses, look_awaited};

@@ -1,6 +1,8 @@
 // The call for several messages in one write, as hosts in C and Rust call it (include/semblurick.h). It is a library of its own, linked beside that of
 // `host`: so the compiler makes one piece of a batch's loop and all that a message does, and another of the single call, neither of which pays for
 // the other.
+#![tactic(auto)]
+
 ghost use Rattle.std.specs.Prelude.{◌≡◌};
 ghost use Rattle.host_batch.specs.Given.{batch_words, batch_given};
 

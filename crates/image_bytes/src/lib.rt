@@ -1,5 +1,7 @@
 // The bytes of an image, from the lent words: one pass over them to measure, and one to write. A record is stored into the part of the output
 // that it fills, so that its stores need no tests.
+#![tactic(auto)]
+
 ghost use Rattle.std.specs.Prelude.{◌≡◌, ℕ, ◌+◌, ◌-◌, ◌*◌, ◌≤◌, ◌<◌, ◌^◌, min, length};
 ghost use Rattle.wire.specs.Bytes.{store};
 ghost use Rattle.store.specs.Meaning.{vcpus_of};

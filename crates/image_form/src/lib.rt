@@ -1,4 +1,6 @@
 // One record of a table image by itself: its kind, its form, and what the settings permit. Every public function takes any numbers.
+#![tactic(auto)]
+
 ghost use Rattle.std.specs.Prelude.{◌≡◌, ◌||◌, ℕ, ◌-◌, ◌%◌, eqb};
 ghost use Rattle.kvmi.specs.Bits.{is_on, bits_have};
 ghost use Rattle.kvmi.specs.Settings.{allows_event};

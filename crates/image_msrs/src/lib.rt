@@ -1,5 +1,7 @@
 // The MS records of an image, from the lent words: one pass over them counts, and marks the fours of words that have a switch on; the next
 // writes, and reads these fours alone. A record is stored into the part of the output that it fills, so that its stores need no tests.
+#![tactic(auto)]
+
 ghost use Rattle.std.specs.Prelude.{◌≡◌, ℕ, ◌+◌, ◌*◌, ◌≤◌, ◌<◌, min, length};
 ghost use Rattle.wire.specs.Bytes.{store};
 ghost use Rattle.kvmi.specs.Record.{write};

@@ -1,4 +1,6 @@
 // The image reader: one pass tests every record and changes nothing, and one loads what an accepted image states.
+#![tactic(auto)]
+
 ghost use Rattle.std.specs.Prelude.{◌≡◌, true, ◌+◌, ◌≤◌, length, set, []};
 ghost use Rattle.kvmi.specs.Bits.{bit};
 ghost use Rattle.kvmi.specs.Record.{VC, MS};

@@ -1,5 +1,7 @@
 // The bytes of one record of a table image, at the start of the part of the output that it fills. A part that is too short stays as
 // it was.
+#![tactic(auto)]
+
 ghost use Rattle.std.specs.Prelude.{◌≡◌, not, ◌+◌, ◌*◌, eqb};
 ghost use Rattle.wire.specs.Bytes.{store};
 ghost use Rattle.kvmi.specs.Bits.{bit};

@@ -1,4 +1,6 @@
 // The test of one record of a table image, with what it asks of those before it. It changes nothing.
+#![tactic(auto)]
+
 ghost use Rattle.std.specs.Prelude.{◌≡◌, ◌+◌, ◌≤◌, length};
 ghost use Rattle.kvmi.specs.Record.{VM, VC, MS, PA, EN};
 ghost use Rattle.image_form.specs.Form.{mark_at, row_at};

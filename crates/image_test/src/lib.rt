@@ -1,4 +1,6 @@
 // The test of a whole table image, record by record. It changes nothing.
+#![tactic(auto)]
+
 ghost use Rattle.std.specs.Prelude.{◌≡◌};
 ghost use Rattle.kvmi.specs.Image.{load_image};
 ghost use Rattle.image_test.specs.Test.{outcome, Rest};

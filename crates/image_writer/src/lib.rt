@@ -1,4 +1,6 @@
 // The image writer: the image of a session, or the answer where none is written.
+#![tactic(auto)]
+
 ghost use Rattle.std.specs.Prelude.{◌≡◌, [], length};
 ghost use Rattle.kvmi.specs.Image.{image};
 ghost use Rattle.kvmi.specs.Call.{awaits_any};

@@ -1,4 +1,6 @@
 // KVMI as the filter speaks it: the types that every layer shares. Ids, events, errors and actions have kvmi.rst's names.
+#![tactic(auto)]
+
 pub mod answers;
 pub mod bits;
 pub mod events;

@@ -1,1 +1,2 @@
 // Theorems on the definitions of `kvmi`: no code.
+#![tactic(auto)]

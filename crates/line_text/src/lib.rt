@@ -1,4 +1,6 @@
 // The text of a line, in a buffer that the caller lends.
+#![tactic(auto)]
+
 ghost use Rattle.std.specs.Prelude.{◌≡◌, ◌++◌, ◌+◌, ◌≤◌, nat_abs, length, drop};
 ghost use Rattle.wire.specs.Bytes.{store};
 ghost use Rattle.line_text.specs.Text.{ascii, decimal, signed_text, number_text, code_text, line_text, end_text, Put, Counts};

@@ -1,5 +1,7 @@
 // Calls both functions over lists of no, one and three records. Each call prints a line with its name, the list's length and its arguments, and
 // last the answer's number; then a line for each record, with its fields in order.
+#![tactic(auto)]
+
 ghost use Rattle.std.specs.Prelude.{◌≤◌};
 
 use kvmi::Answer;

@@ -1,6 +1,8 @@
 // What stands in a session, looked up one by one: by these a host programs page rights, intercepts and single-stepping. None refuses: what a
 // session has none of is off, 0, or a page at rwx, and whatever bits stand in the lent words, the answer is fixed by them.
 // A switch is given as 1 where it is on, and as 0 where it is off.
+#![tactic(auto)]
+
 ghost use Rattle.std.specs.Prelude.{◌≡◌};
 ghost use Rattle.lookup.specs.Lookup.{look_open, look_ready, look_vm_event, look_field, look_count, look_access, numbers_of, look_page, look_event, look_cr, look_msr, look_singlestep, look_pauses, look_awaited};
 

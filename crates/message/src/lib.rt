@@ -1,4 +1,6 @@
 // The call that takes one message of the tool: header, tests, change, answer.
+#![tactic(auto)]
+
 ghost use Rattle.std.specs.Prelude.{◌≡◌, List, ℕ, ◌≤◌};
 ghost use Rattle.session.specs.declared.Session.{Session};
 ghost use Rattle.session.specs.State.{state};

@@ -1,4 +1,6 @@
 // Which MSRs can be switched, and where each switch stands: the one crate whose code knows the two ranges.
+#![tactic(auto)]
+
 ghost use Rattle.std.specs.Prelude.{◌≡◌};
 ghost use Rattle.msrs.specs.Place.{msr_place, is_msr, msr_at};
 

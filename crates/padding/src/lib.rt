@@ -1,5 +1,7 @@
 // Padding: bytes of a layout that are to be zero. Each function finds the first that is not, as its offset in the message, whose
 // header is 8 bytes long; 0 says that there is none. Clean padding is seen by whole loads, with no loop over bytes.
+#![tactic(auto)]
+
 pub mod entries;
 
 ghost use Rattle.std.specs.Prelude.{◌≡◌, ◌+◌, ◌*◌, ◌≤◌, eqb, length};

@@ -1,5 +1,7 @@
 // The page words that a host lends: one for each page below rwx, ascending and dense, with 0 after those in use.
 // Every public function takes words of any length and any numbers.
+#![tactic(auto)]
+
 ghost use Rattle.std.specs.Prelude.{◌≡◌, ◌≤◌, ◌<◌, ◌^◌, min, ltb, length};
 ghost use Rattle.kvmi.specs.Bits.{bit};
 ghost use Rattle.kvmi.specs.Message.{entry_of, entries_of};

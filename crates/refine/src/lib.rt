@@ -1,1 +1,2 @@
 // The words mean what the model says: theorems, no code.
+#![tactic(auto)]

@@ -1,5 +1,7 @@
 // Document 01's runner, but for reading and printing: the session that it starts with, what becomes of one message, and the text
 // that is printed.
+#![tactic(auto)]
+
 ghost use Rattle.std.specs.Prelude.{◌≡◌};
 ghost use Rattle.session.specs.State.{state};
 ghost use Rattle.line_text.specs.Text.{Counts};

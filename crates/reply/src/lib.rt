@@ -1,5 +1,7 @@
 // The bytes that go out: replies, the pause event and the CMD_ERROR event, and the seq of the next event.
 // What is written starts at the front of the output. Where it does not fit nothing is written, and the count is that of all of it.
+#![tactic(auto)]
+
 ghost use Rattle.std.specs.Prelude.{◌≡◌, [], ◌++◌, ◌+◌, ◌≤◌, length};
 ghost use Rattle.wire.specs.Bytes.{le, store};
 ghost use Rattle.kvmi.specs.Codes.{is_error};

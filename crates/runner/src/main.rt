@@ -1,5 +1,7 @@
 // Runs the messages of standard input through a session, and prints a line for each: document 01's runner.
 // It reads as it goes, and holds no more than one message at a time.
+#![tactic(auto)]
+
 ghost use Rattle.std.specs.Prelude.{◌≤◌, length};
 ghost use Rattle.io.specs.Counts.{IsPrefixLen};
 

@@ -1,5 +1,7 @@
 // A session: what the filter keeps of a guest. It is a small value that the host keeps; its tables are words that the host lends with each call.
 // Here it begins and gets its ready marks; `message` and `entry` have the other calls that move it.
+#![tactic(auto)]
+
 ghost use Rattle.std.specs.Prelude.{◌≡◌, List, [], ℕ, leb, ltb};
 ghost use Rattle.kvmi.specs.Settings.{in_range};
 ghost use Rattle.kvmi.specs.Limits.{page_limit, pause_limit, least_out};

@@ -1,5 +1,7 @@
 // A stream of messages, end to end: where the next one ends, and the facts of the line that tells what became of it. Reading and
 // printing are the caller's.
+#![tactic(auto)]
+
 ghost use Rattle.std.specs.Prelude.{◌≡◌, eqb};
 ghost use Rattle.kvmi.specs.Answer.{paper};
 ghost use Rattle.stream.specs.Cut.{cut_of, extent_of};

@@ -1,5 +1,7 @@
 // Runs stored streams, each through a session of its own: for each file that its arguments name, the name and then its lines.
 // A stream is read whole and then cut into its messages.
+#![tactic(auto)]
+
 ghost use Rattle.std.specs.Prelude.{◌≤◌, ◌≡◌, length};
 
 use libc::{STDERR_FILENO, STDOUT_FILENO};

@@ -1,4 +1,6 @@
 // One test a function, on the numbers that it needs.
+#![tactic(auto)]
+
 ghost use Rattle.std.specs.Prelude.{◌≡◌, [], ◌∷◌, cond, not, ◌&&◌, ◌||◌, leb, eqb};
 ghost use Rattle.kvmi.specs.Bits.{is_on, among};
 ghost use Rattle.kvmi.specs.Settings.{is_set, has_execute_only};

@@ -2,6 +2,8 @@
 // the message offset of the first byte that is not zero, or 0. VCPU_PAUSE may close before that test, and so makes it itself.
 // In messages 9 to 12 each cause is a test of its own, and the change is made behind the last: the compiler makes more of that than of a change that is
 // handed to `decide`. The ready mark is branched on first, and `causes::unready` keeps EINVAL before EAGAIN.
+#![tactic(auto)]
+
 ghost use Rattle.std.specs.Prelude.{◌≡◌, cond, not};
 ghost use Rattle.kvmi.specs.Settings.{allows_event};
 ghost use Rattle.kvmi.specs.Verdict.{judgement, command_verdict_by, command_judgement};

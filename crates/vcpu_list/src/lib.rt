@@ -1,5 +1,7 @@
 // vCPU records as a list that the host lends, for a host that keeps them itself: marking one ready, and one CR switch.
 // What is done to a record is a function on the record by value; the two over the list reach the record and store it back.
+#![tactic(auto)]
+
 ghost use Rattle.std.specs.Prelude.{◌≡◌};
 ghost use Rattle.vcpu_list.specs.List.{one, listed, acknowledged, one_ready, one_cr, marked_ready, cr_set};
 

@@ -1,5 +1,7 @@
 // What document 01's tests say of a message whose header is whole: it closes the session, it fails with an error code, or it makes
 // one change; and which padding byte was not zero. `judge` asks the table of messages once, and goes by its row.
+#![tactic(auto)]
+
 ghost use Rattle.std.specs.Prelude.{◌≡◌};
 ghost use Rattle.kvmi.specs.Verdict.{refuse, verdict, judgement, reported_padding};
 ghost use Rattle.verdict.specs.Handlers.{facts_for, passes_row, refusal};

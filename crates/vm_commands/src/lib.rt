@@ -1,5 +1,7 @@
 // Test 6 for each command on the VM: its causes of error, and its change. Every function takes any data. Those whose message has padding are handed what
 // the padding test found: the message offset of the first byte that is not zero, or 0.
+#![tactic(auto)]
+
 ghost use Rattle.std.specs.Prelude.{◌≡◌};
 ghost use Rattle.kvmi.specs.Verdict.{command_verdict, command_verdict_by};
 ghost use Rattle.vm_commands.specs.Physical.{physical_causes};

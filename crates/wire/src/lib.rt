@@ -1,6 +1,8 @@
 // Little-endian numbers in lent slices, the message header and error codes.
 // Every public function takes any slice and any place: a number that is not all inside reads as 0, and a store that is
 // not all inside changes nothing.
+#![tactic(auto)]
+
 ghost use Rattle.std.specs.Prelude.{◌≡◌, ◌+◌, ◌*◌, ◌≤◌, min, leb, length, get_or, replicate};
 ghost use Rattle.wire.specs.Bytes.{le, load, store};
 ghost use Rattle.wire.specs.Header.{header_of};

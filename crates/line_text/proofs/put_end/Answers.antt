@@ -1,0 +1,9 @@
+-- Assumes nothing.
+use native.Mathlib.Omega.{arith}
+use Rattle.line_text.proofs.Texts.{counts}
+use Rattle.line_text.proofs.put_end.Goals as goal
+
+pub returns : goal.returns
+returns c =
+    let w = c.write_end.ensures.put in
+    (omega (arith, w.behind), (w.there, counts _ _ (omega arith)))

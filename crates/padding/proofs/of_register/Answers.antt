@@ -1,0 +1,7 @@
+-- The runs of this layout. Assumes nothing.
+use Rattle.kvmi.specs.Message.{first_padding, padding_runs, first_of_runs}
+use Rattle.padding.proofs.of_register.Goals as goal
+
+pub returns : goal.returns
+unfolding first_padding padding_runs first_of_runs
+returns c = c.behind_vcpu.ensures

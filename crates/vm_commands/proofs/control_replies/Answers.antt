@@ -1,0 +1,13 @@
+-- At this message's number the definitions leave its own causes and change, on what the callees say. Assumes nothing.
+use mathlib.Core.Path.{◌∙◌}
+use mathlib.Core.Bool.{or-false, and-true}
+use Rattle.kvmi.specs.Message.{names_vcpu, switches_at, enables, enable_at, first_padding, padding_runs}
+use Rattle.kvmi.specs.Settings.{allows_event}
+use Rattle.kvmi.specs.Verdict.{invalid_by, is_unready, is_denied, is_unsupported, is_busy, is_absent, loses_errors, change_of, command_verdict_by}
+use Rattle.causes.specs.Causes.{decided}
+use Rattle.vm_commands.proofs.control_replies.Goals as goal
+
+pub returns : goal.returns
+unfolding command_verdict_by invalid_by is_unready is_denied is_unsupported is_busy is_absent loses_errors change_of decided names_vcpu switches_at enables enable_at first_padding padding_runs allows_event
+returns c =
+    c.decide.ensures ∙ rw (c.new-c.ensures, ← c.byte-enable.ensures, ← c.byte-now.ensures, ← c.byte-flag.ensures, ← c.is_switch.ensures, ← c.is_switch-2.ensures, ← c.is_switch-3.ensures, ← c.allows_event.ensures, ← c.mode_from-mode.ensures) (simp (or-false, and-true))
