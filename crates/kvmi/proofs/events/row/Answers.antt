@@ -76,4 +76,4 @@ unfolding event_row_of
 returns-in-14 c = rw c.in-14.is c.plain-in-14.ensures
 
 pub returns-in_default : goal.returns-in_default
-returns-in_default c = c.row_of-in_default.ensures ∙ sym (unlisted _ c.in-0.rest)
+returns-in_default c = c.row_of-in_default.ensures ∙ sym (unlisted _ c.in_default.in_default-own.rest)

@@ -1,5 +1,5 @@
 use Prim.Native.Nat.{ℕ, zero, suc, ◌≤◌}
-use mathlib.Core.Logic.{⊎_elim}
+use borrow.Author.Rules.{rules}
 use mathlib.Core.Path.{◌≡◌, refl, sym, ap, ◌∙◌}
 use native.Mathlib.Omega.{arith}
 use lib.ListN.{get_or-eq_default}
@@ -10,6 +10,7 @@ use Rattle.kvmi.proofs.table.asking.Reads as asking_reads
 use Rattle.kvmi.proofs.table.plain.Reads as plain-reads
 use Rattle.kvmi.proofs.table.row.Reads as row_reads
 use Rattle.kvmi.proofs.table.layout.Goals as goal
+use Rattle.kvmi.proofs.table.layout.Goals.{in-0-1, in_default-1}
 
 -- a number that is none of 1 to 16 has no row of its own
 abbrev Unlisted : ℕ → Type 0
@@ -131,4 +132,4 @@ pub returns-in-0 : goal.returns-in-0
 returns-in-0 c =
     let id = c.args.id in
     c.row-in-0.ensures
-    ∙ sym (⊎_elim (λ w. ap layout_of w.keys17 ∙ none-at-0) (λ w. unlisted id w.rest.0) c.in-1.branch)
+    ∙ sym (elim c.in-0-1.branch [ in-0-1 w ↦ ap layout_of w.in-0-1.keys17 ∙ none-at-0 | in_default-1 w ↦ unlisted id (search rules) ])
