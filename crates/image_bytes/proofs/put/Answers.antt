@@ -22,10 +22,10 @@ returns-then-size-out c =
     let held = c.smaller-held.ensures in
     let on = c.put-on.ensures in
     let size = c.size_of-size.ensures in
-    let room = c.less-room.ensures in (
-      stated-size a.events a.ready a.count a.used a.vcpus.now a.pages.now _ _ n held _ _ on.0 size,
-      stated-written a.events a.ready a.count a.used a.vcpus.now a.pages.now _ _ n held _ _ on.0 size a.out.now _ _ room on.1 _ (omega arith) c.put_frame.ensures,
-    )
+    let room = c.less-room.ensures in record {
+      value = stated-size a.events a.ready a.count a.used a.vcpus.now a.pages.now _ _ n held _ _ on.value size;
+      out_after = stated-written a.events a.ready a.count a.used a.vcpus.now a.pages.now _ _ n held _ _ on.value size a.out.now _ _ room on.out_after _ (omega arith) c.put_frame.ensures;
+    }
 
 pub returns-else-size-out : goal.returns-else-size-out
 returns-else-size-out c =
@@ -34,7 +34,7 @@ returns-else-size-out c =
     let held = c.smaller-held.ensures in
     let on = c.put-on.ensures in
     let size = c.size_of-size.ensures in
-    let room = c.less-room.ensures in (
-      stated-size a.events a.ready a.count a.used a.vcpus.now a.pages.now _ _ n held _ _ on.0 size,
-      stated-short a.events a.ready a.count a.used a.vcpus.now a.pages.now _ _ n held _ _ on.0 size a.out.now _ _ room on.1 (omega arith),
-    )
+    let room = c.less-room.ensures in record {
+      value = stated-size a.events a.ready a.count a.used a.vcpus.now a.pages.now _ _ n held _ _ on.value size;
+      out_after = stated-short a.events a.ready a.count a.used a.vcpus.now a.pages.now _ _ n held _ _ on.value size a.out.now _ _ room on.out_after (omega arith);
+    }

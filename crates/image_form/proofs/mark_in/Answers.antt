@@ -47,4 +47,6 @@ unfolding mark_in
 returns-else-n-ge6 c = rw (c.in-20037.is, lt-leb _ _ c.if-n-ge6.false)
 
 pub returns-in_default : goal.returns-in_default
-returns-in_default c = sym (no-mark _ _ c.in-19798.rest.0.0.0.0.1 c.in-19798.rest.0.0.0.1 c.in-19798.rest.0.0.1 c.in-19798.rest.0.1 c.in-19798.rest.1)
+returns-in_default c =
+    let r = c.in_default.in_default-own.rest in
+    sym (no-mark _ _ r.0.0.0.0.1 r.0.0.0.1 r.0.0.1 r.0.1 r.1)

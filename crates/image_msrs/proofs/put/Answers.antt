@@ -7,7 +7,7 @@ use Rattle.image_msrs.proofs.put.Goals as goal
 pub returns-then-out-at : goal.returns-then-out-at
 returns-then-out-at c =
     let on = counted _ _ c.smaller-held.ensures c.find_all-on.ensures.0 in
-    (on, no_room _ _ _ _ on (omega arith))
+    record { value = on; out_after = no_room _ _ _ _ on (omega arith) }
 
 pub overflow_mul-on : goal.overflow_mul-on
 overflow_mul-on c =
@@ -17,9 +17,9 @@ overflow_mul-on c =
 pub returns-then-on-out : goal.returns-then-on-out
 returns-then-on-out c =
     let held = c.smaller-held.ensures in
-    (counted _ _ held c.find_all-on.ensures.0, stored _ _ _ _ held c.put_switches.ensures)
+    record { value = counted _ _ held c.find_all-on.ensures.0; out_after = stored _ _ _ _ held c.put_switches.ensures }
 
 pub returns-else-on-out : goal.returns-else-on-out
 returns-else-on-out c =
     let on = counted _ _ c.smaller-held.ensures c.find_all-on.ensures.0 in
-    (on, no_room _ _ _ _ on (omega arith))
+    record { value = on; out_after = no_room _ _ _ _ on (omega arith) }

@@ -1,13 +1,12 @@
 -- Each test by itself. Assumes nothing.
 -- Below, c2 is the place two before c, and so on.
 use Rattle.std.proofs.Common.{eq-eqb, ne_eqb}
-use borrow.Author.Tests.{not-true, not-false}
 use Rattle.image_step.specs.Step.{en_step}
 use Rattle.image_step.proofs.step_en.Goals as goal
 
 pub returns-then-not-is_after : goal.returns-then-not-is_after
 unfolding en_step
-returns-then-not-is_after c = rw (← c.load32-n.ensures, ← c.is_after.ensures, not-true c.is_after.result c.if-not-is_after.true) c.reject.ensures
+returns-then-not-is_after c = rw (← c.load32-n.ensures, ← c.is_after.ensures, c.if-not-is_after.true) c.reject.ensures
 
 pub returns-then-p-s : goal.returns-then-p-s
 unfolding en_step
@@ -16,7 +15,7 @@ returns-then-p-s c =
     rw (
       ← c6.load32.ensures,
       ← c5.is-after.ensures,
-      not-false c5.is-after.result c4.if-not-is_after.false,
+      c4.if-not-is_after.false,
       ne_eqb _ _ c.if-p-s.true,
     ) c.reject-then-p-s.ensures
 
@@ -27,7 +26,7 @@ returns-then-n-p c =
     rw (
       ← c8.load32.ensures,
       ← c7.is-after.ensures,
-      not-false c7.is-after.result c6.if1.false,
+      c6.if1.false,
       eq-eqb _ _ c3.if-p-s.false,
       ne_eqb _ _ c.if-n-p.true,
     ) c.reject-then-n-p.ensures
@@ -40,7 +39,7 @@ returns-then-l-next c =
     rw (
       ← c9.load32.ensures,
       ← c8.is-after.ensures,
-      not-false c8.is-after.result c7.if1.false,
+      c7.if1.false,
       eq-eqb _ _ c4.if2.false,
       eq-eqb _ _ c2.if-n-p.false,
       ne_eqb _ _ c.if-l-next.true,
@@ -53,7 +52,7 @@ returns c =
     rw (
       ← c8.load32.ensures,
       ← c7.is-after.ensures,
-      not-false c7.is-after.result c6.if1.false,
+      c6.if1.false,
       eq-eqb _ _ c3.if-p-s.false,
       eq-eqb _ _ c.if-n-p.false,
       eq-eqb _ _ c.if-l-next.false,

@@ -1,13 +1,12 @@
 -- Each test by itself. Assumes nothing.
 -- Below, c2 is the place two before c, and so on.
 use Rattle.std.proofs.Common.{eq-eqb, ne_eqb}
-use borrow.Author.Tests.{not-true, not-false}
 use Rattle.image_step.specs.Step.{ms_step}
 use Rattle.image_step.proofs.step_ms.Goals as goal
 
 pub returns-then-not-is_after : goal.returns-then-not-is_after
 unfolding ms_step
-returns-then-not-is_after c = rw (← c.load16-vcpu.ensures, ← c.load32-msr.ensures, ← c.is_after.ensures, not-true c.is_after.result c.if-not-is_after.true) c.reject.ensures
+returns-then-not-is_after c = rw (← c.load16-vcpu.ensures, ← c.load32-msr.ensures, ← c.is_after.ensures, c.if-not-is_after.true) c.reject.ensures
 
 pub returns-then-p-s : goal.returns-then-p-s
 unfolding ms_step
@@ -17,7 +16,7 @@ returns-then-p-s c =
       ← c7.load16.ensures,
       ← c6.load32.ensures,
       ← c5.is-after.ensures,
-      not-false c5.is-after.result c4.if-not-is_after.false,
+      c4.if-not-is_after.false,
       ne_eqb _ _ c.if-p-s.true,
     ) c.reject-then-p-s.ensures
 
@@ -30,10 +29,10 @@ returns-then-not-ms_form c =
       ← c9.load16.ensures,
       ← c8.load32.ensures,
       ← c7.is-after.ensures,
-      not-false c7.is-after.result c6.if1.false,
+      c6.if1.false,
       eq-eqb _ _ c3.if2.false,
       ← c2.ms_form.ensures,
-      not-true c2.ms_form.result c.if-not-ms_form.true,
+      c.if-not-ms_form.true,
     ) c.reject-then-not-ms_form.ensures
 
 pub returns : goal.returns
@@ -45,9 +44,9 @@ returns c =
       ← c9.load16.ensures,
       ← c8.load32.ensures,
       ← c7.is-after.ensures,
-      not-false c7.is-after.result c6.if1.false,
+      c6.if1.false,
       eq-eqb _ _ c3.if2.false,
       ← c2.ms_form.ensures,
-      not-false c2.ms_form.result c.if-not-ms_form.false,
+      c.if-not-ms_form.false,
       ← c.wrapping_add_usize.ensures,
     )

@@ -1,7 +1,6 @@
 -- Each test by itself. Assumes nothing.
 -- Below, c2 is the place two before c, and so on.
 use Rattle.std.proofs.Common.{sym, ◌∙◌, arith, eq-eqb, ne_eqb}
-use borrow.Author.Tests.{not-true, not-false}
 use Rattle.image_form.proofs.Forms.{page-room}
 use Rattle.image_step.specs.Step.{pa_step}
 use Rattle.image_step.proofs.step_pa.Goals as goal
@@ -16,7 +15,7 @@ returns-then-not-is_after c =
       ← c3.byte2.ensures,
       ← c6.load64.ensures,
       ← c2.is_after.ensures,
-      not-true c2.is_after.result c.if-not-is_after.true,
+      c.if-not-is_after.true,
     ) c.reject.ensures
 
 pub returns-then-p-s : goal.returns-then-p-s
@@ -30,7 +29,7 @@ returns-then-p-s c =
       ← c6.byte2.ensures,
       ← c9.load64.ensures,
       ← c5.is-after.ensures,
-      not-false c5.is-after.result c4.if-not-is_after.false,
+      c4.if-not-is_after.false,
       ne_eqb _ _ c.if-p-s.true,
     ) c.reject-then-p-s.ensures
 
@@ -45,10 +44,10 @@ returns-then-not-pa_form c =
       ← c8.byte2.ensures,
       ← c11.load64.ensures,
       ← c7.is-after.ensures,
-      not-false c7.is-after.result c6.if1.false,
+      c6.if1.false,
       eq-eqb _ _ c3.if2.false,
       ← c2.pa_form.ensures,
-      not-true c2.pa_form.result c.if-not-pa_form.true,
+      c.if-not-pa_form.true,
     ) c.reject-then-not-pa_form.ensures
 
 pub returns-then-not-pa_may : goal.returns-then-not-pa_may
@@ -62,16 +61,16 @@ returns-then-not-pa_may c =
       ← c10.byte2.ensures,
       ← c13.load64.ensures,
       ← c9.is-after.ensures,
-      not-false c9.is-after.result c8.if1.false,
+      c8.if1.false,
       eq-eqb _ _ c5.if2.false,
       ← c4.pa-form.ensures,
-      not-false c4.pa-form.result c3.if3.false,
+      c3.if3.false,
       ← c2.pa_may.ensures c10.byte2.result c13.load64.result,
-      not-true c2.pa_may.result c.if-not-pa_may.true,
+      c.if-not-pa_may.true,
     ) c.forbid.ensures
 
 pub overflow_add-progress : goal.overflow_add-progress
-overflow_add-progress c = let h = page-room _ _ (sym c.pa_form.ensures ∙ not-false c.pa_form.result c.if-not-pa_form.false) in omega (arith, h)
+overflow_add-progress c = let h = page-room _ _ (sym c.pa_form.ensures ∙ c.if-not-pa_form.false) in omega (arith, h)
 
 pub returns : goal.returns
 unfolding pa_step
@@ -85,11 +84,11 @@ returns c =
       ← c11.byte2.ensures,
       ← c14.load64.ensures,
       ← c10.is-after.ensures,
-      not-false c10.is-after.result c9.if1.false,
+      c9.if1.false,
       eq-eqb _ _ c6.if2.false,
       ← c5.pa-form.ensures,
-      not-false c5.pa-form.result c4.if3.false,
+      c4.if3.false,
       ← c3.pa-may.ensures c11.byte2.result c14.load64.result,
-      not-false c3.pa-may.result c2.if-not-pa_may.false,
+      c2.if-not-pa_may.false,
       ← c.wrapping_add_usize.ensures,
     )

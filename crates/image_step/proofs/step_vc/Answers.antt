@@ -1,7 +1,6 @@
 -- Each test by itself. Assumes nothing.
 -- Below, c2 is the place two before c, and so on.
 use Rattle.std.proofs.Common.{arith, eq-eqb, ne_eqb}
-use borrow.Author.Tests.{not-true, not-false}
 use Rattle.store.specs.Words.{put_bit64}
 use Rattle.image_step.specs.Step.{vc_step}
 use Rattle.image_step.proofs.step_vc.Goals as goal
@@ -11,7 +10,7 @@ overflow_add-at-6 c = omega (arith, c.requires, c.well_formed.1.0.0)
 
 pub returns-then-not-is_after : goal.returns-then-not-is_after
 unfolding vc_step
-returns-then-not-is_after c = rw (← c.load16-vcpu.ensures, ← c.is_after.ensures, not-true c.is_after.result c.if-not-is_after.true) c.reject.ensures
+returns-then-not-is_after c = rw (← c.load16-vcpu.ensures, ← c.is_after.ensures, c.if-not-is_after.true) c.reject.ensures
 
 pub returns-then-vcpu-p : goal.returns-then-vcpu-p
 unfolding vc_step
@@ -20,7 +19,7 @@ returns-then-vcpu-p c =
     rw (
       ← c10.load16.ensures,
       ← c4.is-after.ensures,
-      not-false c4.is-after.result c3.if-not-is_after.false,
+      c3.if-not-is_after.false,
       ne_eqb _ _ c.if-vcpu-p.true,
     ) c.reject-then-vcpu-p.ensures
 
@@ -38,9 +37,9 @@ returns-then-not-vc_form c =
       ← c7.byte4.ensures,
       ← c2.vc_form.ensures,
       ← c6.is-after.ensures,
-      not-false c6.is-after.result c5.if1.false,
+      c5.if1.false,
       eq-eqb _ _ c3.if2.false,
-      not-true c2.vc_form.result c.if-not-vc_form.true,
+      c.if-not-vc_form.true,
     ) c.reject-then-not-vc_form.ensures
 
 pub returns-then-not-vc_may : goal.returns-then-not-vc_may
@@ -59,10 +58,10 @@ returns-then-not-vc_may c =
       ← c4.vc-form.ensures,
       ← c2.vc_may.ensures c14.load16.result c12.byte2.result c9.byte4.result,
       ← c8.is-after.ensures,
-      not-false c8.is-after.result c7.if1.false,
+      c7.if1.false,
       eq-eqb _ _ c5.if2.false,
-      not-false c4.vc-form.result c3.if3.false,
-      not-true c2.vc_may.result c.if-not-vc_may.true,
+      c3.if3.false,
+      c.if-not-vc_may.true,
     ) c.forbid.ensures
 
 pub overflow_add-progress : goal.overflow_add-progress
@@ -84,10 +83,10 @@ returns c =
       ← c6.vc-form.ensures,
       ← c4.vc-may.ensures c16.load16.result c14.byte2.result c11.byte4.result,
       ← c10.is-after.ensures,
-      not-false c10.is-after.result c9.if1.false,
+      c9.if1.false,
       eq-eqb _ _ c7.if2.false,
-      not-false c6.vc-form.result c5.if3.false,
-      not-false c4.vc-may.result c3.if4.false,
+      c5.if3.false,
+      c3.if4.false,
       ← c2.wrapping_add_usize.ensures,
       ← c.put_bit.ensures,
     )

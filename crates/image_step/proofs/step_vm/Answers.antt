@@ -1,7 +1,6 @@
 -- Each test by itself. Assumes nothing.
 -- Below, c2 is the place two before c, and so on.
 use Rattle.std.proofs.Common.{eq-eqb, ne_eqb}
-use borrow.Author.Tests.{not-true, not-false}
 use Rattle.image_step.specs.Step.{vm_step}
 use Rattle.image_step.proofs.step_vm.Goals as goal
 
@@ -19,7 +18,7 @@ returns-then-not-vm_form c =
       ← c5.load162.ensures,
       eq-eqb _ _ c3.if1.false,
       ← c2.vm_form.ensures,
-      not-true c2.vm_form.result c.if-not-vm_form.true,
+      c.if-not-vm_form.true,
     ) c.reject-then-not-vm_form.ensures
 
 pub returns-then-not-vm_may : goal.returns-then-not-vm_may
@@ -33,9 +32,9 @@ returns-then-not-vm_may c =
       ← c7.load162.ensures,
       eq-eqb _ _ c5.if1.false,
       ← c4.vm-form.ensures,
-      not-false c4.vm-form.result c3.if2.false,
+      c3.if2.false,
       ← c2.vm_may.ensures,
-      not-true c2.vm_may.result c.if-not-vm_may.true,
+      c.if-not-vm_may.true,
     ) c.forbid.ensures
 
 pub returns : goal.returns
@@ -49,7 +48,7 @@ returns c =
       ← c6.load162.ensures,
       eq-eqb _ _ c4.if1.false,
       ← c3.vm-form.ensures,
-      not-false c3.vm-form.result c2.if-not-vm_form.false,
+      c2.if-not-vm_form.false,
       ← c.vm_may.ensures,
-      not-false c.vm_may.result c.if-not-vm_may.false,
+      c.if-not-vm_may.false,
     )
