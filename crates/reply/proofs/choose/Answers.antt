@@ -6,6 +6,7 @@ use Rattle.kvmi.specs.Reply.{reply_data}
 use Rattle.reply.proofs.Laws.{tested}
 use Rattle.reply.proofs.Data.{chosen, chosen_none, chosen-error}
 use Rattle.reply.specs.Contents.{contents_bytes, contents_end}
+use borrow.Enum.Refused.{opened}
 use Rattle.reply.proofs.choose.Goals as goal
 
 pub returns-then-is_error : goal.returns-then-is_error
@@ -28,4 +29,4 @@ unfolding contents_bytes contents_end reply_data
 returns-in-VcpuGetInfo c = chosen _ _ _ _ (tested c.ranges.code c.is_error.ensures c.if-is_error.false) _ _ (ap (λ (l : Layout). l.handler) (sym c.layout-row.ensures) ∙ c.in-VcpuGetInfo.is) (λ s. refl) (omega arith)
 
 pub returns-in_default : goal.returns-in_default
-returns-in_default c = chosen_none _ _ _ _ (tested c.ranges.code c.is_error.ensures c.if-is_error.false) _ (ap (λ (l : Layout). l.handler) (sym c.layout-row.ensures)) c.in_default.is
+returns-in_default c = chosen_none _ _ _ _ (tested c.ranges.code c.is_error.ensures c.if-is_error.false) _ (ap (λ (l : Layout). l.handler) (sym c.layout-row.ensures)) (opened c.in_default.in_default-own.keys5)

@@ -42,3 +42,7 @@ returns-in-VcpuInfo c = c.store64.ensures ∙ rw c.in-VcpuInfo.is
 pub returns-in-Memory : goal.returns-in-Memory
 unfolding contents_bytes
 returns-in-Memory c = c.copy.ensures ∙ rw (c.in-Memory.is, part_count)
+
+pub slice_bounds-copy-end : goal.slice_bounds-copy-end
+unfolding contents_end
+slice_bounds-copy-end c = omega (arith, ap contents_end c.in-Memory.is, c.requires.contents_in_bounds)

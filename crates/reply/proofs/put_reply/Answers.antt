@@ -5,6 +5,7 @@ use mathlib.Core.Path.{◌≡◌, sym, ap, ◌∙◌}
 use Prim.Native.Nat.{ℕ, ◌+◌}
 use native.Mathlib.Omega.{arith}
 use lib.ListN.{length}
+use lib.IntN.{ℤ}
 use mir.Facts.{to_z-of_z}
 use borrow.Author.Rules.{rules}
 use Rattle.wire.proofs.Laws.{length-le}
@@ -13,7 +14,9 @@ use Rattle.kvmi.specs.Reply.{reply_bytes, reply_data}
 use Rattle.reply.proofs.Lengths.{length-code}
 use Rattle.reply.proofs.Laws.{placed, more, length-header, reply-bytes, reply-count, written, unwritten}
 use Rattle.reply.proofs.Data.{length-contents, count-bound}
-use Rattle.reply.specs.Contents.{contents_bytes}
+use Rattle.kvmi.specs.declared.Settings.{Settings}
+use Rattle.reply.specs.declared.Contents.{Contents}
+use Rattle.reply.specs.Contents.{contents_bytes, contents_count, Chosen}
 use Rattle.reply.proofs.put_reply.Goals as goal
 
 pub overflow_add-total : goal.overflow_add-total
@@ -22,35 +25,38 @@ overflow_add-total c = omega (arith, count-bound c.choose-contents.result, c.cho
 pub shape_of-out : goal.shape_of-out
 shape_of-out c = search rules
 
-module _ (k : tie.After-count-of) where
+module _ (settings : Settings) (guest d : List ℕ) (id : ℕ) (code : ℤ) (contents : Contents) (chosen : Chosen guest id code d contents) where
   abbrev whole : List ℕ
-  whole = let a = k.before.before.before.before.before.args in reply_data a.settings a.guest.now a.id a.d.now
+  whole = reply_data settings guest id d
 
   abbrev part : List ℕ
-  part = let a = k.before.before.before.before.before.args in contents_bytes a.settings a.guest.now k.before.choose.result
+  part = contents_bytes settings guest contents
 
-  shown : part ≡ cond (is_error k.before.before.before.before.before.args.code) [] whole
-  shown = rw (to_z-of_z k.before.before.before.before.before.fits.code) at (k.before.choose.ensures.bytes k.before.before.before.before.before.args.settings)
+  shown : part ≡ cond (is_error code) [] whole
+  shown = chosen.bytes settings
 
-  counted : length part ≡ k.count_of.result
-  counted = length-contents _ _ _ k.before.choose.ensures.inside ∙ sym k.count_of.ensures
+  counted : (n : ℕ) → n ≡ contents_count contents → length part ≡ n
+  counted n e = length-contents _ _ _ chosen.inside ∙ sym e
 
--- where the data is chosen and counted
 pub returns-then-total-out : goal.returns-then-total-out
 returns-then-total-out c =
-    let k = c in
+    let a = c.args in
     let fits = c.if-total-out.true in
-    let a = k.args in
+    let chosen = rw (to_z-of_z c.ranges.code) at c.choose-contents.ensures in
+    let all = whole a.settings a.guest.now a.d.now a.id a.code _ chosen in
+    let piece = part a.settings a.guest.now a.d.now a.id a.code _ chosen in
+    let long = counted a.settings a.guest.now a.d.now a.id a.code _ chosen _ c.count_of-count.ensures in
     let p1 = placed _ (length-header _ _ _) c.put_header.ensures in
     let p2 = more _ p1 (length-code _) c.store_code.ensures (omega arith) in
     let p3 = more _ p2 (length-le 4 0) c.store32.ensures (omega arith) in
-    let p4 = more _ p3 (counted k) c.put_contents.ensures (omega arith) in
-    written {bytes = reply_bytes a.id a.seq a.code (whole k)} p4
-    (rw (to_z-of_z k.ranges.code, ← counted k) (reply-bytes a.id a.seq a.code (whole k) (part k) (shown k)))
+    let p4 = more _ p3 long c.put_contents.ensures (omega arith) in
+    written {bytes = reply_bytes a.id a.seq a.code all} p4
+    (rw (to_z-of_z c.ranges.code, ← long) (reply-bytes a.id a.seq a.code all piece (shown a.settings a.guest.now a.d.now a.id a.code _ chosen)))
     (omega arith)
 
 pub returns-else-total-out : goal.returns-else-total-out
 returns-else-total-out c =
-    let k = c in
-    let a = k.args in
-    unwritten _ _ _ (ap (λ (n : ℕ). n + 16) (sym (counted k)) ∙ reply-count a.id a.seq a.code (whole k) (part k) (shown k)) c.if-total-out.false
+    let a = c.args in
+    let chosen = rw (to_z-of_z c.ranges.code) at c.choose-contents.ensures in
+    let long = counted a.settings a.guest.now a.d.now a.id a.code _ chosen _ c.count_of-count.ensures in
+    unwritten _ _ _ (ap (λ (n : ℕ). n + 16) (sym long) ∙ reply-count a.id a.seq a.code _ _ (shown a.settings a.guest.now a.d.now a.id a.code _ chosen)) c.if-total-out.false
