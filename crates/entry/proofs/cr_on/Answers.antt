@@ -5,8 +5,8 @@ use Rattle.entry.proofs.cr_on.Goals as goal
 
 pub returns-then-not-is_cr : goal.returns-then-not-is_cr
 unfolding cr_bit_on
-returns-then-not-is_cr c = rw (← c.is_cr.ensures, not-true c.is_cr.result c.if-not-is_cr.true)
+returns-then-not-is_cr c = rw (← c.is_cr.ensures, c.if-not-is_cr.true)
 
 pub returns : goal.returns
 unfolding cr_bit_on
-returns c = rw (← c.is_cr.ensures, not-false c.is_cr.result c.if-not-is_cr.false, ← c.read_field-crs.ensures, ← c.cr_bit.ensures) c.is_on.ensures
+returns c = rw (← c.is_cr.ensures, c.if-not-is_cr.false, ← c.read_field-crs.ensures, ← c.cr_bit.ensures) c.is_on.ensures

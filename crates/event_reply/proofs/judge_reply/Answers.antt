@@ -10,12 +10,12 @@ returns-then-of_event_reply-ne0 c = rw (← c.of_event_reply.ensures, ne_eqb _ _
 
 pub returns-then-not-is_awaited : goal.returns-then-not-is_awaited
 unfolding event_reply_verdict
-returns-then-not-is_awaited c = rw (← c.of_event_reply.ensures, eq-eqb _ _ c.if-of_event_reply-ne0.false, ← c.byte.ensures, ← c.is_awaited.ensures, not-true c.is_awaited.result c.if-not-is_awaited.true)
+returns-then-not-is_awaited c = rw (← c.of_event_reply.ensures, eq-eqb _ _ c.if-of_event_reply-ne0.false, ← c.byte.ensures, ← c.is_awaited.ensures, c.if-not-is_awaited.true)
 
 pub returns-then-not-reply_fits : goal.returns-then-not-reply_fits
 unfolding event_reply_verdict
-returns-then-not-reply_fits c = rw (← c.row-row.ensures, ← c.of_event_reply.ensures, eq-eqb _ _ c.if-of_event_reply-ne0.false, ← c.byte.ensures, ← c.is_awaited.ensures, not-false c.is_awaited.result c.if-not-is_awaited.false, ← c.reply_fits.ensures, not-true c.reply_fits.result c.if-not-reply_fits.true)
+returns-then-not-reply_fits c = rw (← c.row-row.ensures, ← c.of_event_reply.ensures, eq-eqb _ _ c.if-of_event_reply-ne0.false, ← c.byte.ensures, ← c.is_awaited.ensures, c.if-not-is_awaited.false, ← c.reply_fits.ensures, c.if-not-reply_fits.true)
 
 pub returns : goal.returns
 unfolding event_reply_verdict vcpu_of
-returns c = rw (← c.row-row.ensures, ← c.of_event_reply.ensures, eq-eqb _ _ c.if-of_event_reply-ne0.false, ← c.byte.ensures, ← c.is_awaited.ensures, not-false c.is_awaited.result c.if-not-is_awaited.false, ← c.reply_fits.ensures, not-false c.reply_fits.result c.if-not-reply_fits.false, ← c.load16.ensures, ← c.byte-2.ensures, ← c.value_of_lem.ensures, ← c.feed_by.ensures)
+returns c = rw (← c.row-row.ensures, ← c.of_event_reply.ensures, eq-eqb _ _ c.if-of_event_reply-ne0.false, ← c.byte.ensures, ← c.is_awaited.ensures, c.if-not-is_awaited.false, ← c.reply_fits.ensures, c.if-not-reply_fits.false, ← c.load16.ensures, ← c.byte-2.ensures, ← c.value_of.ensures, ← c.feed_by.ensures)

@@ -8,7 +8,7 @@ use Rattle.vcpu_commands.proofs.control_cr.Goals as goal
 
 pub returns-then-not-facts : goal.returns-then-not-facts
 unfolding command_verdict_by invalid_by is_unready is_denied is_unsupported is_busy is_absent loses_errors change_of names_vcpu switches_at vcpu_of enables enable_at register_of
-returns-then-not-facts c = c.unready.ensures ∙ rw (← c.load16-vcpu.ensures, ← c.byte-enable.ensures, ← c.load32-cr.ensures, and-true, ← c.is_malformed-malformed.ensures, ← c.is_cr.ensures) (simp (or-false, not-true c.args.facts.ready c.if-not-facts.true))
+returns-then-not-facts c = c.unready.ensures ∙ rw (← c.load16-vcpu.ensures, ← c.byte-enable.ensures, ← c.load32-cr.ensures, and-true, ← c.is_malformed-malformed.ensures, ← c.is_cr.ensures) (simp (or-false, c.if-not-facts.true))
 
 pub returns-then-invalid : goal.returns-then-invalid
 unfolding command_verdict_by invalid_by is_unready is_denied is_unsupported is_busy is_absent loses_errors change_of names_vcpu switches_at vcpu_of enables enable_at register_of
@@ -16,4 +16,4 @@ returns-then-invalid c = rw (← c.load16-vcpu.ensures, ← c.byte-enable.ensure
 
 pub returns : goal.returns
 unfolding command_verdict_by invalid_by is_unready is_denied is_unsupported is_busy is_absent loses_errors change_of names_vcpu switches_at vcpu_of enables enable_at register_of
-returns c = rw (← c.load16-vcpu.ensures, ← c.byte-enable.ensures, ← c.load32-cr.ensures, and-true, ← c.is_malformed-malformed.ensures, ← c.is_cr.ensures) (simp (or-false, c.if-invalid.false, not-false c.args.facts.ready c.if-not-facts.false))
+returns c = rw (← c.load16-vcpu.ensures, ← c.byte-enable.ensures, ← c.load32-cr.ensures, and-true, ← c.is_malformed-malformed.ensures, ← c.is_cr.ensures) (simp (or-false, c.if-invalid.false, c.if-not-facts.false))

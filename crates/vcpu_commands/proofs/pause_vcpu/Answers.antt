@@ -8,7 +8,7 @@ use Rattle.vcpu_commands.proofs.pause_vcpu.Goals as goal
 
 pub returns-then-not-facts : goal.returns-then-not-facts
 unfolding command_verdict_by invalid_by is_unready is_denied is_unsupported is_busy is_absent loses_errors change_of names_vcpu switches_at vcpu_of enables enable_at
-returns-then-not-facts c = c.unready.ensures ∙ rw (← c.byte-wait.ensures, ← c.load16-vcpu.ensures, and-true, ← c.is_malformed-malformed.ensures) (simp (or-false, not-true c.args.facts.ready c.if-not-facts.true))
+returns-then-not-facts c = c.unready.ensures ∙ rw (← c.byte-wait.ensures, ← c.load16-vcpu.ensures, and-true, ← c.is_malformed-malformed.ensures) (simp (or-false, c.if-not-facts.true))
 
 pub returns-then-malformed : goal.returns-then-malformed
 unfolding command_verdict_by invalid_by is_unready is_denied is_unsupported is_busy is_absent loses_errors change_of names_vcpu switches_at vcpu_of enables enable_at
@@ -16,8 +16,8 @@ returns-then-malformed c = rw (← c.byte-wait.ensures, ← c.load16-vcpu.ensure
 
 pub returns-then-is_full : goal.returns-then-is_full
 unfolding command_verdict_by invalid_by is_unready is_denied is_unsupported is_busy is_absent loses_errors change_of names_vcpu switches_at vcpu_of enables enable_at
-returns-then-is_full c = rw (← c.byte-wait.ensures, ← c.load16-vcpu.ensures, and-true, ← c.is_malformed-malformed.ensures, ← c.is_full.ensures) (simp (c.if-malformed.false, not-false c.args.facts.ready c.if-not-facts.false, c.if-is_full.true))
+returns-then-is_full c = rw (← c.byte-wait.ensures, ← c.load16-vcpu.ensures, and-true, ← c.is_malformed-malformed.ensures, ← c.is_full.ensures) (simp (c.if-malformed.false, c.if-not-facts.false, c.if-is_full.true))
 
 pub returns : goal.returns
 unfolding command_verdict_by invalid_by is_unready is_denied is_unsupported is_busy is_absent loses_errors change_of names_vcpu switches_at vcpu_of enables enable_at
-returns c = rw (← c.byte-wait.ensures, ← c.load16-vcpu.ensures, and-true, ← c.is_malformed-malformed.ensures, ← c.is_full.ensures) (simp (c.if-malformed.false, not-false c.args.facts.ready c.if-not-facts.false, c.if-is_full.false))
+returns c = rw (← c.byte-wait.ensures, ← c.load16-vcpu.ensures, and-true, ← c.is_malformed-malformed.ensures, ← c.is_full.ensures) (simp (c.if-malformed.false, c.if-not-facts.false, c.if-is_full.false))

@@ -24,7 +24,7 @@ slice_bounds-entry_access-count c = omega arith
 
 pub returns-then-not-takes_access : goal.returns-then-not-takes_access
 returns-then-not-takes_access c =
-    let bad : c.takes_access.result ≡ false = not-true _ c.if-not-takes_access.true in
+    let bad : c.takes_access.result ≡ false = c.if-not-takes_access.true in
     sym (access-unfit _ _ _ (omega arith) _ (ap (takes_access _) (sym c.entry_access.ensures) ∙ sym c.takes_access.ensures ∙ bad)) ∙ c.loop-i.invariant.1
 
 pub overflow_add-i : goal.overflow_add-i
@@ -35,7 +35,7 @@ loop-i-smaller c = omega arith
 
 pub loop-i-preserved : goal.loop-i-preserved
 loop-i-preserved c =
-    let good : c.takes_access.result ≡ true = not-false _ c.if-not-takes_access.false in
+    let good : c.takes_access.result ≡ true = c.if-not-takes_access.false in
     (omega arith, access-fits _ _ _ (omega arith) _ (ap (takes_access _) (sym c.entry_access.ensures) ∙ sym c.takes_access.ensures ∙ good) ∙ c.loop-i.invariant.1)
 
 pub returns : goal.returns

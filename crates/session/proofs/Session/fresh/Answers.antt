@@ -6,8 +6,8 @@ use Rattle.session.proofs.Session.fresh.Goals as goal
 
 pub returns-then-not-in_range : goal.returns-then-not-in_range
 unfolding fresh_of
-returns-then-not-in_range c = simp (sym c.in_range.ensures ∙ not-true _ c.if-not-in_range.true, c.shut.ensures)
+returns-then-not-in_range c = simp (sym c.in_range.ensures ∙ c.if-not-in_range.true, c.shut.ensures)
 
 pub returns : goal.returns
 unfolding fresh_of
-returns c = simp (sym c.in_range.ensures ∙ not-false _ c.if-not-in_range.false, c.clear.ensures, c.clear-2.ensures, c.done.ensures, c.blank.ensures)
+returns c = simp (sym c.in_range.ensures ∙ c.if-not-in_range.false, c.clear.ensures, c.clear-2.ensures, c.done.ensures, c.blank.ensures)
