@@ -1,12 +1,12 @@
 -- In each arm the handler is known, and with it the message's number and the size of its data. Assumes nothing.
 use mathlib.Core.Path.{refl, sym, ap, ◌∙◌}
-use mathlib.Core.Logic.{⊎_elim}
 use Rattle.kvmi.specs.declared.Handler.TheVariants.{GetVersion, VmCheckCommand, VmCheckEvent, VmGetInfo, VmControlEvents, VmReadPhysical, VmWritePhysical, VcpuGetInfo, VcpuPause, VcpuControlEvents, VcpuControlCr, VcpuControlMsr, VmSetPageAccess, VcpuControlSinglestep, VmControlCmdResponse, EventReply}
 use Rattle.kvmi.specs.Message.{layout_of, first_padding, padding_runs}
 use Rattle.kvmi.specs.Verdict.{judgement}
 use Rattle.verdict.specs.Handlers.{row_judgement}
 use Rattle.verdict.proofs.Rows.{asks_nothing, unpadded, judged-by, part, taken, taken-part, left, unknown-left}
 use Rattle.verdict.proofs.judge.Goals as goal
+use Rattle.verdict.proofs.judge.Goals.{in-GetVersion+else-passes, in-VmCheckCommand+else-passes-2, in-VmCheckEvent+else-passes-3, in-VmGetInfo+else-passes-4, in-VmControlEvents+else-passes-5, in-VmReadPhysical+else-passes-6, in-VmWritePhysical+else-passes-7, in-VcpuGetInfo+else-passes-8, in-VcpuPause+else-passes-9, in-VcpuControlEvents+else-passes-10, in-VcpuControlCr+else-passes-11, in-VcpuControlMsr+else-passes-12, in-VmSetPageAccess+else-passes-13, in-VcpuControlSinglestep+else-passes-14, in-VmControlCmdResponse+else-passes-15, in-EventReply+else-passes-16, in-Unknown}
 
 pub returns-then-passes : goal.returns-then-passes
 unfolding row_judgement
@@ -157,21 +157,22 @@ returns c =
     let e = c.layout-row.ensures in
     c.unreported-2.ensures
     ∙ ap (λ v. judgement v 0) c.refused.ensures
-    ∙ ⊎_elim (λ w. left _ _ _ _ e w.2.ensures _ _ w.3.left)
-    (⊎_elim (λ w. left _ _ _ _ e w.2.ensures _ _ w.3.left)
-    (⊎_elim (λ w. left _ _ _ _ e w.2.ensures _ _ w.3.left)
-    (⊎_elim (λ w. left _ _ _ _ e w.2.ensures _ _ w.3.left)
-    (⊎_elim (λ w. left _ _ _ _ e w.2.ensures _ _ w.3.left)
-    (⊎_elim (λ w. left _ _ _ _ e w.2.ensures _ _ w.3.left)
-    (⊎_elim (λ w. left _ _ _ _ e w.2.ensures _ _ w.3.left)
-    (⊎_elim (λ w. left _ _ _ _ e w.2.ensures _ _ w.3.left)
-    (⊎_elim (λ w. left _ _ _ _ e w.2.ensures _ _ w.3.left)
-    (⊎_elim (λ w. left _ _ _ _ e w.2.ensures _ _ w.3.left)
-    (⊎_elim (λ w. left _ _ _ _ e w.2.ensures _ _ w.3.left)
-    (⊎_elim (λ w. left _ _ _ _ e w.2.ensures _ _ w.3.left)
-    (⊎_elim (λ w. left _ _ _ _ e w.2.ensures _ _ w.3.left)
-    (⊎_elim (λ w. left _ _ _ _ e w.2.ensures _ _ w.3.left)
-    (⊎_elim (λ w. left _ _ _ _ e w.2.ensures _ _ w.3.left)
-    (⊎_elim (λ w. left _ _ _ _ e w.2.ensures _ _ w.3.left)
-    (λ w. unknown-left _ _ _ _ _ _ e w.1.given.1))))))))))))))))
-    c.in-GetVersion.branch
+    ∙ elim c.match-handler.branch [
+      | in-GetVersion+else-passes w ↦ left _ _ _ _ e w.passes.ensures _ _ w.if-passes.false
+      | in-VmCheckCommand+else-passes-2 w ↦ left _ _ _ _ e w.passes-in-VmCheckCommand.ensures _ _ w.if-passes-2.false
+      | in-VmCheckEvent+else-passes-3 w ↦ left _ _ _ _ e w.passes-in-VmCheckEvent.ensures _ _ w.if-passes-3.false
+      | in-VmGetInfo+else-passes-4 w ↦ left _ _ _ _ e w.passes-in-VmGetInfo.ensures _ _ w.if-passes-4.false
+      | in-VmControlEvents+else-passes-5 w ↦ left _ _ _ _ e w.passes-in-VmControlEvents.ensures _ _ w.if-passes-5.false
+      | in-VmReadPhysical+else-passes-6 w ↦ left _ _ _ _ e w.passes-in-VmReadPhysical.ensures _ _ w.if-passes-6.false
+      | in-VmWritePhysical+else-passes-7 w ↦ left _ _ _ _ e w.passes-in-VmWritePhysical.ensures _ _ w.if-passes-7.false
+      | in-VcpuGetInfo+else-passes-8 w ↦ left _ _ _ _ e w.passes-in-VcpuGetInfo.ensures _ _ w.if-passes-8.false
+      | in-VcpuPause+else-passes-9 w ↦ left _ _ _ _ e w.passes-in-VcpuPause.ensures _ _ w.if-passes-9.false
+      | in-VcpuControlEvents+else-passes-10 w ↦ left _ _ _ _ e w.passes-in-VcpuControlEvents.ensures _ _ w.if-passes-10.false
+      | in-VcpuControlCr+else-passes-11 w ↦ left _ _ _ _ e w.passes-in-VcpuControlCr.ensures _ _ w.if-passes-11.false
+      | in-VcpuControlMsr+else-passes-12 w ↦ left _ _ _ _ e w.passes-in-VcpuControlMsr.ensures _ _ w.if-passes-12.false
+      | in-VmSetPageAccess+else-passes-13 w ↦ left _ _ _ _ e w.passes-in-VmSetPageAccess.ensures _ _ w.if-passes-13.false
+      | in-VcpuControlSinglestep+else-passes-14 w ↦ left _ _ _ _ e w.passes-in-VcpuControlSinglestep.ensures _ _ w.if-passes-14.false
+      | in-VmControlCmdResponse+else-passes-15 w ↦ left _ _ _ _ e w.passes-in-VmControlCmdResponse.ensures _ _ w.if-passes-15.false
+      | in-EventReply+else-passes-16 w ↦ left _ _ _ _ e w.passes-in-EventReply.ensures _ _ w.if-passes-16.false
+      | in-Unknown w ↦ unknown-left _ _ _ _ _ _ e w.in-Unknown.is
+    ]
