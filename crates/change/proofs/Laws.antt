@@ -93,7 +93,7 @@ stands s pages used t f = go (all_or_nothing s) t.skipped refl
     go false skipped e = refl
 
 module _ (s : Settings) (pages : List ℕ) (used view n : ℕ) (d : List ℕ) where
-  abbrev run : PageTable
+  abbrev pub run : PageTable
   run = run_entries page_limit view (entries_of n (drop 8 d)) pages used
 
   -- all or nothing, and an entry was skipped

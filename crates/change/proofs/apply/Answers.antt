@@ -1,33 +1,12 @@
 -- Each change by itself. Assumes nothing.
-use mathlib.Core.Path.{sym, ap, ◌∙◌}
-use mathlib.Core.Logic.{⊎_elim}
+use mathlib.Core.Path.{◌≡◌, sym, ap, ◌∙◌}
 use native.Mathlib.Omega.{arith}
-use borrow.Author.Tests.{not-false}
 use Rattle.store.specs.Words.{put_bit64, queued_pause, switched_field, switched_cr, ended_wait}
-use Rattle.change.specs.Change.{change}
+use Rattle.change.specs.Change.{change, pages_by}
 use Rattle.change.specs.Effect.{tool_after, pages_set, PagesChanged}
-use Rattle.change.proofs.Laws.{paged, mode-number, mode-fits, run-back, run-first, run-whole, run-roomy, run-single}
-use Rattle.change.proofs.apply.Reads as reads
-use Rattle.change.proofs.apply.Lts as lts
-use Rattle.change.proofs.can_change.Reads as can-change-reads
-use Rattle.change.proofs.has_room_for.Reads as has-room-for-reads
-use Rattle.change.proofs.hold_back.Reads as hold-back-reads
-use Rattle.change.proofs.is_all_or_nothing.Reads as is-all-or-nothing-reads
-use Rattle.change.proofs.quiet.Reads as quiet-reads
-use Rattle.change.proofs.reply_signal.Reads as reply-signal-reads
-use Rattle.change.proofs.set_pages.Reads as set-pages-reads
-use Rattle.change.proofs.still.Reads as still-reads
-use Rattle.change.proofs.would_skip.Reads as would-skip-reads
-use Rattle.change.proofs.write_guest.Reads as write-guest-reads
-use Rattle.session.proofs.mode_number.Reads as mode-number-reads
-use Rattle.store.proofs.bits.put_bit.Reads as put-bit-reads
-use Rattle.store.proofs.words.end_wait.Reads as end-wait-reads
-use Rattle.store.proofs.words.queue_pause.Reads as queue-pause-reads
-use Rattle.store.proofs.words.switch_cr.Reads as switch-cr-reads
-use Rattle.store.proofs.words.switch_field.Reads as switch-field-reads
-use Rattle.store.proofs.words.write_field.Reads as write-field-reads
-use Rattle.store.proofs.words.write_msr.Reads as write-msr-reads
+use Rattle.change.proofs.Laws.{paged, run, mode-number, mode-fits, run-back, run-first, run-whole, run-roomy, run-single}
 use Rattle.change.proofs.apply.Goals as goal
+use Rattle.change.proofs.apply.Goals.{then-not-has_room_for+then-can_change+then-is_all_or_nothing+else-would_skip, then-not-has_room_for+then-can_change+else-is_all_or_nothing, then-not-has_room_for+else-can_change, else-not-has_room_for}
 
 pub returns-then-would_skip : goal.returns-then-would_skip
 unfolding change tool_after
@@ -73,11 +52,13 @@ returns-in-SetMsr c = simp (c.in-SetMsr.is, c.quiet-in-SetMsr.ensures, c.write_m
 pub returns-after-not-has_room_for : goal.returns-after-not-has_room_for
 unfolding change tool_after pages_set
 returns-after-not-has_room_for c =
-    let stands = ⊎_elim (λ q. run-whole c.args.s.settings c.args.pages.now _ _ _ c.args.d.now (sym q.6.ensures ∙ q.7.left))
-    (⊎_elim (λ q. run-first c.args.s.settings c.args.pages.now _ _ _ c.args.d.now (sym q.3.ensures ∙ q.4.left))
-    (⊎_elim (λ q. run-single c.args.s.settings c.args.pages.now _ _ _ c.args.d.now (omega arith) (sym q.1.ensures ∙ q.2.left))
-    (λ q. run-roomy c.args.s.settings c.args.pages.now _ _ _ c.args.d.now (omega arith) (sym c.has_room_for.ensures ∙ not-false _ q.left)))) c.if-not-has_room_for.branch in
-    rw (c.in-SetPages.is, stands) (ap (λ (x : PagesChanged). paged c.args.s c.args.vcpus.now c.args.guest.now x) c.set_pages.ensures)
+    let run-stands : pages_by c.args.s.settings c.args.pages.now c.args.s.tool.pages (run c.args.s.settings c.args.pages.now c.args.s.tool.pages c.in-SetPages.view c.in-SetPages.count c.args.d.now) ≡ run c.args.s.settings c.args.pages.now c.args.s.tool.pages c.in-SetPages.view c.in-SetPages.count c.args.d.now = elim c.if-not-has_room_for.branch [
+      | then-not-has_room_for+then-can_change+then-is_all_or_nothing+else-would_skip q ↦ run-whole c.args.s.settings c.args.pages.now _ _ _ c.args.d.now (sym q.would_skip.ensures ∙ q.if-would_skip.false)
+      | then-not-has_room_for+then-can_change+else-is_all_or_nothing q ↦ run-first c.args.s.settings c.args.pages.now _ _ _ c.args.d.now (sym q.is_all_or_nothing.ensures ∙ q.if-is_all_or_nothing.false)
+      | then-not-has_room_for+else-can_change q ↦ run-single c.args.s.settings c.args.pages.now _ _ _ c.args.d.now (omega arith) (sym q.can_change.ensures ∙ q.if-can_change.false)
+      | else-not-has_room_for q ↦ run-roomy c.args.s.settings c.args.pages.now _ _ _ c.args.d.now (omega arith) (sym c.has_room_for.ensures ∙ q.if-not-has_room_for.false)
+    ] in
+    rw (c.in-SetPages.is, run-stands) (ap (λ (x : PagesChanged). paged c.args.s c.args.vcpus.now c.args.guest.now x) c.set_pages.ensures)
 
 pub returns-in-SetSinglestep : goal.returns-in-SetSinglestep
 unfolding change tool_after

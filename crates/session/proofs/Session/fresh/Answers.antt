@@ -1,6 +1,5 @@
 -- Settings in range or not. Assumes nothing.
 use mathlib.Core.Path.{sym, ◌∙◌}
-use borrow.Author.Tests.{not-true, not-false}
 use Rattle.session.specs.Calls.{fresh_of}
 use Rattle.session.proofs.Session.fresh.Goals as goal
 
