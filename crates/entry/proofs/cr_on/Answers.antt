@@ -1,5 +1,4 @@
 -- Each test by itself. Assumes nothing.
-use borrow.Author.Tests.{not-true, not-false}
 use Rattle.entry.specs.Entry.{cr_bit_on}
 use Rattle.entry.proofs.cr_on.Goals as goal
 

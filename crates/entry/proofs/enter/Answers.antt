@@ -4,7 +4,7 @@ use mathlib.Core.Bool.{◌&&◌, and-eq-true_iff}
 use lib.ListN.{length}
 use lib.Dec.{eqb}
 use native.Mathlib.Omega.{arith}
-use borrow.Author.Tests.{le-leb, lt-leb, lt-ltb, le-ltb, eq-eqb, ne_eqb, not-false}
+use borrow.Author.Tests.{le-leb, lt-leb, lt-ltb, le-ltb, eq-eqb, ne_eqb}
 use Rattle.laws.proofs.Events.{own-few}
 use Rattle.entry.specs.Entry.{enter_of}
 use Rattle.entry.proofs.enter.Goals as goal
@@ -30,8 +30,7 @@ enter_open-requires c =
     let a = c.args in
     let whole = eqb (length a.block.now) 536 in
     let fits = c.offer_fits.result in
-    let both = not-false (whole && fits) c.if-not-block-offer_fits.false in
-    omega (arith, own-few a.event a.own.now (sym c.offer_fits.ensures ∙ ((and-eq-true_iff whole fits).0 both).1))
+    omega (arith, own-few a.event a.own.now (sym c.offer_fits.ensures ∙ ((and-eq-true_iff whole fits).0 c.if-not-block-offer_fits.false).1))
 
 pub returns : goal.returns
 unfolding enter_of
