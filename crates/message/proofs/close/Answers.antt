@@ -5,4 +5,4 @@ use Rattle.message.proofs.close.Goals as goal
 
 pub returns : goal.returns
 unfolding session_after
-returns c = (refl, λ s out guest. simp (c.clear.ensures, c.clear-2.ensures))
+returns c = record { result_value = refl; guest_after = λ s out guest. simp (c.clear.ensures, c.clear-2.ensures) }
