@@ -1,5 +1,4 @@
 -- What is no CR is off. Assumes nothing.
-use borrow.Author.Tests.{not-true, not-false}
 use Rattle.lookup.specs.Lookup.{look_cr}
 use Rattle.lookup.proofs.cr.Goals as goal
 
