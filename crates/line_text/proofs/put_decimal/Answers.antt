@@ -4,4 +4,4 @@ use Rattle.line_text.proofs.Texts.{put-digits}
 use Rattle.line_text.proofs.put_decimal.Goals as goal
 
 pub returns : goal.returns
-returns c = (put-digits _ _ _ _ _ (omega arith) c.spell-from.ensures.upper_bound c.spell-from.ensures.space_after c.copy.ensures, omega (arith, c.spell-from.ensures.upper_bound))
+returns c = record { put = put-digits _ _ _ _ _ (omega arith) c.spell-from.ensures.upper_bound c.spell-from.ensures.space_after c.copy.ensures; upper_bound = omega (arith, c.spell-from.ensures.upper_bound) }

@@ -6,4 +6,4 @@ use Rattle.line_text.proofs.put_end.Goals as goal
 pub returns : goal.returns
 returns c =
     let w = c.write_end.ensures.put in
-    (omega (arith, w.behind), (w.there, counts _ _ (omega arith)))
+    record { value = omega (arith, w.behind); text_after = w.there; counts = counts _ _ (omega arith) }

@@ -9,7 +9,7 @@ use Rattle.line_text.proofs.put_error.Goals as goal
 
 pub returns-in-Unwritten : goal.returns-in-Unwritten
 unfolding code_text
-returns-in-Unwritten c = rw c.in-Unwritten.is (c.put_dash.ensures.put, omega arith)
+returns-in-Unwritten c = rw c.in-Unwritten.is (record { put = c.put_dash.ensures.put; upper_bound = omega arith })
 
 pub returns-in-Written : goal.returns-in-Written
 unfolding code_text

@@ -7,4 +7,4 @@ use Rattle.line_text.proofs.put_field.Goals as goal
 
 pub returns : goal.returns
 unfolding le
-returns c = (put_then (record { there = c.store8.ensures; behind = refl }) c.put_decimal.ensures.put (omega arith), omega arith)
+returns c = record { put = put_then (record { there = c.store8.ensures; behind = refl }) c.put_decimal.ensures.put (omega arith); upper_bound = omega arith }

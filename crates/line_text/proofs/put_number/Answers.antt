@@ -5,7 +5,7 @@ use Rattle.line_text.proofs.put_number.Goals as goal
 
 pub returns-in-Missing : goal.returns-in-Missing
 unfolding number_text
-returns-in-Missing c = rw c.in-Missing.is (c.put_dash.ensures.put, omega arith)
+returns-in-Missing c = rw c.in-Missing.is (record { put = c.put_dash.ensures.put; upper_bound = omega arith })
 
 pub returns-in-Shown : goal.returns-in-Shown
 unfolding number_text

@@ -7,9 +7,15 @@ use Rattle.line_text.proofs.put_signed.Goals as goal
 pub returns-then-e-lt0 : goal.returns-then-e-lt0
 returns-then-e-lt0 c =
     let f = c.ranges.e in
-    (rw (signed_below _ (rw (to_z-of_z f) at c.if-e-lt0.true), ← to_z-of_z f, ← c.magnitude-n.ensures) (put_then c.put_dash-next.ensures.put c.put_decimal.ensures.put (omega arith)), omega arith)
+    record {
+      put = rw (signed_below _ (rw (to_z-of_z f) at c.if-e-lt0.true), ← to_z-of_z f, ← c.magnitude-n.ensures) (put_then c.put_dash-next.ensures.put c.put_decimal.ensures.put (omega arith));
+      upper_bound = omega arith;
+    }
 
 pub returns-else-e-lt0 : goal.returns-else-e-lt0
 returns-else-e-lt0 c =
     let f = c.ranges.e in
-    (rw (signed_above _ (rw (to_z-of_z f) at c.if-e-lt0.false), ← to_z-of_z f, ← c.magnitude-n.ensures) c.put_field.ensures.put, omega arith)
+    record {
+      put = rw (signed_above _ (rw (to_z-of_z f) at c.if-e-lt0.false), ← to_z-of_z f, ← c.magnitude-n.ensures) c.put_field.ensures.put;
+      upper_bound = omega arith;
+    }

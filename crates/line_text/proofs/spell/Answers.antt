@@ -38,4 +38,4 @@ pub shape_of-space : goal.shape_of-space
 shape_of-space c = simp length-set (omega arith)
 
 pub returns : goal.returns
-returns c = (omega arith, spelt-all c.loop-rest.invariant c.loop-rest-test.false)
+returns c = record { upper_bound = omega arith; space_after = spelt-all c.loop-rest.invariant c.loop-rest-test.false }

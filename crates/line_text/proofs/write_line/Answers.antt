@@ -24,4 +24,4 @@ returns c =
     let p5 = put_then p4 c.put_field-at-2.ensures.put (omega (arith, room, b1, b2, b3, b4, b5)) in
     let p6 = put_then p5 c.put_error-at.ensures.put (omega (arith, room, b1, b2, b3, b4, b5, b6)) in
     let p7 = put_then p6 (record { there = c.store8.ensures; behind = refl }) (omega (arith, room, b1, b2, b3, b4, b5, b6)) in
-    (simp append_assoc (simp append_assoc at p7), omega (arith, b1, b2, b3, b4, b5, b6))
+    record { put = simp append_assoc (simp append_assoc at p7); upper_bound = omega (arith, b1, b2, b3, b4, b5, b6) }
