@@ -12,8 +12,17 @@ use Rattle.batch.proofs.turn.Goals as goal
 pub slice_bounds-next_length-count : goal.slice_bounds-next_length-count
 slice_bounds-next_length-count c = let m = (goes_of _ _ c.requires).more in omega arith
 
+pub slice_bounds-next_length-start : goal.slice_bounds-next_length-start
+slice_bounds-next_length-start c = let m = (goes_of _ _ c.requires).more in omega arith
+
 pub overflow_add-end : goal.overflow_add-end
 overflow_add-end c = let i = cut_inside c.args.input.now c.args.b.used _ (goes_of _ _ c.requires).more c.next_length.ensures in record { fits = omega arith }
+
+pub slice_bounds-take-end : goal.slice_bounds-take-end
+slice_bounds-take-end c = cut_inside c.args.input.now c.args.b.used _ (goes_of _ _ c.requires).more c.next_length.ensures
+
+pub slice_bounds-take-start-2 : goal.slice_bounds-take-start-2
+slice_bounds-take-start-2 c = let m = (goes_of _ _ c.requires).room in omega arith
 
 pub slice_bounds-take-count-2 : goal.slice_bounds-take-count-2
 slice_bounds-take-count-2 c = let m = (goes_of _ _ c.requires).room in omega arith
