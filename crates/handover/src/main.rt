@@ -9,10 +9,9 @@
 #![tactic(auto)]
 
 ghost use Rattle.std.specs.Prelude.{◌≤◌, length};
-ghost use Rattle.io.specs.Counts.{IsPrefixLen};
+ghost use Rattle.files.specs.Counts.{IsPrefixLen};
 
 use kvmi::{Answer, Settings};
-use libc::STDOUT_FILENO;
 use page_words::{PAGE_WORDS, PageWords};
 use session::{Done, Session};
 use store::words::{VCPU_WORDS, VcpuWords};
@@ -68,13 +67,13 @@ fn place_of(answer: Answer) -> usize {
     }
 }
 
-fn print_answer(letter: u8, answer: Answer) {
+fn print_answer(rt: &HostRuntime, letter: u8, answer: Answer) {
     let head = [letter, b' '];
-    io::write_all(STDOUT_FILENO, &head);
-    io::print_decimal(STDOUT_FILENO, stream::answer_number(answer) as u64);
-    io::write_all(STDOUT_FILENO, b" ");
-    io::print_decimal(STDOUT_FILENO, place_of(answer) as u64);
-    io::write_all(STDOUT_FILENO, b"\n");
+    files::write(rt, &head);
+    let _ = rt.print(stream::answer_number(answer));
+    files::write(rt, b" ");
+    let _ = rt.print(place_of(answer));
+    files::write(rt, b"\n");
 }
 
 // The same with other settings for images.
@@ -88,9 +87,9 @@ fn with_settings(held: Held, settings: Settings) -> Held {
 }
 
 // A step's answer is told, and the session after it goes on.
-fn move_to(letter: u8, held: Held, done: Done) -> Held {
+fn move_to(rt: &HostRuntime, letter: u8, held: Held, done: Done) -> Held {
     let answer = done.answer;
-    print_answer(letter, answer);
+    print_answer(rt, letter, answer);
     let session = done.session;
     let settings = held.settings;
     Held {
@@ -101,18 +100,18 @@ fn move_to(letter: u8, held: Held, done: Done) -> Held {
 }
 
 // An image was read: the session that it makes goes on, or the one that stands.
-fn move_if_read(letter: u8, held: Held, done: Done) -> Held {
+fn move_if_read(rt: &HostRuntime, letter: u8, held: Held, done: Done) -> Held {
     let answer = done.answer;
     if is_handled(answer) {
-        return move_to(letter, held, done);
+        return move_to(rt, letter, held, done);
     }
-    print_answer(letter, answer);
+    print_answer(rt, letter, answer);
     held
 }
 
 // An image was written; where it was not, the one that stands in the buffer is kept.
-fn keep_written(held: Held, answer: Answer) -> Held {
-    print_answer(b'W', answer);
+fn keep_written(rt: &HostRuntime, held: Held, answer: Answer) -> Held {
+    print_answer(rt, b'W', answer);
     if is_handled(answer) {
         let session = held.session;
         let settings = held.settings;
@@ -126,27 +125,40 @@ fn keep_written(held: Held, answer: Answer) -> Held {
 }
 
 // A session begins fresh, and its settings are those for images too.
-fn begin(held: Held, vcpus: &mut VcpuWords, pages: &mut PageWords, settings: Settings) -> Held {
+fn begin(
+    rt: &HostRuntime,
+    held: Held,
+    vcpus: &mut VcpuWords,
+    pages: &mut PageWords,
+    settings: Settings,
+) -> Held {
     let done = Session::fresh(settings, vcpus, pages);
-    move_to(b'F', with_settings(held, settings), done)
+    move_to(rt, b'F', with_settings(held, settings), done)
 }
 
 // A vCPU is marked ready.
-fn mark_ready(held: Held, vcpu: u16) -> Held {
+fn mark_ready(rt: &HostRuntime, held: Held, vcpu: u16) -> Held {
     let s = held.session;
-    move_to(b'R', held, s.ready(vcpu))
+    move_to(rt, b'R', held, s.ready(vcpu))
 }
 
 // A vCPU enters.
-fn enter(held: Held, vcpus: &mut VcpuWords, pages: &PageWords, vcpu: u16) -> Held {
+fn enter(
+    rt: &HostRuntime,
+    held: Held,
+    vcpus: &mut VcpuWords,
+    pages: &PageWords,
+    vcpu: u16,
+) -> Held {
     let block = [0u8; reply::STATE_BYTES];
     let mut out = [0u8; 4112];
     let done = entry::enter(held.session, vcpus, pages, vcpu, &block, 0, &[], &mut out);
-    move_to(b'E', held, done)
+    move_to(rt, b'E', held, done)
 }
 
 // A message is taken.
 fn take_message(
+    rt: &HostRuntime,
     held: Held,
     vcpus: &mut VcpuWords,
     pages: &mut PageWords,
@@ -155,11 +167,12 @@ fn take_message(
 ) -> Held {
     let mut out = [0u8; 4112];
     let done = message::take(held.session, vcpus, pages, msg, &mut out, guest);
-    move_to(b'M', held, done)
+    move_to(rt, b'M', held, done)
 }
 
 // The image is written into the first `room` bytes of its buffer.
 fn write_image(
+    rt: &HostRuntime,
     held: Held,
     vcpus: &mut VcpuWords,
     pages: &mut PageWords,
@@ -169,11 +182,12 @@ fn write_image(
     let n = within(room, image);
     let done = image_writer::write_image(held.session, vcpus, pages, &mut image[..n]);
     let answer = done.answer;
-    keep_written(held, answer)
+    keep_written(rt, held, answer)
 }
 
 // An image is read.
 fn read_image(
+    rt: &HostRuntime,
     letter: u8,
     held: Held,
     vcpus: &mut VcpuWords,
@@ -181,27 +195,34 @@ fn read_image(
     image: &[u8],
 ) -> Held {
     let done = image_reader::read_image(held.settings, image, vcpus, pages);
-    move_if_read(letter, held, done)
+    move_if_read(rt, letter, held, done)
 }
 
 // The image that was written last is read.
-fn read_again(held: Held, vcpus: &mut VcpuWords, pages: &mut PageWords, image: &[u8]) -> Held {
+fn read_again(
+    rt: &HostRuntime,
+    held: Held,
+    vcpus: &mut VcpuWords,
+    pages: &mut PageWords,
+    image: &[u8],
+) -> Held {
     let end = within(held.image, image);
-    read_image(b'A', held, vcpus, pages, &image[..end])
+    read_image(rt, b'A', held, vcpus, pages, &image[..end])
 }
 
 // The bytes are compared with the image that was written last.
-fn compare(image: &[u8], n: usize, arg: &[u8]) {
+fn compare(rt: &HostRuntime, image: &[u8], n: usize, arg: &[u8]) {
     let end = within(n, image);
-    if check::same(&image[..end], arg) {
-        io::write_all(STDOUT_FILENO, b"C same\n");
+    if &image[..end] == arg {
+        files::write(rt, b"C same\n");
     } else {
-        io::write_all(STDOUT_FILENO, b"C differs\n");
+        files::write(rt, b"C differs\n");
     }
 }
 
 // F or S: settings are given.
 fn take_settings(
+    rt: &HostRuntime,
     letter: u8,
     arg: &[u8],
     held: Held,
@@ -210,14 +231,15 @@ fn take_settings(
 ) -> Held {
     let settings = settings_of(arg);
     if letter == b'F' {
-        return begin(held, vcpus, pages, settings);
+        return begin(rt, held, vcpus, pages, settings);
     }
-    io::write_all(STDOUT_FILENO, b"S 0 0\n");
+    files::write(rt, b"S 0 0\n");
     with_settings(held, settings)
 }
 
 // R, E or M: a call on the session.
 fn take_call(
+    rt: &HostRuntime,
     letter: u8,
     arg: &[u8],
     held: Held,
@@ -226,14 +248,15 @@ fn take_call(
     guest: &mut [u8],
 ) -> Held {
     match letter {
-        b'R' => mark_ready(held, wire::load16(arg, 0)),
-        b'E' => enter(held, vcpus, pages, wire::load16(arg, 0)),
-        _ => take_message(held, vcpus, pages, arg, guest),
+        b'R' => mark_ready(rt, held, wire::load16(arg, 0)),
+        b'E' => enter(rt, held, vcpus, pages, wire::load16(arg, 0)),
+        _ => take_message(rt, held, vcpus, pages, arg, guest),
     }
 }
 
 // W, L, A or C: an image.
 fn take_image(
+    rt: &HostRuntime,
     letter: u8,
     arg: &[u8],
     held: Held,
@@ -242,17 +265,18 @@ fn take_image(
     image: &mut [u8],
 ) -> Held {
     match letter {
-        b'W' => write_image(held, vcpus, pages, wire::load32(arg, 0) as usize, image),
-        b'L' => read_image(b'L', held, vcpus, pages, arg),
-        b'A' => read_again(held, vcpus, pages, image),
+        b'W' => write_image(rt, held, vcpus, pages, wire::load32(arg, 0) as usize, image),
+        b'L' => read_image(rt, b'L', held, vcpus, pages, arg),
+        b'A' => read_again(rt, held, vcpus, pages, image),
         _ => {
-            compare(image, held.image, arg);
+            compare(rt, image, held.image, arg);
             held
         }
     }
 }
 
 fn take_step(
+    rt: &HostRuntime,
     letter: u8,
     arg: &[u8],
     held: Held,
@@ -262,11 +286,11 @@ fn take_step(
     image: &mut [u8],
 ) -> Held {
     match letter {
-        b'F' | b'S' => take_settings(letter, arg, held, vcpus, pages),
-        b'R' | b'E' | b'M' => take_call(letter, arg, held, vcpus, pages, guest),
-        b'W' | b'L' | b'A' | b'C' => take_image(letter, arg, held, vcpus, pages, image),
+        b'F' | b'S' => take_settings(rt, letter, arg, held, vcpus, pages),
+        b'R' | b'E' | b'M' => take_call(rt, letter, arg, held, vcpus, pages, guest),
+        b'W' | b'L' | b'A' | b'C' => take_image(rt, letter, arg, held, vcpus, pages, image),
         _ => {
-            io::write_all(STDOUT_FILENO, b"unknown step\n");
+            files::write(rt, b"unknown step\n");
             held
         }
     }
@@ -291,6 +315,7 @@ fn end_of_step(script: &[u8], at: usize) -> usize
 
 // The steps of a script, in order.
 fn run_steps(
+    rt: &HostRuntime,
     script: &[u8],
     begun: Held,
     vcpus: &mut VcpuWords,
@@ -303,18 +328,27 @@ fn run_steps(
     while at < script.len() {
         let end = end_of_step(script, at);
         if end - at < 5 {
-            io::write_all(STDOUT_FILENO, b"cut step\n");
+            files::write(rt, b"cut step\n");
             return;
         }
         let letter = wire::byte(script, at);
         let from = at + 5;
-        held = take_step(letter, &script[from..end], held, vcpus, pages, guest, image);
+        held = take_step(
+            rt,
+            letter,
+            &script[from..end],
+            held,
+            vcpus,
+            pages,
+            guest,
+            image,
+        );
         at = end;
     }
 }
 
 // A script begins with a session that is shut, and with words and memory of zeros.
-fn run_script(script: &[u8]) {
+fn run_script(rt: &HostRuntime, script: &[u8]) {
     let mut vcpus = [0u64; VCPU_WORDS];
     let mut pages = [0u64; PAGE_WORDS];
     let mut guest = [0u8; 16384];
@@ -325,33 +359,38 @@ fn run_script(script: &[u8]) {
         settings,
         image: 0,
     };
-    run_steps(script, held, &mut vcpus, &mut pages, &mut guest, &mut image);
+    run_steps(
+        rt, script, held, &mut vcpus, &mut pages, &mut guest, &mut image,
+    );
 }
 
 // Runs the script that is stored under a name.
-fn run_named(name: &[u8]) {
-    let fd = os::open_read(name);
-    if fd < 0 {
-        os::fail(name);
+fn run_named(rt: &HostRuntime, name: &[u8]) {
+    let Some(mut file) = files::open(rt, name) else {
         return;
-    }
-    let mut script = io::large_buffer();
-    let n = io::read_full(fd, &mut script);
-    libc::close(fd);
-    io::write_all(STDOUT_FILENO, name);
-    io::write_all(STDOUT_FILENO, b"\n");
-    run_script(&script[..n]);
+    };
+    let mut script = [0u8; 65536];
+    let n = files::read_full(&mut file, &mut script);
+    drop(file);
+    files::write(rt, name);
+    files::write(rt, b"\n");
+    run_script(rt, &script[..n]);
 }
 
-// The script that argument i names.
-fn run_stored(i: usize) {
-    let mut name = io::buffer();
-    let n = os::arg(i, &mut name);
-    run_named(&name[..n]);
+// The script that argument i names. Answers whether there is one.
+fn run_stored(rt: &HostRuntime, i: usize) -> bool {
+    let mut name = [0u8; 4096];
+    let Some(n) = files::argument(rt, i, &mut name) else {
+        return false;
+    };
+    run_named(rt, &name[..n]);
+    true
 }
 
-fn main() {
-    for i in 1..os::arg_count() {
-        run_stored(i);
+fn main(rt: HostRuntime) {
+    for i in 1..usize::MAX {
+        if !run_stored(&rt, i) {
+            return;
+        }
     }
 }

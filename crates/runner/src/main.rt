@@ -3,12 +3,12 @@
 #![tactic(auto)]
 
 ghost use Rattle.std.specs.Prelude.{◌≤◌, length};
-ghost use Rattle.io.specs.Counts.{IsPrefixLen};
+ghost use Rattle.line_text.specs.Text.{Counts};
 
-use libc::{STDERR_FILENO, STDIN_FILENO, STDOUT_FILENO};
 use page_words::{PAGE_WORDS, PageWords};
 use replay::Next;
 use session::Session;
+use std::io::Read;
 use store::words::{VCPU_WORDS, VcpuWords};
 use stream::End;
 
@@ -21,26 +21,28 @@ enum Turn {
 }
 
 // Reads once, and answers how many bytes came: 0 at the end of the input, and where the read fails, which is told.
-fn read_some(buf: &mut [u8]) -> usize
+fn read_some(rt: &HostRuntime, buf: &mut [u8]) -> usize
     ensures { result ≤ length buf.new }
 {
-    let got = libc::read(STDIN_FILENO, buf);
-    if got < 0 {
-        io::write_all(STDERR_FILENO, b"read error\n");
+    match rt.stdin().read(buf) {
+        Ok(got) => got,
+        Err(_) => {
+            let _ = rt.eprint("read error\n");
+            0
+        }
     }
-    io::count(got, buf)
 }
 
 // Reads the bytes of `buf` from one place to another, and answers up to where they came: short of it only where the input ends.
-fn read_part(buf: &mut [u8], from: usize, to: usize) -> usize
+fn read_part(rt: &HostRuntime, buf: &mut [u8], from: usize, to: usize) -> usize
     requires from_le_to { from ≤ to }
     requires to_in_bounds { to ≤ length buf.old }
-    ensures prefix_len { IsPrefixLen result buf.new }
+    ensures prefix_len { Counts result buf.new }
     ensures upper_bound { result ≤ to }
 {
     let mut at = from;
     while at < to {
-        let got = read_some(&mut buf[at..to]);
+        let got = read_some(rt, &mut buf[at..to]);
         if got == 0 {
             return at;
         }
@@ -50,33 +52,34 @@ fn read_part(buf: &mut [u8], from: usize, to: usize) -> usize
 }
 
 // Reads the next message: its header first, and then as many bytes more as that asks for.
-fn read_message(msg: &mut [u8]) -> usize
+fn read_message(rt: &HostRuntime, msg: &mut [u8]) -> usize
     requires { 65536 ≤ length msg.old }
-    ensures { IsPrefixLen result msg.new }
+    ensures { Counts result msg.new }
 {
-    let head = read_part(msg, 0, 8);
+    let head = read_part(rt, msg, 0, 8);
     let whole = stream::extent(&msg[..head]);
-    read_part(msg, head, whole)
+    read_part(rt, msg, head, whole)
 }
 
 // Writes a line, and answers whether it could be written: where not, that is told.
-fn print(text: &[u8]) -> bool {
-    if io::write_all(STDOUT_FILENO, text) {
+fn print(rt: &HostRuntime, text: &[u8]) -> bool {
+    if Print::write_all(rt, text).is_ok() {
         return true;
     }
-    io::write_all(STDERR_FILENO, b"write error\n");
+    let _ = rt.eprint("write error\n");
     false
 }
 
 // The last line.
-fn print_end(end: End) {
+fn print_end(rt: &HostRuntime, end: End) {
     let mut text = [0u8; 128];
     let n = line_text::put_end(&mut text, end);
-    print(&text[..n]);
+    print(rt, &text[..n]);
 }
 
 // Reads the next message, passes it on and prints its line.
 fn take_turn(
+    rt: &HostRuntime,
     index: u64,
     s: Session,
     vcpus: &mut VcpuWords,
@@ -88,12 +91,12 @@ fn take_turn(
     requires { 65536 ≤ length msg.old }
 {
     let mut text = [0u8; 128];
-    let n = read_message(msg);
+    let n = read_message(rt, msg);
     let turned = replay::turn(index, s, vcpus, pages, &msg[..n], out, guest, &mut text);
     let count = turned.count;
     let session = turned.session;
     let next = turned.next;
-    if !print(&text[..count]) {
+    if !print(rt, &text[..count]) {
         return Turn::Mute;
     }
     match next {
@@ -105,6 +108,7 @@ fn take_turn(
 // Turn after turn. A proved loop has to end, and nothing says that an input does: this one ends after as many messages as
 // an index can count.
 fn serve(
+    rt: &HostRuntime,
     fresh: Session,
     vcpus: &mut VcpuWords,
     pages: &mut PageWords,
@@ -117,13 +121,13 @@ fn serve(
     let mut s = fresh;
     let mut index: u64 = 0;
     while index < u64::MAX {
-        let left = take_turn(index, s, vcpus, pages, msg, out, guest);
+        let left = take_turn(rt, index, s, vcpus, pages, msg, out, guest);
         match left {
             Turn::Next(next) => {
                 s = next;
             }
             Turn::Over(end) => {
-                print_end(end);
+                print_end(rt, end);
                 return;
             }
             Turn::Mute => {
@@ -132,16 +136,18 @@ fn serve(
         }
         index += 1;
     }
-    print_end(End::Open);
+    print_end(rt, End::Open);
 }
 
 // A message of 65,536 bytes at most, the least output that a message is given, and four zero pages of guest memory.
-fn main() {
+fn main(rt: HostRuntime) {
     let mut vcpus = [0u64; VCPU_WORDS];
     let mut pages = [0u64; PAGE_WORDS];
     let mut msg = [0u8; 65536];
     let mut out = [0u8; 4112];
     let mut guest = [0u8; 16384];
     let s = replay::start(&mut vcpus, &mut pages);
-    serve(s, &mut vcpus, &mut pages, &mut msg, &mut out, &mut guest);
+    serve(
+        &rt, s, &mut vcpus, &mut pages, &mut msg, &mut out, &mut guest,
+    );
 }

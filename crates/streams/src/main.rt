@@ -4,7 +4,6 @@
 
 ghost use Rattle.std.specs.Prelude.{◌≤◌, ◌≡◌, length};
 
-use libc::{STDERR_FILENO, STDOUT_FILENO};
 use page_words::{PAGE_WORDS, PageWords};
 use replay::{Next, Turned};
 use session::Session;
@@ -24,14 +23,15 @@ fn message_end(all: &[u8], at: usize) -> usize
 }
 
 // The last line.
-fn print_end(end: End) {
+fn print_end(rt: &HostRuntime, end: End) {
     let mut text = [0u8; 128];
     let n = line_text::put_end(&mut text, end);
-    io::write_all(STDOUT_FILENO, &text[..n]);
+    files::write(rt, &text[..n]);
 }
 
 // Passes the bytes of a message on and prints its line.
 fn take_turn(
+    rt: &HostRuntime,
     index: u64,
     s: Session,
     vcpus: &mut VcpuWords,
@@ -43,12 +43,13 @@ fn take_turn(
     let mut text = [0u8; 128];
     let turned = replay::turn(index, s, vcpus, pages, msg, out, guest, &mut text);
     let count = turned.count;
-    io::write_all(STDOUT_FILENO, &text[..count]);
+    files::write(rt, &text[..count]);
     turned
 }
 
 // Turn after turn. Each but the last takes a byte at least, so that there are no more of them than bytes, and one.
 fn serve(
+    rt: &HostRuntime,
     all: &[u8],
     fresh: Session,
     vcpus: &mut VcpuWords,
@@ -60,12 +61,21 @@ fn serve(
     let mut at = 0;
     for index in 0..=all.len() {
         let stop = message_end(all, at);
-        let turned = take_turn(index as u64, s, vcpus, pages, &all[at..stop], out, guest);
+        let turned = take_turn(
+            rt,
+            index as u64,
+            s,
+            vcpus,
+            pages,
+            &all[at..stop],
+            out,
+            guest,
+        );
         let next = turned.next;
         match next {
             Next::On => {}
             Next::Over(end) => {
-                print_end(end);
+                print_end(rt, end);
                 return;
             }
         }
@@ -75,38 +85,46 @@ fn serve(
 }
 
 // A stream through a fresh session whose two vCPUs are ready, over four zero pages of guest memory.
-fn run(all: &[u8]) {
+fn run(rt: &HostRuntime, all: &[u8]) {
     let mut vcpus = [0u64; VCPU_WORDS];
     let mut pages = [0u64; PAGE_WORDS];
     let mut out = [0u8; 4112];
     let mut guest = [0u8; 16384];
     let s = replay::start(&mut vcpus, &mut pages);
-    serve(all, s, &mut vcpus, &mut pages, &mut out, &mut guest);
+    serve(rt, all, s, &mut vcpus, &mut pages, &mut out, &mut guest);
 }
 
-// The stream in the file that argument i names.
-fn run_stored(i: usize) {
-    let mut name = io::buffer();
+// The stream in the file that has a name.
+fn run_named(rt: &HostRuntime, name: &[u8]) {
     let mut all = [0u8; 131072];
-    let n = os::arg(i, &mut name);
-    let fd = os::open_read(&name[..n]);
-    if fd < 0 {
-        os::fail(&name[..n]);
+    let Some(mut file) = files::open(rt, name) else {
         return;
-    }
-    let count = io::read_full(fd, &mut all);
-    libc::close(fd);
+    };
+    let count = files::read_full(&mut file, &mut all);
+    drop(file);
     if count == 131072 {
-        io::write_all(STDERR_FILENO, b"stream too long\n");
+        let _ = rt.eprint("stream too long\n");
         return;
     }
-    io::write_all(STDOUT_FILENO, &name[..n]);
-    io::write_all(STDOUT_FILENO, b"\n");
-    run(&all[..count]);
+    files::write(rt, name);
+    files::write(rt, b"\n");
+    run(rt, &all[..count]);
 }
 
-fn main() {
-    for i in 1..os::arg_count() {
-        run_stored(i);
+// The stream in the file that argument i names. Answers whether there is one.
+fn run_stored(rt: &HostRuntime, i: usize) -> bool {
+    let mut name = [0u8; 4096];
+    let Some(n) = files::argument(rt, i, &mut name) else {
+        return false;
+    };
+    run_named(rt, &name[..n]);
+    true
+}
+
+fn main(rt: HostRuntime) {
+    for i in 1..usize::MAX {
+        if !run_stored(&rt, i) {
+            return;
+        }
     }
 }

@@ -6,16 +6,16 @@ use Rattle.replay.proofs.turn.Goals as goal
 
 pub returns-in-End : goal.returns-in-End
 unfolding turn_by turn_of
-returns-in-End c = (rw (← c.cut_next-cut.ensures, c.in-End.is), (omega arith, refl))
+returns-in-End c = record { text_after = rw (← c.cut_next-cut.ensures, c.in-End.is); counts = (omega arith, refl) }
 
 pub returns-in-Tail : goal.returns-in-Tail
 unfolding turn_by turn_of
-returns-in-Tail c = (rw (← c.cut_next-cut.ensures, c.in-Tail.is) c.tell.ensures.text_after, c.tell.ensures.counts)
+returns-in-Tail c = record { text_after = rw (← c.cut_next-cut.ensures, c.in-Tail.is) c.tell.ensures.text_after; counts = c.tell.ensures.counts }
 
 pub returns-in-Long : goal.returns-in-Long
 unfolding turn_by turn_of
-returns-in-Long c = (rw (← c.cut_next-cut.ensures, c.in-Long.is), (omega arith, refl))
+returns-in-Long c = record { text_after = rw (← c.cut_next-cut.ensures, c.in-Long.is); counts = (omega arith, refl) }
 
 pub returns-in-Message : goal.returns-in-Message
 unfolding turn_by turn_of
-returns-in-Message c = (rw (← c.cut_next-cut.ensures, c.in-Message.is) c.tell-in-Message.ensures.text_after, c.tell-in-Message.ensures.counts)
+returns-in-Message c = record { text_after = rw (← c.cut_next-cut.ensures, c.in-Message.is) c.tell-in-Message.ensures.text_after; counts = c.tell-in-Message.ensures.counts }

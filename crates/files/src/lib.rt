@@ -1,0 +1,80 @@
+// What the programs that go over stored files ask of the system: an argument, the file that it names, its bytes, and standard output. What fails is
+// told on standard error.
+#![tactic(auto)]
+
+ghost use Rattle.std.specs.Prelude.{IfSome};
+ghost use Rattle.files.specs.Counts.{IsPrefixLen};
+
+use std::env::{Env, FillError};
+use std::fs::File;
+use std::io::{ErrorKind, Read};
+use std::{io, str};
+
+// Puts argument i at the start of buf and answers its length, or 0 where it does not fit. There are no more arguments where it answers nothing.
+pub fn argument(rt: &HostRuntime, i: usize, buf: &mut [u8]) -> Option<usize>
+    ensures { IfSome result (λ n. IsPrefixLen n buf.new) }
+{
+    match rt.arg(i, buf) {
+        Ok(n) => Some(n),
+        Err(FillError::TooLong) => Some(0),
+        Err(FillError::NotPresent) => None,
+    }
+}
+
+// Paths are text: a name that is not has no file.
+fn open_read(rt: &HostRuntime, name: &[u8]) -> io::Result<File> {
+    match str::from_utf8(name) {
+        Ok(path) => File::open(rt, path),
+        Err(_) => Err(io::Error::from(ErrorKind::InvalidFilename)),
+    }
+}
+
+// Opens the file that has a name, for reading, or tells why it can't be opened.
+pub fn open(rt: &HostRuntime, name: &[u8]) -> Option<File> {
+    match open_read(rt, name) {
+        Ok(file) => Some(file),
+        Err(e) => {
+            fail(rt, name, e);
+            None
+        }
+    }
+}
+
+// Writes a line to standard error: a name, a colon, and the system's words for what failed.
+fn fail(rt: &HostRuntime, name: &[u8], e: io::Error) {
+    let told = rt.stderr();
+    let _ = Print::write_all(&told, name);
+    let _ = told.print(": ");
+    if let Ok(text) = e.to_string(rt.alloc()) {
+        let _ = told.print(words_of(text.as_str()));
+    }
+    let _ = told.print("\n");
+}
+
+// An error's text without its number, which stands last, as in `No such file or directory (os error 2)`.
+fn words_of(text: &str) -> &str {
+    match text.split_once(" (os error ") {
+        Some((words, _)) => words,
+        None => text,
+    }
+}
+
+// Reads until buf is full, the input ends or a read fails, and answers how many bytes it put at the start of buf. On an empty buf it makes no call.
+pub fn read_full<R: Read>(from: &mut R, buf: &mut [u8]) -> usize
+    ensures { IsPrefixLen result buf.new }
+{
+    let mut done = 0;
+    while done < buf.len() {
+        let n = from.read(&mut buf[done..]).unwrap_or(0);
+        if n == 0 {
+            break;
+        }
+        done += n;
+    }
+    done
+}
+
+// Writes bytes to standard output, or as many as it takes: that some were not written is not told.
+pub fn write(rt: &HostRuntime, bytes: &[u8]) {
+    let _ = Print::write_all(rt, bytes);
+}

@@ -1,9 +1,0 @@
--- Nothing has to hold from argument to argument; the measure is how many are left. Assumes nothing.
-use Prim.Native.Nat.{◌-◌}
-use Rattle.streams.proofs.main.Given as goal
-
-abbrev pub invariant-loop-i : goal.invariant-loop-i
-invariant-loop-i l = Unit {0}
-
-abbrev pub decreases-loop-i : goal.decreases-loop-i
-decreases-loop-i l = l.i-end - l.i
