@@ -18,7 +18,7 @@ use Rattle.session.specs.Calls.{Told, told_same, told_written, ready_of}
 use Rattle.session.specs.Meaning.{awaited_of}
 use Rattle.entry.specs.Entry.{sent_of, entered_of, enter_of}
 use Rattle.image_writer.specs.Write.{stated_vcpus, stated_tables, image_of}
-use Rattle.host_batch.specs.Given.{batch_given}
+use Rattle.batch_given.specs.Given.{batch_given}
 use Rattle.calls.specs.Given.{given, fresh_given, ready_given, message_given, enter_given, size_given, write_given, read_given}
 use Rattle.history.specs.History.{step_of, after_of}
 use Rattle.history.specs.Exported.{OnSession, OnVcpus, Exported}

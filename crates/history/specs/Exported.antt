@@ -1,5 +1,5 @@
 -- The exported calls are those that the demands speak of. The promises of `calls`, `host` and `host_batch` say that an exported call gives what
--- `fresh_given`, `ready_given` and the others of calls/specs/Given and host_batch/specs/Given say, of the session and the words that it is lent. Here: that
+-- `fresh_given`, `ready_given` and the others of calls/specs/Given and batch_given/specs/Given say, of the session and the words that it is lent. Here: that
 -- is what the call on the whole state gives, which is `step_of` in a list of calls, `batch_of` for a batch, and `fresh_of` or `read_of` where a session
 -- begins. Said of any session whatever, well formed or not; of a ready mark and an entry, where a vCPU number past u16 is taken as 65,535, if the
 -- settings have no more vCPUs than that.
@@ -13,7 +13,7 @@ use Rattle.session.specs.Calls.{Told, fresh_of}
 use Rattle.image_reader.specs.Read.{read_of}
 use Rattle.calls.specs.Given.{Given, given, fresh_given, ready_given, message_given, enter_given, size_given, write_given, read_given}
 use Rattle.batch.specs.Batch.{batch_of}
-use Rattle.host_batch.specs.Given.{given_batch, batch_given}
+use Rattle.batch_given.specs.Given.{given_batch, batch_given}
 use Rattle.history.specs.History.{step_of, after_of, BeganOn}
 use Rattle.history.specs.Demand1.{image_length}
 

@@ -1,4 +1,1 @@
-pub mod LentPage
 pub mod Listed
-pub mod If
-pub mod AfterMessage

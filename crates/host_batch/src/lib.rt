@@ -4,7 +4,7 @@
 #![tactic(auto)]
 
 ghost use Rattle.std.specs.Prelude.{◌≡◌};
-ghost use Rattle.host_batch.specs.Given.{batch_words, batch_given};
+ghost use Rattle.batch_given.specs.Given.{batch_words, batch_given};
 
 use calls::{RESULT_WORDS, ResultWords, Returned};
 use kvmi::Signal;

@@ -2,7 +2,7 @@
 use mathlib.Core.Path.{◌∙◌, ap}
 use Rattle.kvmi.specs.Batch.{Batch}
 use Rattle.session.specs.State.{State}
-use Rattle.host_batch.specs.Given.{given_batch, batch_given}
+use Rattle.batch_given.specs.Given.{given_batch, batch_given}
 use Rattle.host_batch.proofs.take.Goals as goal
 
 pub returns : goal.returns
