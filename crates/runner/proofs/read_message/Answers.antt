@@ -6,4 +6,4 @@ use Rattle.runner.proofs.read_message.Goals as goal
 pub read_part-requires : goal.read_part-requires
 read_part-requires c =
     let b = extent-within _ c.extent-whole.ensures c.read_part-head.ensures.prefix_len.1 c.read_part-head.ensures.upper_bound in
-    (b.0, omega (arith, b.1))
+    record { from_le_to = b.0; to_in_bounds = omega (arith, b.1) }
