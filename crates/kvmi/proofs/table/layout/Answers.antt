@@ -4,11 +4,6 @@ use mathlib.Core.Path.{◌≡◌, refl, sym, ap, ◌∙◌}
 use native.Mathlib.Omega.{arith}
 use lib.ListN.{get_or-eq_default}
 use Rattle.kvmi.specs.Message.{layout_of, messages, unknown}
-use Rattle.kvmi.proofs.table.layout.Reads as reads
-use Rattle.kvmi.proofs.table.layout.Lts as lts
-use Rattle.kvmi.proofs.table.asking.Reads as asking_reads
-use Rattle.kvmi.proofs.table.plain.Reads as plain-reads
-use Rattle.kvmi.proofs.table.row.Reads as row_reads
 use Rattle.kvmi.proofs.table.layout.Goals as goal
 use Rattle.kvmi.proofs.table.layout.Goals.{in-0-1, in_default-1}
 
