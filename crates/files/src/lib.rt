@@ -2,12 +2,15 @@
 // told on standard error.
 #![tactic(auto)]
 
-ghost use Rattle.std.specs.Prelude.{IfSome};
+ghost use Rattle.std.specs.Prelude.{IfSome, OnSome, OnOk, take};
+ghost use Rattle.std.specs.Bool.{OnTrue};
+ghost use Rattle.std.specs.Str.{IsUtf8};
+ghost use Rattle.std.specs.Io.KnownBytes.{Appends, Consumes};
 ghost use Rattle.files.specs.Counts.{IsPrefixLen};
 
 use std::env::{Env, FillError};
 use std::fs::File;
-use std::io::{ErrorKind, Read};
+use std::io::{ErrorKind, Read, Write};
 use std::{io, str};
 
 // Puts argument i at the start of buf and answers its length, or 0 where it does not fit. There are no more arguments where it answers nothing.
@@ -22,15 +25,19 @@ pub fn argument(rt: &HostRuntime, i: usize, buf: &mut [u8]) -> Option<usize>
 }
 
 // Paths are text: a name that is not has no file.
-fn open_read(rt: &HostRuntime, name: &[u8]) -> io::Result<File> {
+fn open_read(rt: &HostRuntime, name: &[u8]) -> io::Result<File>
+    ensures { OnOk result (IsUtf8 name.now) }
+{
     match str::from_utf8(name) {
         Ok(path) => File::open(rt, path),
         Err(_) => Err(io::Error::from(ErrorKind::InvalidFilename)),
     }
 }
 
-// Opens the file that has a name, for reading, or tells why it can't be opened.
-pub fn open(rt: &HostRuntime, name: &[u8]) -> Option<File> {
+// Opens the file that has a name, which is text, for reading, or tells why it can't be opened.
+pub fn open(rt: &HostRuntime, name: &[u8]) -> Option<File>
+    ensures { OnSome result (IsUtf8 name.now) }
+{
     match open_read(rt, name) {
         Ok(file) => Some(file),
         Err(e) => {
@@ -59,22 +66,25 @@ fn words_of(text: &str) -> &str {
     }
 }
 
-// Reads until buf is full, the input ends or a read fails, and answers how many bytes it put at the start of buf. On an empty buf it makes no call.
+// Reads until buf is full, the input ends or a read fails, and answers how many bytes it put at the start of buf: those that it took of what the
+// reader had. On an empty buf it makes no call.
 pub fn read_full<R: Read>(from: &mut R, buf: &mut [u8]) -> usize
-    ensures { IsPrefixLen result buf.new }
+    ensures counts { IsPrefixLen result buf.new }
+    ensures bytes { Consumes (R.remaining from.old) (R.remaining from.new) (take result buf.new) }
 {
     let mut done = 0;
     while done < buf.len() {
-        let n = from.read(&mut buf[done..]).unwrap_or(0);
-        if n == 0 {
-            break;
+        match from.read(&mut buf[done..]) {
+            Ok(n) if n > 0 => done += n,
+            _ => break,
         }
-        done += n;
     }
     done
 }
 
-// Writes bytes to standard output, or as many as it takes: that some were not written is not told.
-pub fn write(rt: &HostRuntime, bytes: &[u8]) {
-    let _ = Print::write_all(rt, bytes);
+// Writes all of buf and answers true, or stops where a write takes nothing or fails and answers false, when some of buf may have been written.
+pub fn write_all<W: Write>(to: &mut W, buf: &[u8]) -> bool
+    ensures { OnTrue result (Appends (W.contents to.old) (W.contents to.new) buf.now) }
+{
+    to.write_all(buf).is_ok()
 }

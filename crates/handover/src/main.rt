@@ -69,11 +69,11 @@ fn place_of(answer: Answer) -> usize {
 
 fn print_answer(rt: &HostRuntime, letter: u8, answer: Answer) {
     let head = [letter, b' '];
-    files::write(rt, &head);
+    files::write_all(&mut rt.stdout(), &head);
     let _ = rt.print(stream::answer_number(answer));
-    files::write(rt, b" ");
+    files::write_all(&mut rt.stdout(), b" ");
     let _ = rt.print(place_of(answer));
-    files::write(rt, b"\n");
+    files::write_all(&mut rt.stdout(), b"\n");
 }
 
 // The same with other settings for images.
@@ -214,9 +214,9 @@ fn read_again(
 fn compare(rt: &HostRuntime, image: &[u8], n: usize, arg: &[u8]) {
     let end = within(n, image);
     if &image[..end] == arg {
-        files::write(rt, b"C same\n");
+        files::write_all(&mut rt.stdout(), b"C same\n");
     } else {
-        files::write(rt, b"C differs\n");
+        files::write_all(&mut rt.stdout(), b"C differs\n");
     }
 }
 
@@ -233,7 +233,7 @@ fn take_settings(
     if letter == b'F' {
         return begin(rt, held, vcpus, pages, settings);
     }
-    files::write(rt, b"S 0 0\n");
+    files::write_all(&mut rt.stdout(), b"S 0 0\n");
     with_settings(held, settings)
 }
 
@@ -290,7 +290,7 @@ fn take_step(
         b'R' | b'E' | b'M' => take_call(rt, letter, arg, held, vcpus, pages, guest),
         b'W' | b'L' | b'A' | b'C' => take_image(rt, letter, arg, held, vcpus, pages, image),
         _ => {
-            files::write(rt, b"unknown step\n");
+            files::write_all(&mut rt.stdout(), b"unknown step\n");
             held
         }
     }
@@ -328,7 +328,7 @@ fn run_steps(
     while at < script.len() {
         let end = end_of_step(script, at);
         if end - at < 5 {
-            files::write(rt, b"cut step\n");
+            files::write_all(&mut rt.stdout(), b"cut step\n");
             return;
         }
         let letter = wire::byte(script, at);
@@ -372,8 +372,8 @@ fn run_named(rt: &HostRuntime, name: &[u8]) {
     let mut script = [0u8; 65536];
     let n = files::read_full(&mut file, &mut script);
     drop(file);
-    files::write(rt, name);
-    files::write(rt, b"\n");
+    files::write_all(&mut rt.stdout(), name);
+    files::write_all(&mut rt.stdout(), b"\n");
     run_script(rt, &script[..n]);
 }
 

@@ -3,13 +3,12 @@ use mathlib.Core.Path.{◌≡◌, refl}
 use mathlib.Core.List.{List, [], ◌∷◌, map}
 use Prim.Native.Nat.{ℕ}
 use Prim.Native.String.{String}
-use lib.IntN.{ℤ, pos, negsuc}
+use lib.IntN.{pos, negsuc}
 use Rattle.stream.specs.declared.Number.{Number}
 use Rattle.stream.specs.declared.Number.TheVariants.{Missing, Shown}
 use Rattle.stream.specs.declared.Code.{Code}
 use Rattle.stream.specs.declared.Code.TheVariants.{Unwritten, Written}
 use Rattle.stream.specs.declared.Line.{Line}
-use Rattle.stream.specs.declared.End.{End}
 use Rattle.stream.specs.declared.End.TheVariants.{Open, Closed, Long}
 use Rattle.line_text.specs.Text.{ascii, digits, decimal, signed_text, number_text, code_text, line_text, end_text}
 

@@ -1,13 +1,13 @@
 -- A number's digits, one before the other, and bytes of a text, one behind the other. Assumes nothing.
 use mathlib.Core.Path.{◌≡◌, refl, sym, ap, ◌∙◌}
-use mathlib.Core.List.{List, [], ◌∷◌, ◌++◌, append_assoc, append-nil}
+use mathlib.Core.List.{List, [], ◌∷◌, ◌++◌, append-nil}
 use mathlib.Core.Bool.{Bool, true, false, cond}
-use Prim.Native.Nat.{ℕ, zero, suc, ◌+◌, ◌-◌, ◌*◌, ◌/◌, ◌%◌, ◌^◌, ◌≤◌, ◌<◌}
+use Prim.Native.Nat.{ℕ, zero, suc, ◌+◌, ◌-◌, ◌/◌, ◌%◌, ◌^◌, ◌≤◌, ◌<◌}
 use native.Mathlib.Nat.{pow-suc, div-lt_iff_lt-mul, zero-lt-suc}
 use native.Mathlib.Omega.{arith}
 use lib.Dec.{ltb}
 use lib.IntN.{ℤ, pos, negsuc, nat_abs}
-use lib.ListN.{length, get_or, set, take, drop, length-append, length-set, length-drop}
+use lib.ListN.{length, set, take, drop, length-append, length-set, length-drop}
 use lib.Seq.{drop-cons, drop-length, drop-set-lt, get_or-set_same, append_snoc, take_all, length-take-le}
 use borrow.Author.Tests.{lt-ltb, le-ltb, ltb-true}
 use lib.Signed.{lt_z}

@@ -1,7 +1,6 @@
 -- Document 01's runner: the session it starts with, what becomes of one message, and what is printed.
 use Rattle.std.specs.Prelude.{ℕ, zero, suc, ◌+◌, List, [], ◌++◌, Bool, cond, length, take, drop, replicate, eqb}
 use Rattle.kvmi.specs.declared.Settings.{Settings}
-use Rattle.session.specs.declared.Session.{Session}
 use Rattle.session.specs.State.{State, state}
 use Rattle.session.specs.Calls.{Told, fresh_of, ready_of}
 use Rattle.message.specs.Message.{message_of}

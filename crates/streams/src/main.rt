@@ -26,7 +26,7 @@ fn message_end(all: &[u8], at: usize) -> usize
 fn print_end(rt: &HostRuntime, end: End) {
     let mut text = [0u8; 128];
     let n = line_text::put_end(&mut text, end);
-    files::write(rt, &text[..n]);
+    files::write_all(&mut rt.stdout(), &text[..n]);
 }
 
 // Passes the bytes of a message on and prints its line.
@@ -43,7 +43,7 @@ fn take_turn(
     let mut text = [0u8; 128];
     let turned = replay::turn(index, s, vcpus, pages, msg, out, guest, &mut text);
     let count = turned.count;
-    files::write(rt, &text[..count]);
+    files::write_all(&mut rt.stdout(), &text[..count]);
     turned
 }
 
@@ -106,8 +106,8 @@ fn run_named(rt: &HostRuntime, name: &[u8]) {
         let _ = rt.eprint("stream too long\n");
         return;
     }
-    files::write(rt, name);
-    files::write(rt, b"\n");
+    files::write_all(&mut rt.stdout(), name);
+    files::write_all(&mut rt.stdout(), b"\n");
     run(rt, &all[..count]);
 }
 
