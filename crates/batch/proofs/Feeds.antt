@@ -1,17 +1,19 @@
 -- W5: what a message supplies to feed a vCPU begins inside the message. Assumes nothing.
+use mathlib.Core.Path.{◌≡◌, refl}
 use Prim.Native.Nat.{ℕ, ◌≤◌, zero-le}
 use native.Mathlib.Omega.{arith}
 use mathlib.Core.List.{List}
-use mathlib.Core.Bool.{not}
+use mathlib.Core.Bool.{true, not}
 use lib.ListN.{length, drop, length-drop}
 use lib.Dec.{ltb, eqb}
-use borrow.Author.Tests.{eqb-true}
-use Rattle.wire.specs.Header.{header_of}
-use Rattle.wire.specs.declared.Header.{Header}
-use Rattle.wire.specs.declared.Header.TheVariants.{Whole, Broken}
+use Rattle.std.specs.Prelude.{Some, None}
+use Rattle.wire.specs.Header.{HeaderRead, header_of}
 use Rattle.kvmi.specs.declared.Change.{Change}
 use Rattle.kvmi.specs.declared.Facts.{Facts}
 use Rattle.kvmi.specs.declared.Feed.{Feed}
+use Rattle.kvmi.specs.declared.Source.{Source}
+use Rattle.kvmi.specs.declared.Source.TheVariants.{Unfed, Message, Guest, Missing}
+use Rattle.kvmi.specs.Feed.{is_message}
 use Rattle.kvmi.specs.declared.Signal.{Signal}
 use Rattle.kvmi.specs.Limits.{least_out}
 use Rattle.kvmi.specs.Message.{vcpu_of, action_of}
@@ -47,26 +49,32 @@ command-begins msg id d =
     (λ _. pick K (eqb id 14) _ _ (λ _. zero-le)
     (λ _. pick K (eqb id 15) _ _ (λ _. zero-le) (λ _. zero-le)))))))))
 
+is-message : (s : Source) → is_message s ≡ true → s ≡ Message
+is-message Unfed h = cc
+is-message Message h = refl
+is-message Guest h = cc
+is-message Missing h = cc
+
 -- a reply's bytes are a part of it
 feed-begins : (msg : List ℕ) (x : Feed) → Inside (drop 8 msg) x → supplied_at x ≤ length msg
 feed-begins msg x i =
-    pick (λ (k : ℕ). k ≤ length msg) (eqb x.source 1) _ _
-    (λ e. let h = i (eqb-true x.source 1 e) in let whole = h.0 in let end = h.1 in let l = length-drop 8 msg in omega arith) (λ _. zero-le)
+    pick (λ (k : ℕ). k ≤ length msg) (is_message x.source) _ _
+    (λ e. let h = i (is-message x.source e) in let whole = h.0 in let end = h.1 in let l = length-drop 8 msg in omega arith) (λ _. zero-le)
 
 reply-begins : (msg : List ℕ) (f : Facts) → Inside (drop 8 msg) (feed_by (event_row_of f.awaited).form f (drop 8 msg)) → Signals msg (signal_of (ending f (drop 8 msg)))
 reply-begins msg f i =
     pick (Signals msg) (eqb (action_of (drop 8 msg)) 2) _ _ (λ _. zero-le)
     (λ _. pick (Signals msg) (not (eqb f.awaited 2)) _ _ (λ _. feed-begins msg _ i) (λ _. zero-le))
 
-headed-begins : (st : State) (msg out guest : List ℕ) (h : Header) → Begins msg (headed_of st (drop 8 msg) out guest h)
+headed-begins : (st : State) (msg out guest : List ℕ) (h : HeaderRead) → Begins msg (headed_of st (drop 8 msg) out guest h)
 unfolding headed_of judged_of answering_of
-headed-begins st msg out guest Broken = zero-le
-headed-begins st msg out guest (Whole id size seq) =
+headed-begins st msg out guest None = zero-le
+headed-begins st msg out guest (Some h) =
     let d = drop 8 msg in
     let s = st.session.settings in
     let f = facts_in st (length guest) (vcpu_of d) in
-    verdict-cases (λ v. Begins msg (judged_of st id seq d out guest v)) s f id seq d zero-le (λ code e. zero-le) (λ p. command-begins msg id d)
-    (λ p. reply-begins msg f (reply-inside s f id seq d p))
+    verdict-cases (λ v. Begins msg (judged_of st h.id h.seq d out guest v)) s f h.id h.seq d zero-le (λ code e. zero-le) (λ p. command-begins msg h.id d)
+    (λ p. reply-begins msg f (reply-inside s f h.id h.seq d p))
 
 pub message-begins : (st : State) (msg out guest : List ℕ) → Begins msg (message_of st msg out guest)
 unfolding message_of

@@ -8,7 +8,6 @@ use lib.ListN.{length, take, drop, length-drop}
 use lib.Dec.{leb, ltb, eqb}
 use borrow.Author.Tests.{leb-true, ltb-true, eqb-true, not-true, eq-eqb, lt-ltb, le-leb}
 use Rattle.wire.specs.Bytes.{load}
-use Rattle.kvmi.specs.declared.Signal.{Signal}
 use Rattle.kvmi.specs.Batch.{Takes, Batch, next_length, is_resume, goes_on, turn_of, turns_of}
 use Rattle.laws.proofs.Bool.{and_l, and_r, test}
 use Rattle.laws.proofs.Verdicts.{pick}

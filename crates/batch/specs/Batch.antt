@@ -1,8 +1,9 @@
 -- A batch as code performs it: answer, counts, session, and every lent word and byte after it, for any bits in the session.
-use Rattle.std.specs.Prelude.{ℕ, List, cond, eqb}
+use Rattle.std.specs.Prelude.{ℕ, List, cond}
 use Rattle.kvmi.specs.declared.Feed.{Feed}
 use Rattle.kvmi.specs.declared.Signal.{Signal}
 use Rattle.kvmi.specs.declared.Signal.TheVariants.{Quiet, Kick, Crash, Resume}
+use Rattle.kvmi.specs.Feed.{is_message}
 use Rattle.kvmi.specs.Batch.{Taken, Takes, Batch, batch_by, used_by}
 use Rattle.kvmi.specs.Call.{Call}
 use Rattle.session.specs.State.{State, state, is_closed}
@@ -41,10 +42,10 @@ batched r vcpus pages out signals guest =
 
 -- at which byte of its message the bytes begin that feed a resumed vCPU: 0 where the message does not supply them
 abbrev pub supplied_at : Feed → ℕ
-supplied_at f = cond (eqb f.source 1) f.at 0
+supplied_at f = cond (is_message f.source) f.at 0
 
 abbrev pub fed_at : Signal → ℕ
 fed_at Quiet = 0
 fed_at (Kick wait vcpu) = 0
 fed_at (Crash vcpu) = 0
-fed_at (Resume vcpu action value feed) = supplied_at feed
+fed_at (Resume r) = supplied_at r.feed

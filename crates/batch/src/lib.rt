@@ -3,14 +3,14 @@
 #![tactic(auto)]
 
 ghost use Rattle.std.specs.Prelude.{◌≡◌, ℕ, ◌+◌, ◌≤◌, ◌<◌, true, List, [], ◌∷◌, ◌++◌, eqb, length, take};
-ghost use Rattle.kvmi.specs.Batch.{next_length, listed_as, feed_in, resume_of, is_resume, refusal_of, goes_on, counted, turn_of};
+ghost use Rattle.kvmi.specs.Batch.{next_length, listed_as, feed_in, resume_of, refusal_of, goes_on, counted, turn_of};
 ghost use Rattle.kvmi.specs.Answer.{paper};
 ghost use Rattle.session.specs.State.{state};
 ghost use Rattle.session.specs.Calls.{told};
 ghost use Rattle.wire.specs.Bytes.{store};
 ghost use Rattle.batch.specs.Batch.{told_taken, message_takes, batch_of, batched, supplied_at, fed_at};
 
-use kvmi::{Feed, Signal};
+use kvmi::{Feed, Resumption, Signal, Source};
 use page_words::PageWords;
 use session::{Done, Session};
 use store::words::VcpuWords;
@@ -31,10 +31,11 @@ pub struct Batched {
     pub count: usize,
     pub listed: usize,
     pub session: Session,
-    pub resume: Signal,
+    pub resume: Option<Resumption>,
 }
 
-// Why a batch is refused: the session is closed, the output is too short, or the list of signals has no place. 0: it is not.
+// Why a batch is refused: the session is closed, the output is too short, or the list of signals has no place. 0: it is not. The number is that of the
+// answer, as `refusal_of` has it: an enum would need a function more, back to this number.
 fn refusal(opened: u32, out: usize, signals: usize) -> u32
     ensures { result ≡ refusal_of (eqb opened 0) out signals }
 {
@@ -54,7 +55,7 @@ fn refusal(opened: u32, out: usize, signals: usize) -> u32
 fn next_length(input: &[u8]) -> usize
     ensures { result ≡ next_length input.now }
 {
-    wire::smaller(8 + wire::load16(input, 2) as usize, input.len())
+    wire::smaller(8 + wire::load::<u16>(input, 2) as usize, input.len())
 }
 
 // One more in the list. Gives how many there are then.
@@ -77,67 +78,41 @@ fn list(signals: &mut [u32], listed: usize, signal: Signal) -> usize
             put(signals, listed, KICK + 2 * (vcpu as u32) + (wait as u32))
         }
         Signal::Crash { vcpu } => put(signals, listed, CRASH + vcpu as u32),
-        Signal::Resume {
-            vcpu: _,
-            action: _,
-            value: _,
-            feed: _,
-        } => listed,
+        Signal::Resume(_) => listed,
     }
 }
 
-// The bytes that feed a resumed vCPU, where its message begins at a byte of the input: those that the message supplies are a part of the input.
+// The bytes that feed a resumed vCPU, where its message begins at a byte of the input: those that the message supplies are a part of the input. One number
+// is set in a copy: with `..feed` in an arm a message of a batch takes 192 instructions and not 170, counted without the proofs.
 fn feed_in(start: usize, feed: Feed) -> Feed
     requires { start + supplied_at feed ≤ 18446744073709551615 }
     ensures { result ≡ feed_in start feed }
 {
     let mut f = feed;
-    if feed.source == kvmi::answers::MESSAGE {
+    if matches!(feed.source, Source::Message) {
         f.at = start as u64 + feed.at;
     }
     f
 }
 
 // What is handed back of a signal beside the list: a resume.
-fn resume_of(start: usize, signal: Signal) -> Signal
+fn resume_of(start: usize, signal: Signal) -> Option<Resumption>
     requires { start + fed_at signal ≤ 18446744073709551615 }
     ensures { result ≡ resume_of start signal }
 {
-    match signal {
-        Signal::Quiet => Signal::Quiet,
-        Signal::Kick { wait: _, vcpu: _ } => Signal::Quiet,
-        Signal::Crash { vcpu: _ } => Signal::Quiet,
-        Signal::Resume {
-            vcpu,
-            action,
-            value,
-            feed,
-        } => Signal::Resume {
-            vcpu,
-            action,
-            value,
-            feed: feed_in(start, feed),
-        },
+    if let Signal::Resume(resumption) = signal {
+        Some(Resumption {
+            feed: feed_in(start, resumption.feed),
+            ..resumption
+        })
+    } else {
+        None
     }
 }
 
-fn is_resume(signal: Signal) -> bool
-    ensures { result ≡ is_resume signal }
-{
-    match signal {
-        Signal::Quiet => false,
-        Signal::Kick { wait: _, vcpu: _ } => false,
-        Signal::Crash { vcpu: _ } => false,
-        Signal::Resume {
-            vcpu: _,
-            action: _,
-            value: _,
-            feed: _,
-        } => true,
-    }
-}
-
-// Whether there is a next message, and room for whatever it writes and signals.
+// Whether there is a next message, and room for whatever it writes and signals. The tests stand one by one and in this order: as a chain of `&&` a message of
+// a batch takes 14 instructions more, and in other orders 2 to 12.
+#[tactic(auto, using(std::proofs::lemmas::Bool::Decides::nat_tests), unfolding(kvmi::specs::Batch::goes_on))]
 fn goes_on(b: Batched, input: &[u8], out: &[u8], signals: &[u32]) -> bool
     requires { b.count ≤ length out.now }
     ensures { (vcpus pages guest : List ℕ) → result ≡ goes_on input.now (batched b vcpus pages out.now signals.now guest) }
@@ -145,14 +120,13 @@ fn goes_on(b: Batched, input: &[u8], out: &[u8], signals: &[u32]) -> bool
     if b.number != 0 {
         return false;
     }
-    let resume = b.resume;
-    if is_resume(resume) {
-        return false;
-    }
-    if input.len() <= b.used {
+    if b.resume.is_some() {
         return false;
     }
     if Session::is_short(out.len() - b.count) {
+        return false;
+    }
+    if input.len() <= b.used {
         return false;
     }
     b.listed < signals.len()
@@ -224,7 +198,7 @@ pub fn take(
 {
     let mut b = Batched {
         session: s,
-        resume: Signal::Quiet,
+        resume: None,
         number: refusal(s.tool.opened, out.len(), signals.len()),
         used: 0,
         count: 0,

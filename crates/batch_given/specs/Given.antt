@@ -1,24 +1,20 @@
 -- What the exported batch gives: the number of its answer, the session after it, every lent word and byte, and its values as words.
-use Rattle.std.specs.Prelude.{ℕ, List, [], ◌∷◌, ◌++◌, replicate}
-use Rattle.kvmi.specs.declared.Signal.{Signal}
-use Rattle.kvmi.specs.declared.Signal.TheVariants.{Quiet, Kick, Crash, Resume}
+use Rattle.std.specs.Prelude.{Option, Some, None, ℕ, List, [], ◌∷◌, ◌++◌, replicate}
+use Rattle.kvmi.specs.declared.Resumption.{Resumption}
 use Rattle.kvmi.specs.Batch.{Batch}
 use Rattle.session.specs.declared.Session.{Session}
 use Rattle.session.specs.State.{State, state}
 use Rattle.batch.specs.Batch.{batch_of}
 use Rattle.calls.specs.declared.Returned.{Returned}
-use Rattle.calls.specs.Given.{shown_feed}
+use Rattle.calls.specs.Given.{shown_feed, feed_words}
 
 -- "resume(vCPU, action, new value or 0)", the signal with number 3, and W5's bytes; 0 where none ended the batch
-abbrev pub resume_words : Signal → List ℕ
-resume_words Quiet = replicate 7 0
-resume_words (Kick wait vcpu) = replicate 7 0
-resume_words (Crash vcpu) = replicate 7 0
-resume_words (Resume vcpu action value feed) =
-    3 ∷ vcpu ∷ action ∷ value ∷ (shown_feed feed).source ∷ (shown_feed feed).at ∷ (shown_feed feed).length ∷ []
+abbrev pub resume_words : Option Resumption → List ℕ
+resume_words None = replicate 7 0
+resume_words (Some r) = 3 ∷ r.vcpu ∷ r.action ∷ r.value ∷ feed_words (shown_feed r.feed)
 
 -- a batch's values, as struct semblurick_batch_result has them; two words are not used and 0
-abbrev pub batch_words : ℕ → ℕ → ℕ → Signal → List ℕ
+abbrev pub batch_words : ℕ → ℕ → ℕ → Option Resumption → List ℕ
 batch_words used count listed resume = used ∷ count ∷ listed ∷ resume_words resume ++ (0 ∷ 0 ∷ [])
 
 pub record BatchGiven : Type 0 where

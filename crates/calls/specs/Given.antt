@@ -1,9 +1,11 @@
 -- What an exported call gives: document 01's number of its answer, the session after it, every lent word and byte, and the answer's values as words.
-use Rattle.std.specs.Prelude.{ℕ, min, List, [], ◌∷◌, cond, length, eqb}
+use Rattle.std.specs.Prelude.{ℕ, min, List, [], ◌∷◌, ◌++◌, cond, length}
 use Rattle.kvmi.specs.declared.Feed.{Feed}
+use Rattle.kvmi.specs.declared.Source.{Source}
+use Rattle.kvmi.specs.declared.Source.TheVariants.{Unfed, Message, Guest, Missing}
 use Rattle.kvmi.specs.declared.Signal.{Signal}
 use Rattle.kvmi.specs.declared.Signal.TheVariants.{Quiet, Kick, Crash, Resume}
-use Rattle.kvmi.specs.Answer.{Paper}
+use Rattle.kvmi.specs.Answer.{Paper, is_missing}
 use Rattle.kvmi.specs.Feed.{unfed}
 use Rattle.kvmi.specs.Bits.{bit}
 use Rattle.kvmi.specs.Image.{image}
@@ -23,41 +25,51 @@ abbrev pub signal_number : Signal → ℕ
 signal_number Quiet = 0
 signal_number (Kick wait vcpu) = 1
 signal_number (Crash vcpu) = 2
-signal_number (Resume vcpu action value feed) = 3
+signal_number (Resume r) = 3
 
 abbrev pub signal_vcpu : Signal → ℕ
 signal_vcpu Quiet = 0
 signal_vcpu (Kick wait vcpu) = vcpu
 signal_vcpu (Crash vcpu) = vcpu
-signal_vcpu (Resume vcpu action value feed) = vcpu
+signal_vcpu (Resume r) = r.vcpu
 
 abbrev pub signal_waits : Signal → ℕ
 signal_waits Quiet = 0
 signal_waits (Kick wait vcpu) = bit wait
 signal_waits (Crash vcpu) = 0
-signal_waits (Resume vcpu action value feed) = 0
+signal_waits (Resume r) = 0
 
 abbrev pub signal_action : Signal → ℕ
 signal_action Quiet = 0
 signal_action (Kick wait vcpu) = 0
 signal_action (Crash vcpu) = 0
-signal_action (Resume vcpu action value feed) = action
+signal_action (Resume r) = r.action
 
 abbrev pub signal_value : Signal → ℕ
 signal_value Quiet = 0
 signal_value (Kick wait vcpu) = 0
 signal_value (Crash vcpu) = 0
-signal_value (Resume vcpu action value feed) = value
+signal_value (Resume r) = r.value
 
 -- W5: of a resume from a page fault, the bytes that feed the instruction: none where there is no such guest page
 abbrev pub shown_feed : Feed → Feed
-shown_feed f = cond (eqb f.source 3) unfed f
+shown_feed f = cond (is_missing f.source) unfed f
+
+-- where the bytes are, as a number
+abbrev pub source_number : Source → ℕ
+source_number Unfed = 0
+source_number Message = 1
+source_number Guest = 2
+source_number Missing = 3
+
+abbrev pub feed_words : Feed → List ℕ
+feed_words f = source_number f.source ∷ f.at ∷ f.length ∷ []
 
 abbrev pub signal_feed : Signal → Feed
 signal_feed Quiet = unfed
 signal_feed (Kick wait vcpu) = unfed
 signal_feed (Crash vcpu) = unfed
-signal_feed (Resume vcpu action value feed) = shown_feed feed
+signal_feed (Resume r) = shown_feed r.feed
 
 -- how many words are lent for an answer's values
 abbrev pub result_word_count : ℕ
@@ -67,7 +79,7 @@ result_word_count = 12
 abbrev pub result_words : Paper → List ℕ
 result_words p =
     p.count ∷ p.offset ∷ signal_number p.signal ∷ signal_vcpu p.signal ∷ signal_waits p.signal ∷ signal_action p.signal ∷ signal_value p.signal
-    ∷ (signal_feed p.signal).source ∷ (signal_feed p.signal).at ∷ (signal_feed p.signal).length ∷ p.padding ∷ 0 ∷ []
+    ∷ feed_words (signal_feed p.signal) ++ (p.padding ∷ 0 ∷ [])
 
 pub record Given : Type 0 where
   pub done : Returned

@@ -11,7 +11,8 @@ ghost use Rattle.message.specs.Moves.{message_move, session_after};
 ghost use Rattle.vcpu_list.specs.List.{one, one_ready, one_cr};
 ghost use Rattle.calls.specs.Given.{result_words, given, fresh_given, ready_given, message_given, enter_given, size_given, write_given, read_given, one_given};
 
-use kvmi::{Answer, Signal};
+use kvmi::{Answer, Signal, Source};
+use message::After;
 use page_words::PageWords;
 use session::Session;
 use store::words::VcpuWords;
@@ -29,17 +30,17 @@ pub struct Returned {
     pub session: Session,
 }
 
-// What a message gives: the answer's number, what it moved of the session, and the moved number of the tool after it (message::Received's).
+// What a message gives: the answer's number, and what it moved of the session.
 #[derive(Clone, Copy)]
-pub struct Moved {
+pub struct Received {
     pub code: u32,
-    pub moved: u32,
-    pub value: u64,
+    pub after: After,
 }
 
 // ---- an answer as numbers
 
-// An answer's values, into the words lent for them; its number is given back.
+// An answer's values, into the words lent for them; its number is given back. The numbers are written here, as in `stream::answer_number`: by a call of
+// that function a small command takes 8 instructions more, and an entry 50.
 fn put_result(res: &mut ResultWords, a: Answer) -> u32
     ensures { (result ≡ (paper a).number) × (res.new ≡ result_words (paper a)) }
 {
@@ -60,17 +61,13 @@ fn put_result(res: &mut ResultWords, a: Answer) -> u32
                     res[2] = 2;
                     res[3] = vcpu as u64;
                 }
-                Signal::Resume {
-                    vcpu,
-                    action,
-                    value,
-                    feed,
-                } => {
+                Signal::Resume(resumption) => {
+                    let feed = resumption.feed;
                     res[2] = 3;
-                    res[3] = vcpu as u64;
-                    res[5] = action as u64;
-                    res[6] = value;
-                    if feed.source == kvmi::answers::MISSING {
+                    res[3] = resumption.vcpu as u64;
+                    res[5] = resumption.action as u64;
+                    res[6] = resumption.value;
+                    if matches!(feed.source, Source::Missing) {
                         return 12;
                     }
                     res[7] = feed.source as u64;
@@ -154,24 +151,22 @@ pub fn message(
     out: &mut [u8],
     guest: &mut [u8],
     res: &mut ResultWords,
-) -> Moved
+) -> Received
     ensures { (result.code ≡ (message_given s vcpus.old pages.old msg.now out.old guest.old).done.code)
-        × (session_after s result.moved result.value ≡ (message_given s vcpus.old pages.old msg.now out.old guest.old).done.session)
+        × (session_after s result.after ≡ (message_given s vcpus.old pages.old msg.now out.old guest.old).done.session)
         × (vcpus.new ≡ (message_given s vcpus.old pages.old msg.now out.old guest.old).vcpus)
         × (pages.new ≡ (message_given s vcpus.old pages.old msg.now out.old guest.old).pages)
         × (out.new ≡ (message_given s vcpus.old pages.old msg.now out.old guest.old).out)
         × (guest.new ≡ (message_given s vcpus.old pages.old msg.now out.old guest.old).guest)
         × (res.new ≡ (message_given s vcpus.old pages.old msg.now out.old guest.old).result)
-        × (result.moved ≡ (message_move (state s vcpus.old pages.old) msg.now out.old guest.old).moved)
-        × (result.value ≡ (message_move (state s vcpus.old pages.old) msg.now out.old guest.old).value) }
+        × (result.after ≡ message_move (state s vcpus.old pages.old) msg.now out.old guest.old) }
 {
     let r = message::receive(s, vcpus, pages, msg, out, guest);
     let answer = r.answer;
     let code = put_result(res, answer);
-    Moved {
+    Received {
         code,
-        moved: r.moved,
-        value: r.value,
+        after: r.after,
     }
 }
 

@@ -6,6 +6,7 @@ ghost use Rattle.causes.specs.Causes.{first_causes, decided, refused_unready};
 
 use kvmi::{Change, Verdict};
 
+// The codes are numbers and no enum, since a reply carries them as they are (`reply_bytes`).
 pub const EPERM: i32 = -1;
 
 pub const ENOENT: i32 = -2;
@@ -21,7 +22,7 @@ pub const EOPNOTSUPP: i32 = -95;
 pub const ENOSYS: i32 = -1000;
 
 // A field for each cause, in the order of their codes; the last has none, and closes the session.
-#[derive(Clone, Copy)]
+#[derive(Clone, Copy, Default)]
 pub struct Causes {
     pub invalid: bool,
     pub unready: bool,
@@ -39,15 +40,12 @@ impl Causes {
         Causes {
             invalid,
             unready,
-            denied: false,
-            unsupported: false,
-            busy: false,
-            absent: false,
-            closing: false,
+            ..Causes::default()
         }
     }
 
     // The first cause that applies, or else the change.
+    #[tactic(auto, unfolding(crate::specs::Causes::decided))]
     pub fn decide(self, change: Change) -> Verdict
         ensures { result ≡ decided self change }
     {

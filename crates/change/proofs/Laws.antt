@@ -21,7 +21,7 @@ use Rattle.page_words.proofs.PageLaws.{length-entries, run_room, run-one}
 use Rattle.session.specs.declared.Session.{Session}
 use Rattle.session.specs.State.{State}
 use Rattle.change.specs.Change.{pages_by, change}
-use Rattle.change.specs.Effect.{Enacted, PagesChanged, moved_by, effect}
+use Rattle.change.specs.Effect.{Enacted, PagesChanged, effect}
 
 -- a mode's number stands for it
 pub mode-number : (m : ReplyMode) → mode_of_number (number_of_mode m) ≡ m
@@ -55,28 +55,7 @@ change-keeps st guest d (SetSinglestep on vcpu) = refl
 change-keeps st guest d (SetReplies now mode) = refl
 change-keeps st guest d (EndWait resumes vcpu action value feed) = refl
 
--- ---- a change moves one of three numbers, or none
-pub moved-few : (c : Change) → moved_by c ≤ 3
-moved-few Nothing = omega arith
-moved-few (SetVmEvent on event) = omega arith
-moved-few (WritePhysical gpa) = omega arith
-moved-few (QueuePause wait vcpu) = omega arith
-moved-few (SetVcpuEvent on vcpu event) = omega arith
-moved-few (SetCr on vcpu cr) = omega arith
-moved-few (SetMsr on vcpu msr) = omega arith
-moved-few (SetPages view count) = omega arith
-moved-few (SetSinglestep on vcpu) = omega arith
-moved-few (SetReplies now mode) = omega arith
-moved-few (EndWait resumes vcpu action value feed) = omega arith
-
 -- ---- room for entries
-pub room_for : (used n : ℕ) → n ≤ 1024 → leb used (1024 - n) ≡ leb (used + n) 1024
-room_for used n h = go (leb used (1024 - n)) refl
-  where
-    go : (b : Bool) → leb used (1024 - n) ≡ b → b ≡ leb (used + n) 1024
-    go true e = let w = leb-true used (1024 - n) e in sym (le-leb (used + n) 1024 (omega arith))
-    go false e = let w = leb-false used (1024 - n) e in sym (lt-leb (used + n) 1024 (omega arith))
-
 neither : (a b : Bool) → (a || b) ≡ false → (a ≡ false) × (b ≡ false)
 neither true b e = absurd (false≢true (sym e))
 neither false b e = (refl, e)

@@ -10,50 +10,51 @@ ghost use Rattle.kvmi.specs.declared.ReplyKind.TheVariants.{CodeOnly};
 ghost use Rattle.kvmi.specs.declared.Signal.TheVariants.{Quiet};
 ghost use Rattle.change.specs.Effect.{enacted_of, effect, plain_effect, tool_after, pages_effect, pages_set, skips_one, held_back};
 
-use kvmi::{Change, Feed, ReplyKind, Signal};
+use kvmi::{Change, Feed, ReplyKind, Resumption, Signal};
 use page_words::PageWords;
 use session::{Session, Tool};
 
-// Which number of the tool moves: its VM event switches, how many page words are in use, its reply mode. 0: none.
-const MOVED_EVENTS: u32 = 1;
-
-const MOVED_PAGES: u32 = 2;
-
-const MOVED_MODE: u32 = 3;
-
 // The limit of pages, as a number of page words in use is written.
-const PAGE_LIMIT: u64 = 1024;
+const PAGE_LIMIT: u64 = Session::PAGE_LIMIT as u64;
 
-// What a change gives: what kind of reply answers it, which number of the tool it moves and that number after it (0 for none), 0 or the error that it
-// met, the number of the mode by which it is answered, and what the host is to do.
+// The error of a page access that finds no room.
+const ENOMEM: i32 = -12;
+
+// Which number of the tool moves, and that number after it: its VM event switches, how many page words are in use, or its reply mode's number, which
+// has 64 bits so that all three are kept in one register. (With a `ReplyMode` there a small command takes 9 instructions more, and with a u32 8.)
+#[derive(Clone, Copy)]
+pub enum Moved {
+    Nothing,
+    Events(u64),
+    Pages(u64),
+    Mode(u64),
+}
+
+// What a change gives: what kind of reply answers it, what it moves of the tool, the code of the reply (0 or the error that it met, a number, since it
+// is what the reply's code field says), the number of the mode by which it is answered, and what the host is to do.
 #[derive(Clone, Copy)]
 pub struct Effect {
     pub kind: ReplyKind,
-    pub moved: u32,
-    pub value: u64,
     pub code: i32,
     pub by: u32,
+    pub moved: Moved,
     pub signal: Signal,
 }
 
 // What a tool owns after one of its numbers moved.
-pub fn tool_after(tool: Tool, moved: u32, value: u64) -> Tool
-    ensures { result ≡ tool_after tool moved value }
+#[tactic(auto, unfolding(crate::specs::Effect::tool_after))]
+pub fn tool_after(tool: Tool, moved: Moved) -> Tool
+    ensures { result ≡ tool_after tool moved }
 {
-    let mut t = tool;
-    if moved == MOVED_EVENTS {
-        t.events = value;
-        return t;
+    match moved {
+        Moved::Nothing => tool,
+        Moved::Events(events) => Tool { events, ..tool },
+        Moved::Pages(pages) => Tool { pages, ..tool },
+        Moved::Mode(number) => Tool {
+            mode: (number % 4294967296) as u32,
+            ..tool
+        },
     }
-    if moved == MOVED_PAGES {
-        t.pages = value;
-        return t;
-    }
-    if moved == MOVED_MODE {
-        t.mode = (value % 4294967296) as u32;
-        return t;
-    }
-    t
 }
 
 // No number of the tool moves. `mode` is the tool's.
@@ -62,8 +63,7 @@ fn still(kind: ReplyKind, mode: u32, signal: Signal) -> Effect
 {
     Effect {
         kind,
-        moved: 0,
-        value: 0,
+        moved: Moved::Nothing,
         code: 0,
         by: mode,
         signal,
@@ -77,30 +77,36 @@ fn quiet(mode: u32) -> Effect
     still(ReplyKind::CodeOnly, mode, Signal::Quiet)
 }
 
+// The data behind its first bytes; where it has fewer, none.
+fn behind(d: &[u8], first: usize) -> &[u8]
+    ensures { result.now ≡ drop first d.now }
+{
+    d.get(first..).unwrap_or(&[])
+}
+
 // VM_WRITE_PHYSICAL: the bytes after the 16 that name the place, where all of them lie inside.
 fn write_guest(guest: &mut [u8], gpa: u64, d: &[u8])
     ensures { guest.new ≡ store guest.old gpa (drop 16 d.now) }
 {
+    // by `behind`, every small command takes 7 instructions more
     if 16 <= d.len() {
         wire::copy(guest, gpa as usize, &d[16..]);
     }
 }
 
 // VM_SET_PAGE_ACCESS: its entries stand behind the first 8 bytes.
+#[tactic(auto, unfolding(crate::specs::Effect::pages_set))]
 fn set_pages(tool: Tool, pages: &mut [u64], view: u16, count: u16, d: &[u8]) -> Effect
     ensures { pages_effect result pages.new ≡ pages_set tool pages.old view count d.now }
 {
-    let from = if 8 <= d.len() { 8 } else { d.len() };
     let used = tool.pages as usize;
-    let taken = page_words::put_entries(pages, used, Session::PAGE_LIMIT, view, count, &d[from..]);
-    let mut e = quiet(tool.mode);
-    e.moved = MOVED_PAGES;
-    e.value = taken.count as u64;
-    if taken.skipped {
-        e.code = -12;
-        return e;
+    let entries = behind(d, 8);
+    let taken = page_words::put_entries(pages, used, Session::PAGE_LIMIT, view, count, entries);
+    Effect {
+        moved: Moved::Pages(taken.count as u64),
+        code: if taken.skipped { ENOMEM } else { 0 },
+        ..quiet(tool.mode)
     }
-    e
 }
 
 // Whether page access is all or nothing: in revision 2.
@@ -114,10 +120,7 @@ fn is_all_or_nothing(revision: u32) -> bool
 fn has_room_for(used: u64, n: u16) -> bool
     ensures { result ≡ leb (used + n) page_limit }
 {
-    if PAGE_LIMIT < (n as u64) {
-        return false;
-    }
-    used <= PAGE_LIMIT - n as u64
+    u64::from(n) <= PAGE_LIMIT && used <= PAGE_LIMIT - u64::from(n)
 }
 
 // Whether a run of n entries of which one is skipped can change something: a single one cannot, unless more words are said to be in use than there
@@ -125,24 +128,20 @@ fn has_room_for(used: u64, n: u16) -> bool
 fn can_change(used: u64, n: u16) -> bool
     ensures { result ≡ (ltb page_limit used || ltb 1 n) }
 {
-    if PAGE_LIMIT < used {
-        return true;
-    }
-    1 < n
+    PAGE_LIMIT < used || 1 < n
 }
 
 // Whether an entry of VM_SET_PAGE_ACCESS would be skipped.
 fn would_skip(pages: &PageWords, used: u64, view: u16, count: u16, d: &[u8]) -> bool
     ensures { result ≡ skips_one pages.now used view count d.now }
 {
-    let from = if 8 <= d.len() { 8 } else { d.len() };
     page_words::would_skip(
         pages,
         used as usize,
         Session::PAGE_LIMIT,
         view,
         count,
-        &d[from..],
+        behind(d, 8),
     )
 }
 
@@ -150,11 +149,11 @@ fn would_skip(pages: &PageWords, used: u64, view: u16, count: u16, d: &[u8]) -> 
 fn hold_back(tool: Tool) -> Effect
     ensures { result ≡ held_back tool }
 {
-    let mut e = quiet(tool.mode);
-    e.moved = MOVED_PAGES;
-    e.value = tool.pages;
-    e.code = -12;
-    e
+    Effect {
+        moved: Moved::Pages(tool.pages),
+        code: ENOMEM,
+        ..quiet(tool.mode)
+    }
 }
 
 // What an event's reply has the host do.
@@ -162,20 +161,21 @@ fn reply_signal(resumes: bool, vcpu: u16, action: u32, value: u64, feed: Feed) -
     ensures { result ≡ reply_signal resumes vcpu action value feed }
 {
     if action == 2 {
-        return Signal::Crash { vcpu };
-    }
-    if resumes {
-        return Signal::Resume {
+        Signal::Crash { vcpu }
+    } else if resumes {
+        Signal::Resume(Resumption {
             vcpu,
             action,
             value,
             feed,
-        };
+        })
+    } else {
+        Signal::Quiet
     }
-    Signal::Quiet
 }
 
 // A change on what the tool owns and on the lent words; of all else nothing changes.
+#[tactic(auto, unfolding(crate::specs::Change::change, crate::specs::Effect::tool_after, store::specs::Words::put_bit64, store::specs::Words::queued_pause, store::specs::Words::switched_field, store::specs::Words::switched_cr, store::specs::Words::ended_wait))]
 pub fn apply(
     s: Session,
     vcpus: &mut [u64],
@@ -191,10 +191,11 @@ pub fn apply(
     match c {
         Change::Nothing => still(ReplyKind::WithData, tool.mode, Signal::Quiet),
         Change::SetVmEvent { on, event } => {
-            let mut e = quiet(tool.mode);
-            e.moved = MOVED_EVENTS;
-            e.value = store::bits::put_bit(tool.events, event as u32, on);
-            e
+            let events = store::bits::put_bit(tool.events, event as u32, on);
+            Effect {
+                moved: Moved::Events(events),
+                ..quiet(tool.mode)
+            }
         }
         Change::WritePhysical { gpa } => {
             write_guest(guest, gpa, d);
@@ -235,15 +236,12 @@ pub fn apply(
             quiet(tool.mode)
         }
         Change::SetReplies { now, mode } => {
-            let number = session::mode_number(mode);
-            let mut e = quiet(tool.mode);
-            e.moved = MOVED_MODE;
-            e.value = number as u64;
-            if now {
-                e.by = number;
-                return e;
+            let number = u32::from(mode);
+            Effect {
+                moved: Moved::Mode(u64::from(number)),
+                by: if now { number } else { tool.mode },
+                ..quiet(tool.mode)
             }
-            e
         }
         Change::EndWait {
             resumes,

@@ -2,7 +2,9 @@
 #![tactic(auto)]
 
 ghost use Rattle.std.specs.Prelude.{◌≡◌, List, [], ℕ, ◌≤◌, length};
+ghost use Rattle.kvmi.specs.Bits.{is_on};
 ghost use Rattle.kvmi.specs.Event.{offer_fits};
+ghost use Rattle.store.specs.Words.{field, EVENTS};
 ghost use Rattle.session.specs.State.{state};
 ghost use Rattle.session.specs.Calls.{told};
 ghost use Rattle.entry.specs.Entry.{is_guarded, is_asked_for_of, cr_bit_on, awaiting_words, fault_words, Went, sending_of, dequeuing_of, sent_of, entered_of, enter_of};
@@ -26,6 +28,7 @@ pub const EVENT_OUT: usize = 576;
 const VIEWS: u16 = 8;
 
 // Whether an event's number is one that can be offered, and its own bytes are as many as it has.
+#[tactic(auto, unfolding(kvmi::specs::Event::offer_fits))]
 fn offer_fits(event: u32, own: &[u8]) -> bool
     ensures { result ≡ offer_fits event own.now }
 {
@@ -35,6 +38,7 @@ fn offer_fits(event: u32, own: &[u8]) -> bool
 }
 
 // Whether a vCPU's switch for a control register is on; what has none is off.
+#[tactic(auto, unfolding(crate::specs::Entry::cr_bit_on))]
 fn cr_on(vcpus: &[u64], vcpu: u16, cr: u32) -> bool
     ensures { result ≡ cr_bit_on vcpus.now vcpu cr }
 {
@@ -46,53 +50,55 @@ fn cr_on(vcpus: &[u64], vcpu: u16, cr: u32) -> bool
 }
 
 // Whether the page that a fault's bytes name stands below rwx in the view that they name; `used` page words are in use.
+#[tactic(auto, unfolding(crate::specs::Entry::is_guarded))]
 fn is_guarded(pages: &[u64], used: u64, own: &[u8]) -> bool
     ensures { result ≡ is_guarded pages.now used own.now }
 {
-    let view = wire::load16(own, 18);
+    let view = wire::load::<u16>(own, 18);
     if VIEWS <= view {
         return false;
     }
-    let key = (view as u64) * kvmi::PAGES + wire::load64(own, 8) / 4096;
+    let key = (view as u64) * kvmi::PAGES + wire::load::<u64>(own, 8) / 4096;
     page_words::word_access(pages, used as usize, key) < 7
 }
 
+// Whether an event is on among a vCPU's switches.
+fn is_on_for(vcpus: &[u64], vcpu: u16, event: u32) -> bool
+    ensures { result ≡ is_on (field vcpus.now vcpu EVENTS) event }
+{
+    kvmi::bits::is_on(
+        store::words::read_field(vcpus, vcpu, store::words::EVENTS),
+        event,
+    )
+}
+
 // Whether the tool asked for an event: what its row names is on among the VM's switches or the vCPU's, and a page that it names is guarded.
+#[tactic(auto, unfolding(crate::specs::Entry::is_asked_for_of, crate::specs::Entry::asked_for_by))]
 fn is_asked_for(tool: Tool, vcpus: &[u64], pages: &[u64], vcpu: u16, event: u32, own: &[u8]) -> bool
     ensures { result ≡ is_asked_for_of tool vcpus.now pages.now vcpu event own.now }
 {
     let row = kvmi::events::row(event as u64);
     let switch = row.switch;
     match switch {
-        EventSwitch::Unoffered => false,
-        EventSwitch::NoEvent => false,
+        EventSwitch::Unoffered | EventSwitch::NoEvent => false,
         EventSwitch::OfVm => kvmi::bits::is_on(tool.events, event),
-        EventSwitch::OfVcpu => {
-            let events = store::words::read_field(vcpus, vcpu, store::words::EVENTS);
-            kvmi::bits::is_on(events, event)
-        }
+        EventSwitch::OfVcpu => is_on_for(vcpus, vcpu, event),
         EventSwitch::OfCr => {
-            let events = store::words::read_field(vcpus, vcpu, store::words::EVENTS);
-            let cr = wire::load16(own, 0) as u32;
-            kvmi::bits::is_on(events, event) & cr_on(vcpus, vcpu, cr)
+            let cr = u32::from(wire::load::<u16>(own, 0));
+            is_on_for(vcpus, vcpu, event) & cr_on(vcpus, vcpu, cr)
         }
         EventSwitch::OfMsr => {
-            let events = store::words::read_field(vcpus, vcpu, store::words::EVENTS);
-            let msr = wire::load32(own, 0);
-            kvmi::bits::is_on(events, event) & store::words::read_msr(vcpus, vcpu, msr)
+            let msr = wire::load::<u32>(own, 0);
+            is_on_for(vcpus, vcpu, event) & store::words::read_msr(vcpus, vcpu, msr)
         }
         EventSwitch::OfPage => {
-            let events = store::words::read_field(vcpus, vcpu, store::words::EVENTS);
-            if kvmi::bits::is_on(events, event) {
-                is_guarded(pages, tool.pages, own)
-            } else {
-                false
-            }
+            is_on_for(vcpus, vcpu, event) && is_guarded(pages, tool.pages, own)
         }
     }
 }
 
 // The reply to an event is awaited.
+#[tactic(auto, unfolding(crate::specs::Entry::awaiting_words))]
 fn await_reply(vcpus: &mut [u64], vcpu: u16, event: u32, seq: u32)
     ensures { vcpus.new ≡ awaiting_words vcpus.old vcpu event seq }
 {
@@ -101,6 +107,7 @@ fn await_reply(vcpus: &mut [u64], vcpu: u16, event: u32, seq: u32)
 }
 
 // Of a page fault its addresses and access are kept until its reply comes.
+#[tactic(auto, unfolding(crate::specs::Entry::fault_words, kvmi::specs::Feed::kept_of))]
 fn keep_fault(vcpus: &mut [u64], vcpu: u16, event: u32, own: &[u8])
     ensures { vcpus.new ≡ fault_words vcpus.old vcpu event own.now }
 {
@@ -109,8 +116,8 @@ fn keep_fault(vcpus: &mut [u64], vcpu: u16, event: u32, own: &[u8])
         store::words::write_fault(
             vcpus,
             vcpu,
-            wire::load64(own, 0),
-            wire::load64(own, 8),
+            wire::load::<u64>(own, 0),
+            wire::load::<u64>(own, 8),
             access,
         );
     }
@@ -160,6 +167,7 @@ fn dequeue(vcpus: &mut [u64], vcpu: u16, seq: u32, block: &[u8], out: &mut [u8])
 }
 
 // What goes out of an entry: the offered event, or else a queued pause.
+#[tactic(auto, unfolding(crate::specs::Entry::sent_of))]
 fn hand_out(
     s: Session,
     vcpus: &mut [u64],
@@ -176,12 +184,14 @@ fn hand_out(
     let seq = s.tool.seq;
     let tool = s.tool;
     if is_asked_for(tool, vcpus, pages, vcpu, event, own) {
-        return send(vcpus, vcpu, seq, block, event, own, out);
+        send(vcpus, vcpu, seq, block, event, own, out)
+    } else {
+        dequeue(vcpus, vcpu, seq, block, out)
     }
-    dequeue(vcpus, vcpu, seq, block, out)
 }
 
 // The rest of an entry whose arguments are in order.
+#[tactic(auto, unfolding(crate::specs::Entry::entered_of))]
 fn enter_open(
     s: Session,
     vcpus: &mut [u64],
@@ -197,20 +207,16 @@ fn enter_open(
 {
     let awaited = store::words::read_field(vcpus, vcpu, store::words::AWAITED);
     if awaited != 0 {
-        return Done {
-            answer: Answer::Waiting,
-            session: s,
-        };
+        return s.answers(Answer::Waiting);
     }
     let went = hand_out(s, vcpus, pages, vcpu, block, event, own, out);
-    Done {
-        answer: kvmi::answers::wrote(went.count),
-        session: s.with_seq(went.next),
-    }
+    s.with_seq(went.next)
+        .answers(kvmi::answers::wrote(went.count))
 }
 
 // A vCPU enters the guest, with its register block. It is offered an event by its number (0: none), with the event's own bytes. The
 // reply to what goes out is awaited.
+#[tactic(auto, unfolding(crate::specs::Entry::enter_of))]
 pub fn enter(
     s: Session,
     vcpus: &mut VcpuWords,
@@ -224,28 +230,16 @@ pub fn enter(
     ensures { told result vcpus.new pages.now out.new [] ≡ enter_of (state s vcpus.old pages.now) vcpu block.now event own.now out.old }
 {
     if s.tool.opened == 0 {
-        return Done {
-            answer: Answer::Closed,
-            session: s,
-        };
+        return s.answers(Answer::Closed);
     }
     if s.settings.vcpus <= vcpu as u32 {
-        return Done {
-            answer: Answer::BadVcpu,
-            session: s,
-        };
+        return s.answers(Answer::BadVcpu);
     }
     if !((block.len() == reply::STATE_BYTES) & offer_fits(event, own)) {
-        return Done {
-            answer: Answer::BadState,
-            session: s,
-        };
+        return s.answers(Answer::BadState);
     }
     if out.len() < EVENT_OUT {
-        return Done {
-            answer: Answer::ShortOut,
-            session: s,
-        };
+        return s.answers(Answer::ShortOut);
     }
     enter_open(s, vcpus, pages, vcpu, block, event, own, out)
 }

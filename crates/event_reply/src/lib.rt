@@ -12,8 +12,7 @@ use kvmi::{Change, EventRow, Facts, Feed, ReplyForm, Verdict};
 fn is_awaited(facts: Facts, seq: u32, event: u8) -> bool
     ensures { result ≡ is_awaited facts seq event }
 {
-    let awaits = (facts.awaited != 0) & (facts.seq == seq as u64);
-    awaits & (facts.awaited == event as u64)
+    facts.awaited != 0 && facts.seq == seq as u64 && facts.awaited == event as u64
 }
 
 // Whether a reply has the size of the awaited event's, and an action that it takes.
@@ -21,13 +20,12 @@ fn action_fits(row: EventRow, d: &[u8]) -> bool
     ensures { result ≡ (eqb (length d.now) row.reply && takes_action row (action_of d.now)) }
 {
     let action = wire::byte(d, 8);
-    if d.len() != row.reply {
-        return false;
-    }
-    if action == 1 {
-        return row.retry;
-    }
-    (action == 0) | (action == 2)
+    d.len() == row.reply
+        && match action {
+            0 | 2 => true,
+            1 => row.retry,
+            _ => false,
+        }
 }
 
 // Whether a reply is as the awaited event's row says. What it has behind its first 16 bytes is asked in an arm of its own, so that the others know that
@@ -35,11 +33,9 @@ fn action_fits(row: EventRow, d: &[u8]) -> bool
 fn reply_fits(row: EventRow, d: &[u8]) -> bool
     ensures { result ≡ reply_fits row d.now }
 {
-    let form = row.form;
-    match form {
-        ReplyForm::Plain => action_fits(row, d),
-        ReplyForm::NewValue => action_fits(row, d),
-        ReplyForm::Context => action_fits(row, d) & feed::context_fits(d),
+    match row.form {
+        ReplyForm::Plain | ReplyForm::NewValue => action_fits(row, d),
+        ReplyForm::Context => action_fits(row, d) && feed::context_fits(d),
     }
 }
 
@@ -49,7 +45,7 @@ fn value_of(form: ReplyForm, d: &[u8]) -> u64
 {
     match form {
         ReplyForm::Plain => 0,
-        ReplyForm::NewValue => wire::load64(d, 16),
+        ReplyForm::NewValue => wire::load::<u64>(d, 16),
         ReplyForm::Context => wire::byte(d, 29) as u64,
     }
 }
@@ -59,8 +55,7 @@ fn feed_by(form: ReplyForm, facts: Facts, d: &[u8]) -> Feed
     ensures { result ≡ feed_by form facts d.now }
 {
     match form {
-        ReplyForm::Plain => kvmi::answers::unfed(),
-        ReplyForm::NewValue => kvmi::answers::unfed(),
+        ReplyForm::Plain | ReplyForm::NewValue => kvmi::answers::unfed(),
         ReplyForm::Context => {
             if feed::wants_bytes(facts.access, wire::byte(d, 8)) {
                 feed::chosen_feed(facts.gva, facts.gpa, facts.guest, d)
@@ -88,7 +83,7 @@ pub fn judge_reply(facts: Facts, seq: u32, d: &[u8]) -> Verdict
     let form = row.form;
     Verdict::Does(Change::EndWait {
         resumes: facts.awaited != 2,
-        vcpu: wire::load16(d, 0),
+        vcpu: wire::load::<u16>(d, 0),
         action: wire::byte(d, 8) as u32,
         value: value_of(form, d),
         feed: feed_by(form, facts, d),

@@ -1,21 +1,12 @@
--- Parts of a list. Assumes nothing.
-use Prim.Native.Nat.{ℕ, ◌-◌, ◌≤◌, ◌<◌}
-use mathlib.Core.Path.{◌≡◌, sym, ap, ◌∙◌}
-use mathlib.Core.List.{List, []}
-use native.Mathlib.Omega.{arith}
-use lib.ListN.{length, take, drop, length-drop, drop_of_length-le}
-use lib.Seq.{take_all, take-nil, length-take-le}
+-- A value that there is where a test holds, and what is taken of it. Assumes nothing.
+use mathlib.Core.Path.{◌≡◌}
+use mathlib.Core.Bool.{Bool, true, false, cond}
+use Rattle.std.specs.Prelude.{Option, Some, None}
 
--- what `&s[a..]` reads
-pub rest_part : (s : List ℕ) (a : ℕ) → take (length s - a) (drop a s) ≡ drop a s
-rest_part s a = take_all (length s - a) (drop a s) (simp length-drop (omega arith))
+pub some-of : {A B : Type 0} (g : A → B) (b : Bool) (x f : A) (y : B) → ◌≡◌ {A = Option A} (Some f) (cond b (Some x) None) → g f ≡ cond b (g x) y
+some-of g true x f y e = cc
+some-of g false x f y e = absurd (cc)
 
--- a part past the end is empty, and one that reaches past it ends there
-pub part-past : (s : List ℕ) (a n : ℕ) → length s < a → [] ≡ take n (drop a s)
-part-past s a n h = sym (ap (λ (l : List ℕ). take n l) (drop_of_length-le s {i = a} (omega arith)) ∙ take-nil n)
-
-pub part-long : (s : List ℕ) (a n : ℕ) → length (take (length s - a) (drop a s)) ≤ n → take (length s - a) (drop a s) ≡ take n (drop a s)
-part-long s a n h = let rest = rest_part s a in rest ∙ sym (take_all n (drop a s) (rw rest at h))
-
-pub part-short : (s : List ℕ) (a n : ℕ) → n < length (take (length s - a) (drop a s)) → n ≡ length (take n (take (length s - a) (drop a s)))
-part-short s a n h = sym (length-take-le n (take (length s - a) (drop a s)) (omega arith))
+pub none-of : {A B : Type 0} (g : A → B) (b : Bool) (x : A) (y : B) → ◌≡◌ {A = Option A} None (cond b (Some x) None) → y ≡ cond b (g x) y
+none-of g true x y e = absurd (cc)
+none-of g false x y e = cc

@@ -1,9 +1,8 @@
-// What the programs that go over stored files ask of the system: an argument, the file that it names, its bytes, and standard output. What fails is
+// What the programs ask of the system: the stored files that the arguments name, bytes read until a buffer is full, and bytes written. What fails is
 // told on standard error.
 #![tactic(auto)]
 
 ghost use Rattle.std.specs.Prelude.{IfSome, OnSome, OnOk, take};
-ghost use Rattle.std.specs.Bool.{OnTrue};
 ghost use Rattle.std.specs.Str.{IsUtf8};
 ghost use Rattle.std.specs.Io.KnownBytes.{Appends, Consumes};
 ghost use Rattle.files.specs.Counts.{IsPrefixLen};
@@ -82,9 +81,35 @@ pub fn read_full<R: Read>(from: &mut R, buf: &mut [u8]) -> usize
     done
 }
 
-// Writes all of buf and answers true, or stops where a write takes nothing or fails and answers false, when some of buf may have been written.
-pub fn write_all<W: Write>(to: &mut W, buf: &[u8]) -> bool
-    ensures { OnTrue result (Appends (W.contents to.old) (W.contents to.new) buf.now) }
+// Writes all of buf, or fails where a write takes nothing or fails, when some of buf may have been written.
+pub fn write_all<W: Write>(to: &mut W, buf: &[u8]) -> io::Result<()>
+    ensures { OnOk result (Appends (W.contents to.old) (W.contents to.new) buf.now) }
 {
-    to.write_all(buf).is_ok()
+    to.write_all(buf)
+}
+
+// Opens the file that has a name, reads it into `room` as far as that goes, and hands on the name and what was read. A file that can't be opened is
+// told of, and left out.
+fn run_file<F: Fn(&[u8], &[u8])>(rt: &HostRuntime, name: &[u8], room: &mut [u8], run: &F)
+    requires { F.IsAlwaysCallable run.now }
+{
+    if let Some(mut file) = open(rt, name) {
+        let n = read_full(&mut file, room);
+        drop(file);
+        run(name, &room[..n]);
+    }
+}
+
+// Runs over the files that the program's arguments name, in their order: each is read into `room` as far as that goes, and its name and what was read
+// are handed on. One that can't be opened is told of, and left out.
+pub fn run_files<F: Fn(&[u8], &[u8])>(rt: &HostRuntime, room: &mut [u8], run: F)
+    requires { F.IsAlwaysCallable run }
+{
+    for i in 1..usize::MAX {
+        let mut name = [0u8; 4096];
+        let Some(n) = argument(rt, i, &mut name) else {
+            return;
+        };
+        run_file(rt, &name[..n], room, &run);
+    }
 }

@@ -9,9 +9,9 @@ use lib.ListN.{length, take, drop, length-append, length-drop}
 use lib.Seq.{length-take-le, drop-drop, drop-append-add}
 use lib.Dec.{ltb, eqb}
 use borrow.Author.Tests.{ltb-true, ltb-false, le-ltb, ne_eqb, eqb-true, eqb-false}
-use Rattle.wire.specs.Header.{header_of}
-use Rattle.wire.specs.declared.Header.{Header}
-use Rattle.wire.specs.declared.Header.TheVariants.{Whole, Broken}
+use Rattle.std.specs.Prelude.{Option, Some, None}
+use Rattle.wire.specs.Header.{HeaderRead, header_of}
+use Rattle.kvmi.specs.declared.Resumption.{Resumption}
 use Rattle.kvmi.specs.declared.Signal.{Signal}
 use Rattle.kvmi.specs.declared.Signal.TheVariants.{Quiet, Kick, Crash, Resume}
 use Rattle.kvmi.specs.declared.Change.{Change}
@@ -23,7 +23,7 @@ use Rattle.kvmi.specs.Bits.{among}
 use Rattle.kvmi.specs.Limits.{least_out}
 use Rattle.kvmi.specs.Message.{vcpu_of}
 use Rattle.kvmi.specs.Verdict.{verdict}
-use Rattle.kvmi.specs.Batch.{Batch, next_length, listed_as, resume_of, is_resume, at_start, refusal_of, goes_on, next_of, out_left, turn_of, turns_of, batch_by}
+use Rattle.kvmi.specs.Batch.{Batch, next_length, listed_as, resume_of, is_resume, resume_lacks_page, at_start, refusal_of, goes_on, next_of, out_left, turn_of, turns_of, batch_by}
 use Rattle.session.specs.State.{State, is_closed}
 use Rattle.session.specs.Calls.{Told}
 use Rattle.change.specs.Change.{change}
@@ -61,25 +61,25 @@ judged-lives st id seq d out guest o Closes = inr (refl, refl, refl)
 judged-lives st id seq d out guest o (Fails code) = inl (refl, o)
 judged-lives st id seq d out guest o (Does c) = inl (refl, change-lives st guest d c ∙ o)
 
-headed-lives : (st : State) (d out guest : List ℕ) → is_closed st ≡ false → (h : Header) → Lives (headed_of st d out guest h)
+headed-lives : (st : State) (d out guest : List ℕ) → is_closed st ≡ false → (h : HeaderRead) → Lives (headed_of st d out guest h)
 unfolding headed_of
-headed-lives st d out guest o Broken = inr (refl, refl, refl)
-headed-lives st d out guest o (Whole id size seq) = judged-lives st id seq d out guest o (verdict st.session.settings (facts_in st (length guest) (vcpu_of d)) id seq d)
+headed-lives st d out guest o None = inr (refl, refl, refl)
+headed-lives st d out guest o (Some h) = judged-lives st h.id h.seq d out guest o (verdict st.session.settings (facts_in st (length guest) (vcpu_of d)) h.id h.seq d)
 
 message-lives : (st : State) (msg out guest : List ℕ) → is_closed st ≡ false → least_out ≤ length out → Lives (message_of st msg out guest)
 unfolding message_of
 message-lives st msg out guest o l = rw (o, le-ltb (length out) least_out l) (headed-lives st (drop 8 msg) out guest o (header_of msg))
 
 -- a resume that is handed back lacks its page where the message's does
-lacks-back : (start : ℕ) (g : Signal) → lacks_page g ≡ lacks_page (resume_of start g)
+lacks-back : (start : ℕ) (g : Signal) → lacks_page g ≡ resume_lacks_page (resume_of start g)
 lacks-back start Quiet = refl
 lacks-back start (Kick wait vcpu) = refl
 lacks-back start (Crash vcpu) = refl
-lacks-back start (Resume vcpu action value feed) = refl
+lacks-back start (Resume r) = refl
 
 -- ---- so does each turn
 abbrev Alive : Batch State → Type 0
-Alive b = ((b.number ≡ cond (lacks_page b.resume) 12 0) × (is_closed b.state ≡ false)) ⊎ ((b.number ≡ 1) × (is_closed b.state ≡ true) × (is_resume b.resume ≡ false))
+Alive b = ((b.number ≡ cond (resume_lacks_page b.resume) 12 0) × (is_closed b.state ≡ false)) ⊎ ((b.number ≡ 1) × (is_closed b.state ≡ true) × (is_resume b.resume ≡ false))
 
 -- ---- what a turn leaves, of what was lent
 record Held (input out signals : List ℕ) (b : Batch State) : Type 0 where
@@ -258,11 +258,11 @@ module _ (st : State) (input out signals guest : List ℕ) where
       either-one false = inl refl
 
       small : (e : Batch State) → Alive e → So (among e.number (0 ∷ 1 ∷ 2 ∷ 3 ∷ 11 ∷ 12 ∷ []))
-      small e (inl q) = rw q.0 (few (lacks_page e.resume))
+      small e (inl q) = rw q.0 (few (resume_lacks_page e.resume))
       small e (inr q) = rw q.0 refl
 
       closing : (e : Batch State) → Alive e → e.number ≡ 1 → Closed e.state
-      closing e (inl q) n = let z = q.0 in ⊎_elim (λ a. absurd (omega arith)) (λ a. absurd (omega arith)) (either-one (lacks_page e.resume))
+      closing e (inl q) n = let z = q.0 in ⊎_elim (λ a. absurd (omega arith)) (λ a. absurd (omega arith)) (either-one (resume_lacks_page e.resume))
       closing e (inr q) n = q.1
 
       opening : (e : Batch State) → Alive e → (e.number ≡ 0) ⊎ (e.number ≡ 12) → Open e.state
@@ -271,26 +271,24 @@ module _ (st : State) (input out signals guest : List ℕ) where
       opening e (inr q) (inr n) = let z = q.0 in absurd (omega arith)
 
       resuming : (e : Batch State) → Alive e → is_resume e.resume ≡ true → (e.number ≡ 0) ⊎ (e.number ≡ 12)
-      resuming e (inl q) n = ⊎_elim (λ a. inl (q.0 ∙ a)) (λ a. inr (q.0 ∙ a)) (either-one (lacks_page e.resume))
+      resuming e (inl q) n = ⊎_elim (λ a. inl (q.0 ∙ a)) (λ a. inr (q.0 ∙ a)) (either-one (resume_lacks_page e.resume))
       resuming e (inr q) n = clash n q.2
 
       -- what lacks its page is a resume
-      lacks-resumes : (g : Signal) → lacks_page g ≡ true → is_resume g ≡ true
-      lacks-resumes Quiet h = absurd (false≢true h)
-      lacks-resumes (Kick wait vcpu) h = absurd (false≢true h)
-      lacks-resumes (Crash vcpu) h = absurd (false≢true h)
-      lacks-resumes (Resume vcpu action value feed) h = refl
+      lacks-resumes : (g : Option Resumption) → resume_lacks_page g ≡ true → is_resume g ≡ true
+      lacks-resumes None h = absurd (false≢true h)
+      lacks-resumes (Some r) h = refl
 
       twelve : (lacks : Bool) → ◌≡◌ {A = ℕ} (cond lacks 12 0) 12 → lacks ≡ true
       twelve true h = refl
       twelve false h = absurd (omega arith)
 
-      lacking : (e : Batch State) → Alive e → (e.number ≡ 12) ↔ (lacks_page e.resume ≡ true)
-      lacking e (inl q) = (λ n. twelve (lacks_page e.resume) (sym q.0 ∙ n), λ l. q.0 ∙ ap (λ (x : Bool). cond x 12 0) l)
+      lacking : (e : Batch State) → Alive e → (e.number ≡ 12) ↔ (resume_lacks_page e.resume ≡ true)
+      lacking e (inl q) = (λ n. twelve (resume_lacks_page e.resume) (sym q.0 ∙ n), λ l. q.0 ∙ ap (λ (x : Bool). cond x 12 0) l)
       lacking e (inr q) = (λ n. let z = q.0 in absurd (omega arith), λ l. clash (lacks-resumes e.resume l) q.2)
 
       below : (e : Batch State) (k : ℕ) → Alive e → e.number ≡ k → 2 ≤ k → k ≢ 12 → ⊥
-      below e k (inl q) n l other = let z = q.0 in ⊎_elim (λ a. omega arith) (λ a. other (sym n ∙ z ∙ a)) (either-one (lacks_page e.resume))
+      below e k (inl q) n l other = let z = q.0 in ⊎_elim (λ a. omega arith) (λ a. other (sym n ∙ z ∙ a)) (either-one (resume_lacks_page e.resume))
       below e k (inr q) n l other = let z = q.0 in omega arith
 
       -- the first message

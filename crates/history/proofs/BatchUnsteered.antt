@@ -6,9 +6,8 @@ use mathlib.Core.List.{List, [], ◌∷◌, ◌++◌}
 use mathlib.Core.Bool.{Bool, true, false, cond}
 use lib.ListN.{length, take, drop, length-append, length-take, length-drop}
 use lib.Dec.{ltb}
-use Rattle.wire.specs.Header.{header_of}
-use Rattle.wire.specs.declared.Header.{Header}
-use Rattle.wire.specs.declared.Header.TheVariants.{Whole, Broken}
+use Rattle.std.specs.Prelude.{Some, None}
+use Rattle.wire.specs.Header.{HeaderRead, header_of}
 use Rattle.kvmi.specs.declared.Change.{Change}
 use Rattle.kvmi.specs.declared.Change.TheVariants.{Nothing, SetVmEvent, WritePhysical, QueuePause, SetVcpuEvent, SetCr, SetMsr, SetPages, SetSinglestep, SetReplies, EndWait}
 use Rattle.kvmi.specs.declared.Verdict.{Verdict}
@@ -59,10 +58,10 @@ module _ (guest : List ℕ) where
   judged-long st id seq d out (Fails code) = refl
   judged-long st id seq d out (Does c) = change-long st d c
 
-  headed-long : (st : State) (d out : List ℕ) (h : Header) → Long (headed_of st d out guest h)
+  headed-long : (st : State) (d out : List ℕ) (h : HeaderRead) → Long (headed_of st d out guest h)
   unfolding headed_of
-  headed-long st d out Broken = refl
-  headed-long st d out (Whole id size seq) = judged-long st id seq d out (verdict st.session.settings (facts_in st (length guest) (vcpu_of d)) id seq d)
+  headed-long st d out None = refl
+  headed-long st d out (Some h) = judged-long st h.id h.seq d out (verdict st.session.settings (facts_in st (length guest) (vcpu_of d)) h.id h.seq d)
 
   message-long : (st : State) (msg out : List ℕ) → Long (message_of st msg out guest)
   unfolding message_of

@@ -4,9 +4,8 @@ use Prim.Native.Nat.{ℕ}
 use mathlib.Core.List.{List, [], ◌∷◌}
 use mathlib.Core.Bool.{Bool, true, false}
 use lib.ListN.{length, drop}
-use Rattle.wire.specs.declared.Header.{Header}
-use Rattle.wire.specs.declared.Header.TheVariants.{Whole, Broken}
-use Rattle.wire.specs.Header.{header_of}
+use Rattle.std.specs.Prelude.{Some, None}
+use Rattle.wire.specs.Header.{HeaderRead, header_of}
 use Rattle.kvmi.specs.declared.Settings.{Settings}
 use Rattle.kvmi.specs.declared.Change.{Change}
 use Rattle.kvmi.specs.declared.Change.TheVariants.{Nothing, SetVmEvent, WritePhysical, QueuePause, SetVcpuEvent, SetCr, SetMsr, SetPages, SetSinglestep, SetReplies, EndWait}
@@ -53,10 +52,10 @@ module _ (s : Settings) (m : Model) (rests : Rests s m) where
   judged-rests id seq d out guest lives (Fails code) = still-lives lives _ refl
   judged-rests id seq d out guest lives (Does c) = still-lives lives _ (apply-lives s m guest d c)
 
-  headed-rests : (d out guest : List ℕ) → m.closed ≡ false → (h : Header) → R (headed s m d out guest h)
+  headed-rests : (d out guest : List ℕ) → m.closed ≡ false → (h : HeaderRead) → R (headed s m d out guest h)
   unfolding headed
-  headed-rests d out guest lives Broken = λ _. refl
-  headed-rests d out guest lives (Whole id size seq) = judged-rests id seq d out guest lives (verdict s (facts_of m (length guest) (vcpu_of d)) id seq d)
+  headed-rests d out guest lives None = λ _. refl
+  headed-rests d out guest lives (Some h) = judged-rests h.id h.seq d out guest lives (verdict s (facts_of m (length guest) (vcpu_of d)) h.id h.seq d)
 
   entering-rests : (vcpu : ℕ) (block : List ℕ) (event : ℕ) (own out : List ℕ) → m.closed ≡ false → R (entering m vcpu block event own out)
   unfolding sending pausing

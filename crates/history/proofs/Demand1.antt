@@ -9,9 +9,8 @@ use mathlib.Core.Option.{Option, none}
 use lib.ListN.{length, get_or, drop, get_or-eq_default}
 use lib.Dec.{leb, ltb, eqb}
 use borrow.Author.Tests.{ltb-true, ltb-false, leb-true, leb-false, lt-ltb, le-ltb, le-leb, lt-leb, eqb-true, eq-eqb, not-true, not-false}
-use Rattle.wire.specs.Header.{header_of}
-use Rattle.wire.specs.declared.Header.{Header}
-use Rattle.wire.specs.declared.Header.TheVariants.{Whole, Broken}
+use Rattle.std.specs.Prelude.{Some, None}
+use Rattle.wire.specs.Header.{whole, HeaderRead, header_of}
 use Rattle.kvmi.specs.declared.Settings.{Settings}
 use Rattle.kvmi.specs.declared.Signal.TheVariants.{Quiet}
 use Rattle.kvmi.specs.declared.Verdict.{Verdict}
@@ -102,7 +101,7 @@ module _ (st : State) (msg out guest : List ℕ) where
       Unit {0} ∷ closing-when ∷ Closed st ∷ (Open st × (length out < least_out)) ∷ ⊥ ∷ ⊥ ∷ ⊥ ∷ ⊥ ∷ ⊥ ∷ ⊥ ∷ ⊥ ∷ ⊥ ∷ lacking-when ∷ []
 
   -- what holds of a message that tests 2 to 6 judge, by what they say
-  judged-told : (id size seq : ℕ) → Open st → least_out ≤ length out → header_of msg ≡ Whole id size seq → (v : Verdict) → said_of st msg guest id seq ≡ v
+  judged-told : (id size seq : ℕ) → Open st → least_out ≤ length out → header_of msg ≡ whole id size seq → (v : Verdict) → said_of st msg guest id seq ≡ v
       → Told-by message-by (judged_of st id seq (drop 8 msg) out guest v)
   unfolding judged_of answering_of
   judged-told id size seq o l h Closes e = (o, l, inr (id, size, seq, h, e))
@@ -113,10 +112,10 @@ module _ (st : State) (msg out guest : List ℕ) where
       by true p = (o, l, (id, size, seq, c, h, e, p))
       by false p = tt
 
-  headed-told : Open st → least_out ≤ length out → (h : Header) → header_of msg ≡ h → Told-by message-by (headed_of st (drop 8 msg) out guest h)
+  headed-told : Open st → least_out ≤ length out → (h : HeaderRead) → header_of msg ≡ h → Told-by message-by (headed_of st (drop 8 msg) out guest h)
   unfolding headed_of
-  headed-told o l Broken e = (o, l, inl e)
-  headed-told o l (Whole id size seq) e = judged-told id size seq o l e (said_of st msg guest id seq) refl
+  headed-told o l None e = (o, l, inl e)
+  headed-told o l (Some h) e = judged-told h.id h.size h.seq o l e (said_of st msg guest h.id h.seq) refl
 
   message-told : Told-by message-by r-message
   unfolding message_of
@@ -147,10 +146,10 @@ module _ (st : State) (msg out guest : List ℕ) where
   judged-numbers id seq (Fails code) = refl
   judged-numbers id seq (Does c) = few-numbers (lacks_page (signal_of c))
 
-  headed-numbers : (h : Header) → OneOf message-numbers (headed_of st (drop 8 msg) out guest h)
+  headed-numbers : (h : HeaderRead) → OneOf message-numbers (headed_of st (drop 8 msg) out guest h)
   unfolding headed_of
-  headed-numbers Broken = refl
-  headed-numbers (Whole id size seq) = judged-numbers id seq (said_of st msg guest id seq)
+  headed-numbers None = refl
+  headed-numbers (Some h) = judged-numbers h.id h.seq (said_of st msg guest h.id h.seq)
 
   message-answers : MessageAnswers st msg out guest r-message
   unfolding message_of

@@ -11,8 +11,7 @@ use lib.ListN.{get_or, drop, get_or-eq_default}
 use lib.Seq.{get_or-take, get_or-drop}
 use lib.Dec.{ltb}
 use borrow.Author.Tests.{ltb-true, ltb-false}
-use Rattle.msrs.specs.declared.Place.{Place}
-use Rattle.msrs.specs.declared.Place.TheVariants.{At, None}
+use Rattle.std.specs.Prelude.{Option, Some, None}
 use Rattle.msrs.specs.Place.{msr_place, is_msr}
 use Rattle.msrs.proofs.Ranges.{in-places}
 use Rattle.kvmi.specs.declared.Settings.{Settings}
@@ -28,7 +27,7 @@ use Rattle.session.specs.State.{State}
 use Rattle.session.specs.Meaning.{awaited_of, tables_of, model_of}
 use Rattle.message.specs.Message.{message_of}
 use Rattle.message.proofs.Kept.{message-moves}
-use Rattle.stream.specs.declared.Code.TheVariants.{Unwritten, Written}
+use Rattle.std.specs.Prelude.{Some, None as no_error}
 use Rattle.stream.specs.Line.{error_of}
 use Rattle.refine.specs.Errors.{code_of, ErrorSpares}
 use Rattle.history.specs.History.{step_of, after_of}
@@ -65,10 +64,10 @@ error-written st msg out guest code e w =
     let same : code_of st msg out guest ≡ code = written_same (sym told ∙ w) in
     subst (λ (x : ℤ). ErrorSpares st msg guest x r) same (error-spares st msg out guest (rw same e))
   where
-    some_bytes : (o : List ℕ) (count : ℕ) → error_of o count ≡ Written code → count ≡ 0 → ⊥
-    some_bytes o count h z = let h' : Unwritten ≡ Written code = rw z at h in let n : ◌≡◌ {A = ℕ} 0 1 = cc in omega arith
+    some_bytes : (o : List ℕ) (count : ℕ) → error_of o count ≡ Some code → count ≡ 0 → ⊥
+    some_bytes o count h z = let h' : no_error ≡ Some code = rw z at h in let n : ◌≡◌ {A = ℕ} 0 1 = cc in omega arith
 
-    written_same : {x y : ℤ} → Written x ≡ Written y → x ≡ y
+    written_same : {x y : ℤ} → Some x ≡ Some y → x ≡ y
     written_same q = cc
 
 -- ---- another vCPU
@@ -88,8 +87,8 @@ module _ (w x : List ℕ) (i : ℕ) (e : block x i ≡ block w i) where
   unfolding msr_bit_on switch_on
   bit-same m = step (msr_place m) refl
     where
-      step : (p : Place) → msr_place m ≡ p → read_switch x i p ≡ read_switch w i p
-      step (At place) e = rw (field-same (16 + place / 64) (omega (arith, in-places m place e)))
+      step : (p : Option ℕ) → msr_place m ≡ p → read_switch x i p ≡ read_switch w i p
+      step (Some place) e = rw (field-same (16 + place / 64) (omega (arith, in-places m place e)))
       step None e = refl
 
   msr-same : (n m : ℕ) → msr_in (msrs_of x 0 n) i m ≡ msr_in (msrs_of w 0 n) i m

@@ -12,10 +12,9 @@ use mir.Syntax.{w32}
 use mir.Val.{SFits}
 use mir.Facts.{sfits_lit}
 use borrow.Author.Tests.{leb-true, ltb-false}
+use Rattle.std.specs.Prelude.{Some, None}
 use Rattle.wire.specs.Bytes.{le, store}
-use Rattle.wire.specs.Header.{header_of}
-use Rattle.wire.specs.declared.Header.{Header}
-use Rattle.wire.specs.declared.Header.TheVariants.{Whole, Broken}
+use Rattle.wire.specs.Header.{HeaderRead, header_of}
 use Rattle.wire.proofs.Laws.{store-start, le_join}
 use Rattle.kvmi.specs.declared.Settings.{Settings}
 use Rattle.kvmi.specs.declared.Facts.{Facts}
@@ -41,7 +40,7 @@ use Rattle.session.specs.State.{State, is_closed}
 use Rattle.session.specs.Calls.{Told, told_same}
 use Rattle.change.specs.Change.{pages_by, change}
 use Rattle.message.specs.Message.{facts_in, code_by, answering_of, judged_of, headed_of, message_of}
-use Rattle.stream.specs.declared.Code.TheVariants.{Written}
+use Rattle.std.specs.Prelude.{Some}
 use Rattle.stream.specs.Line.{error_of}
 use Rattle.refine.specs.Errors.{code_headed, code_of, Spared, ErrorSpares}
 use Rattle.refine.proofs.Theorems.{error-spares}
@@ -116,7 +115,7 @@ module _ (next id seq : ℕ) (d : List ℕ) where
   no-event code (inr l) h = absurd (omega arith)
 
   code_in : (mode : ReplyMode) (code : ℤ) (rest : List ℕ) → SFits w32 code → Known code → (length (answer_bytes mode next id seq code d) ≡ 0 → ⊥)
-      → error_of (answer_bytes mode next id seq code d ++ rest) (length (answer_bytes mode next id seq code d)) ≡ Written code
+      → error_of (answer_bytes mode next id seq code d ++ rest) (length (answer_bytes mode next id seq code d)) ≡ Some code
   unfolding answer_bytes
   code_in On code rest f k ne =
       let e = short-id On next id seq code d in
@@ -129,7 +128,7 @@ module _ (next id seq : ℕ) (d : List ℕ) where
 
   -- written at the front of an output that has room
   abbrev Said : List ℕ → List ℕ → ℤ → Type 0
-  Said out bytes code = length bytes ≤ length out → (length bytes ≡ 0 → ⊥) → error_of (store out 0 bytes) (length bytes) ≡ Written code
+  Said out bytes code = length bytes ≤ length out → (length bytes ≡ 0 → ⊥) → error_of (store out 0 bytes) (length bytes) ≡ Some code
 
   code-said : (kind : ReplyKind) (mode : ReplyMode) (code : ℤ) (out : List ℕ) → SFits w32 code → Known code → Said out (answer_of kind mode next id seq code d) code
   unfolding answer_of
@@ -186,10 +185,10 @@ code-written st msg out guest = by-refusal (is_closed st) (ltb (length out) leas
     d : List ℕ
     d = drop 8 msg
 
-    by-header : least_out ≤ length out → (h : Header) → Coded (headed_of st d out guest h) (code_headed st guest d h)
-    by-header long Broken ne = absurd (ne refl)
-    by-header long (Whole id size seq) ne =
-        let f = facts_in st (length guest) (vcpu_of d) in verdict-code st guest d out long id seq f (verdict-fits st.session.settings f id seq d) ne
+    by-header : least_out ≤ length out → (h : HeaderRead) → Coded (headed_of st d out guest h) (code_headed st guest d h)
+    by-header long None ne = absurd (ne refl)
+    by-header long (Some h) ne =
+        let f = facts_in st (length guest) (vcpu_of d) in verdict-code st guest d out long h.id h.seq f (verdict-fits st.session.settings f h.id h.seq d) ne
 
     by-refusal : (closed short : Bool) → (short ≡ false → least_out ≤ length out)
         → Coded (cond closed (told_same 2 st out guest) (cond short (told_same 3 st out guest) (headed_of st d out guest (header_of msg))))

@@ -10,21 +10,20 @@ use lib.ListN.{length, get_or, set, take, drop, replicate, get_or-eq_default}
 use lib.Seq.{get_or-set_same, get_or-set_other, set_out, take-append_seam}
 use lib.Dec.{leb, ltb, eqb}
 use borrow.Author.Tests.{ltb-true, ltb-false, eqb-true, eqb-false, eq-eqb, ne_eqb, leb-true, le-leb, le-ltb, not-true}
+use Rattle.std.specs.Prelude.{Some, None}
 use Rattle.wire.specs.Bytes.{load}
-use Rattle.wire.specs.Header.{header_of}
-use Rattle.wire.specs.declared.Header.{Header}
-use Rattle.wire.specs.declared.Header.TheVariants.{Whole, Broken}
+use Rattle.wire.specs.Header.{whole as whole_header, HeaderRead, header_of}
 use Rattle.kvmi.specs.declared.ReplyMode.{ReplyMode}
 use Rattle.kvmi.specs.declared.Settings.{Settings}
 use Rattle.kvmi.specs.declared.Facts.{Facts}
 use Rattle.kvmi.specs.declared.EventRow.{EventRow}
 use Rattle.kvmi.specs.declared.ReplyMode.TheVariants.{On}
-use Rattle.kvmi.specs.declared.Signal.TheVariants.{Quiet, Crash, Resume}
+use Rattle.kvmi.specs.declared.Signal.TheVariants.{Quiet, Crash}
 use Rattle.kvmi.specs.declared.Change.{Change}
 use Rattle.kvmi.specs.declared.Change.TheVariants.{EndWait}
 use Rattle.kvmi.specs.declared.Verdict.{Verdict}
 use Rattle.kvmi.specs.declared.Verdict.TheVariants.{Closes, Fails, Does}
-use Rattle.kvmi.specs.Answer.{Paper, handled, plain, with_padding}
+use Rattle.kvmi.specs.Answer.{Paper, handled, plain, with_padding, resume}
 use Rattle.kvmi.specs.Bits.{every, among}
 use Rattle.kvmi.specs.Limits.{least_out}
 use Rattle.kvmi.specs.Settings.{allows_command}
@@ -193,14 +192,14 @@ module _ (s : Settings) (m : Model) (vcpu : ℕ) (waits : is_some (awaited_by m 
   abbrev Waits : Step → Type 0
   Waits r = r.model.closed ≡ false → awaited_by r.model vcpu ≡ awaited_by m vcpu
 
-  headed-waits : (msg out guest : List ℕ) → (HasId msg 16 → vcpu_of (drop 8 msg) ≢ vcpu) → (h : Header) → header_of msg ≡ h → Waits (headed s m (drop 8 msg) out guest h)
+  headed-waits : (msg out guest : List ℕ) → (HasId msg 16 → vcpu_of (drop 8 msg) ≢ vcpu) → (h : HeaderRead) → header_of msg ≡ h → Waits (headed s m (drop 8 msg) out guest h)
   unfolding headed judged answering apply
-  headed-waits msg out guest other Broken w = λ o. absurd (true≢false o)
-  headed-waits msg out guest other (Whole id size seq) w =
+  headed-waits msg out guest other None w = λ o. absurd (true≢false o)
+  headed-waits msg out guest other (Some h) w =
       let d = drop 8 msg in
-      verdict-cases (λ v. Waits (judged s m id seq d out guest v)) s (facts_of m (length guest) (vcpu_of d)) id seq d (λ o. absurd (true≢false o)) (λ code _ _. refl)
-      (λ _ _. ap (λ (l : List (Option Awaited)). get_or l vcpu none) (change-waits s m guest d id))
-      (λ p _. let gone = other (size, seq, w ∙ ap (λ (n : ℕ). Whole n size seq) p.reply) in
+      verdict-cases (λ v. Waits (judged s m h.id h.seq d out guest v)) s (facts_of m (length guest) (vcpu_of d)) h.id h.seq d (λ o. absurd (true≢false o)) (λ code _ _. refl)
+      (λ _ _. ap (λ (l : List (Option Awaited)). get_or l vcpu none) (change-waits s m guest d h.id))
+      (λ p _. let gone = other (h.size, h.seq, w ∙ ap (λ (n : ℕ). whole_header n h.size h.seq) p.reply) in
       get_or-set_other m.awaited (vcpu_of d) vcpu none none (λ e. gone (sym e)))
 
   -- an entry of another vCPU leaves its record
@@ -250,12 +249,12 @@ module _ (s : Settings) (m : Model) (known : KnownEvents m) where
   set_known : (v : ℕ) (a : Option Awaited) → So (is_known a) → So (every is_known (set m.awaited v a))
   set_known v a h = every_set is_known m.awaited v a h known
 
-  headed-known : (d out guest : List ℕ) (h : Header) → K (headed s m d out guest h)
+  headed-known : (d out guest : List ℕ) (h : HeaderRead) → K (headed s m d out guest h)
   unfolding headed judged answering apply
-  headed-known d out guest Broken = every-replicate is_known s.vcpus none refl
-  headed-known d out guest (Whole id size seq) =
-      verdict-cases (λ v. K (judged s m id seq d out guest v)) s (facts_of m (length guest) (vcpu_of d)) id seq d (every-replicate is_known s.vcpus none refl) (λ _ _. known)
-      (λ _. subst (λ (l : List (Option Awaited)). So (every is_known l)) (sym (change-waits s m guest d id)) known) (λ _. set_known (vcpu_of d) none refl)
+  headed-known d out guest None = every-replicate is_known s.vcpus none refl
+  headed-known d out guest (Some h) =
+      verdict-cases (λ v. K (judged s m h.id h.seq d out guest v)) s (facts_of m (length guest) (vcpu_of d)) h.id h.seq d (every-replicate is_known s.vcpus none refl) (λ _ _. known)
+      (λ _. subst (λ (l : List (Option Awaited)). So (every is_known l)) (sym (change-waits s m guest d h.id)) known) (λ _. set_known (vcpu_of d) none refl)
 
   entering-known : (v : ℕ) (block : List ℕ) (event : ℕ) (own out : List ℕ) → offer_fits event own ≡ true → K (entering m v block event own out)
   unfolding sending pausing
@@ -332,7 +331,7 @@ reply-answers s m seq d out guest (Does c) = refl
 abbrev reply_answer : Bool → List ℕ → Option Awaited → ℕ → ℕ → List ℕ → Paper
 reply_answer closed out a guest seq d = cond closed (plain 2) (cond (ltb (length out) least_out) (plain 3) (answer_by (says_of a guest seq d)))
 
-reply-answer : (s : Settings) (m : Model) (msg out guest : List ℕ) (size seq : ℕ) → header_of msg ≡ Whole 16 size seq
+reply-answer : (s : Settings) (m : Model) (msg out guest : List ℕ) (size seq : ℕ) → header_of msg ≡ whole_header 16 size seq
     → (step s m (message msg out guest)).answer ≡ reply_answer m.closed out (awaited_by m (vcpu_of (drop 8 msg))) (length guest) seq (drop 8 msg)
 unfolding step message_step headed
 reply-answer s m msg out guest size seq w =
@@ -340,7 +339,7 @@ reply-answer s m msg out guest size seq w =
     let v = verdict s (facts_of m (length guest) (vcpu_of d)) 16 seq d in
     let own = ap (λ (n : ℕ). with_padding n (judged s m 16 seq d out guest v).answer) (reply-unreported s m.mode d) ∙ reply-answers s m seq d out guest v ∙ ap answer_by (reply-verdict s m (length guest) (vcpu_of d) seq d) in
     let Same : Step → Paper → Type 0 = λ r p. r.answer ≡ p in
-    let here : Step = headed s m d out guest (Whole 16 size seq) in
+    let here : Step = headed s m d out guest (whole_header 16 size seq) in
     rw w
     (both Same m.closed (unchanged 2 m out guest) (cond (ltb (length out) least_out) (unchanged 3 m out guest) here) _ _ (λ _. refl)
     (λ _. both Same (ltb (length out) least_out) (unchanged 3 m out guest) here _ _ (λ _. refl) (λ _. own)))
@@ -513,7 +512,7 @@ reply-closes s m known msg out guest (size, seq, w) o long misses =
         let action : takes_action (event_row_of a.event) (action_of (drop 8 msg)) ≡ true = search (and_l, and_r) in
         misses (vcpu_of (drop 8 msg)) a.event a.seq a.fault e
         (record {
-          header = (size, w ∙ ap (λ (n : ℕ). Whole 16 size n) (sym same));
+          header = (size, w ∙ ap (λ (n : ℕ). whole_header 16 size n) (sym same));
           names = refl;
           padding = eqb-true (first_padding 16 (drop 8 msg)) 0 (search (and_l, and_r));
           of = sym (eqb-true a.event (replied_event (drop 8 msg)) (search (and_l, and_r)));
@@ -641,7 +640,7 @@ stands-resumed : (s : Settings) (st : State) (m : Model) → Stands s st m → R
     → (msg out' guest : List ℕ) → Replies vcpu event m.seq msg → least_out ≤ length out'
     → (step_of (after_of r.state between) (message msg out' guest)).answer
     ≡ handled 0
-    (cond (eqb (action_of (drop 8 msg)) 2) (Crash vcpu) (Resume vcpu (action_of (drop 8 msg)) (value_in event (drop 8 msg)) (fed_by event (kept_of event own) (length guest) (drop 8 msg))))
+    (cond (eqb (action_of (drop 8 msg)) 2) (Crash vcpu) (resume vcpu (action_of (drop 8 msg)) (value_in event (drop 8 msg)) (fed_by event (kept_of event own) (length guest) (drop 8 msg))))
 stands-resumed s st m f rests known vcpu block event own out h on between none-replies o msg out' guest q long =
     let c = enter vcpu block event own out in
     let k = (step s m c).model in

@@ -10,7 +10,6 @@ use lib.Seq.{get_or-take, get_or-drop}
 use lib.Dec.{leb, ltb, eqb}
 use borrow.Author.Tests.{eq-eqb, ne_eqb, le-leb, le-ltb, not-false}
 use Rattle.wire.specs.Header.{header_of}
-use Rattle.wire.specs.declared.Header.TheVariants.{Whole}
 use Rattle.kvmi.specs.declared.Settings.{Settings}
 use Rattle.kvmi.specs.declared.Facts.{Facts}
 use Rattle.kvmi.specs.declared.Verdict.TheVariants.{Fails}

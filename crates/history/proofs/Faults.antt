@@ -10,16 +10,17 @@ use lib.ListN.{length, take, drop, length-drop, length-take}
 use lib.Seq.{drop-drop, take-take, take-nil}
 use lib.Dec.{leb, ltb, eqb}
 use borrow.Author.Tests.{ltb-true, lt-ltb, leb-true, eqb-true, ne_eqb}
+use Rattle.std.specs.Prelude.{◌≢◌, Some, None}
 use Rattle.wire.specs.Bytes.{load, store}
-use Rattle.wire.specs.Header.{header_of}
-use Rattle.wire.specs.declared.Header.{Header}
-use Rattle.wire.specs.declared.Header.TheVariants.{Whole, Broken}
+use Rattle.wire.specs.Header.{whole as whole_header, HeaderRead, header_of}
 use Rattle.wire.proofs.Laws.{load-drop, store-none}
 use Rattle.kvmi.specs.declared.Feed.{Feed}
+use Rattle.kvmi.specs.declared.Source.{Source}
+use Rattle.kvmi.specs.declared.Source.TheVariants.{Unfed, Message, Guest, Missing}
 use Rattle.kvmi.specs.declared.Settings.{Settings}
 use Rattle.kvmi.specs.declared.Signal.{Signal}
 use Rattle.kvmi.specs.declared.Signal.TheVariants.{Quiet, Kick, Crash, Resume}
-use Rattle.kvmi.specs.Answer.{Paper, handled, lacks_page}
+use Rattle.kvmi.specs.Answer.{Paper, handled, lacks_page, is_missing, resume}
 use Rattle.kvmi.specs.Bits.{is_on, every}
 use Rattle.kvmi.specs.Limits.{least_out}
 use Rattle.kvmi.specs.Tables.{Page, event_on, access_in, access}
@@ -27,7 +28,7 @@ use Rattle.kvmi.specs.Image.{pa_form, pa_may}
 use Rattle.kvmi.specs.Valid.{pa_good}
 use Rattle.history.proofs.Lists.{stands-valid, after-stands, began-stands}
 use Rattle.kvmi.specs.Model.{Awaited, Model, awaiting, awaited_by}
-use Rattle.kvmi.specs.Feed.{Fault, unfed, missing, address_of, supplied_size, in_context, page_exists, page_feed, chosen_feed, wants_bytes, feed_of}
+use Rattle.kvmi.specs.Feed.{Fault, unfed, missing, is_message, address_of, supplied_size, in_context, page_exists, page_feed, chosen_feed, wants_bytes, feed_of}
 use Rattle.kvmi.specs.declared.Change.TheVariants.{EndWait}
 use Rattle.kvmi.specs.declared.Verdict.{Verdict}
 use Rattle.kvmi.specs.declared.Verdict.TheVariants.{Closes, Does}
@@ -60,7 +61,7 @@ use Rattle.laws.proofs.Bool.{and_l, and_r, test, clash, every-head, every-tail}
 use Rattle.refine.proofs.Simulate.{both}
 use Rattle.history.specs.History.{step_of, after_of, BeganOn}
 use Rattle.history.specs.Events.{switches_on, signalled, Replies}
-use Rattle.history.specs.Faults.{Names, feed_of_signal, without_feed, Lies, Lacked, ButFeed, Faults}
+use Rattle.history.specs.Faults.{Names, feed_of_signal, feed_of_resume, without_feed, Lies, Lacked, ButFeed, Faults}
 use Rattle.history.proofs.Events.{asks, says_of, reply-verdict, events}
 
 -- ---- the part that a choice names
@@ -86,19 +87,19 @@ module _ (msg guest : List ℕ) (gva gpa : ℕ) (long : length (drop 8 msg) ≡ 
       let b = in-to gva (address_in msg) (size_in msg) i in
       let n : size_in msg ≤ 256 = rw same_size at few in
       let w = whole in
-      rw i (record { source = omega arith; of_message = λ _. record { inside = omega arith; any = omega arith; same = refl }; of_guest = λ e. absurd (omega arith) }))
+      rw i (record { of_message = λ _. record { inside = omega arith; any = omega arith; same = refl }; of_guest = λ e. absurd (cc) }))
       (λ i. rw i
       (test (page_exists (length guest) gpa)
       (λ p. let l = page-inside p in
-      rw p (record { source = omega arith; of_message = λ e. absurd (omega arith); of_guest = λ _. record { inside = omega arith; any = omega arith; same = refl } }))
-      (λ p. rw p (record { source = omega arith; of_message = λ e. absurd (omega arith); of_guest = λ e. absurd (omega arith) })))))
+      rw p (record { of_message = λ e. absurd (cc); of_guest = λ _. record { inside = omega arith; any = omega arith; same = refl } }))
+      (λ p. rw p (record { of_message = λ e. absurd (cc); of_guest = λ e. absurd (cc) })))))
     where
       page-inside : page_exists (length guest) gpa ≡ true → (gpa / 4096 + 1) * 4096 ≤ length guest
       page-inside p = leb-true ((gpa / 4096 + 1) * 4096) (length guest) (unfold page_exists in p)
 
 -- no bytes are named where none are wanted
 none_named : (msg guest bytes : List ℕ) → Names msg guest unfed bytes
-none_named msg guest bytes = record { source = omega arith; of_message = λ e. absurd (omega arith); of_guest = λ e. absurd (omega arith) }
+none_named msg guest bytes = record { of_message = λ e. absurd (cc); of_guest = λ e. absurd (cc) }
 
 -- ---- what is signalled for a fault's reply
 feed-signalled : (vcpu : ℕ) (fault : Fault) (guest : ℕ) (d : List ℕ)
@@ -110,11 +111,17 @@ feed-signalled vcpu fault guest d =
     rw (e, other))
     (λ e. rw e)
 
-lacks-signalled : (g : Signal) → lacks_page g ≡ eqb (feed_of_signal g).source 3
+is-missing : (s : Source) → is_missing s ≡ true → s ≡ Missing
+is-missing Unfed h = cc
+is-missing Message h = cc
+is-missing Guest h = cc
+is-missing Missing h = refl
+
+lacks-signalled : (g : Signal) → lacks_page g ≡ is_missing (feed_of_signal g).source
 lacks-signalled Quiet = refl
 lacks-signalled (Kick wait vcpu) = refl
 lacks-signalled (Crash vcpu) = refl
-lacks-signalled (Resume vcpu action value feed) = refl
+lacks-signalled (Resume r) = refl
 
 -- ---- a fault's reply that is taken
 module _ (s : Settings) (st : State) (m : Model) (began : BeganOn s st m) (cs : List Call) (vcpu seq : ℕ) (fault : Fault) (msg out guest : List ℕ)
@@ -146,23 +153,23 @@ module _ (s : Settings) (st : State) (m : Model) (began : BeganOn s st m) (cs : 
   both-wants q = rw (q.0, q.1)
 
   -- a choice has a source
-  chosen-source : 0 < (chosen_feed fault.gva fault.gpa (length guest) data_of).source
+  chosen-source : (chosen_feed fault.gva fault.gpa (length guest) data_of).source ≢ Unfed
   unfolding chosen_feed page_feed
   chosen-source =
-      test (in_context fault.gva (address_of data_of) (supplied_size data_of)) (λ i. rw i (omega arith))
-      (λ i. rw i (test (page_exists (length guest) fault.gpa) (λ p. rw p (omega arith)) (λ p. rw p (omega arith))))
+      test (in_context fault.gva (address_of data_of) (supplied_size data_of)) (λ i. rw i (λ e. cc))
+      (λ i. rw i (test (page_exists (length guest) fault.gpa) (λ p. rw p (λ e. cc)) (λ p. rw p (λ e. cc))))
 
-  fed-wanted : (0 < (feed_of_signal given.signal).source) ↔ ((action_of data_of ≡ 0) × (is_on fault.access 0 ≡ true))
+  fed-wanted : ((feed_of_signal given.signal).source ≢ Unfed) ↔ ((action_of data_of ≡ 0) × (is_on fault.access 0 ≡ true))
   fed-wanted = (
-    λ l. test wants wants-both (λ w. let z : (feed_of_signal given.signal).source ≡ 0 = ap (λ (f : Feed). f.source) fed-is ∙ rw w in absurd (omega arith)),
-    λ q. subst (λ (f : Feed). 0 < f.source) (sym fed-is) (rw (both-wants q) chosen-source),
+    λ l. test wants wants-both (λ w. let z : (feed_of_signal given.signal).source ≡ Unfed = ap (λ (f : Feed). f.source) fed-is ∙ rw w in absurd (l z)),
+    λ q. subst (λ (f : Feed). f.source ≢ Unfed) (sym fed-is) (rw (both-wants q) chosen-source),
   )
 
   -- which choice is missing
-  abbrev Missing : Type 0
-  Missing = (in_context fault.gva (load 8 msg 24) (load 4 msg 32) ≡ false) × (page_exists (length guest) fault.gpa ≡ false)
+  abbrev Lacking : Type 0
+  Lacking = (in_context fault.gva (load 8 msg 24) (load 4 msg 32) ≡ false) × (page_exists (length guest) fault.gpa ≡ false)
 
-  chosen-missing : (eqb (chosen_feed fault.gva fault.gpa (length guest) data_of).source 3 ≡ true) ↔ Missing
+  chosen-missing : (is_missing (chosen_feed fault.gva fault.gpa (length guest) data_of).source ≡ true) ↔ Lacking
   unfolding chosen_feed page_feed
   chosen-missing =
       rw (same_address msg guest fault.gva fault.gpa fits.size (fits.context refl).size, same_size msg guest fault.gva fault.gpa fits.size (fits.context refl).size)
@@ -170,22 +177,22 @@ module _ (s : Settings) (st : State) (m : Model) (began : BeganOn s st m) (cs : 
       (λ i. rw i
       (test (page_exists (length guest) fault.gpa) (λ p. rw p (λ e. absurd (clash e refl), λ q. clash refl q.1)) (λ p. rw p (λ _. (refl, refl), λ _. refl)))))
 
-  number_is : given.number ≡ cond (eqb (feed_of_signal given.signal).source 3) 12 0
+  number_is : given.number ≡ cond (is_missing (feed_of_signal given.signal).source) 12 0
   number_is =
       ap (λ (p : Paper). p.number) answered
-      ∙ ap (λ (b : Bool). cond b 12 0) (lacks-signalled (signalled vcpu 10 fault (length guest) data_of) ∙ ap (λ (p : Paper). eqb (feed_of_signal p.signal).source 3) (sym answered))
+      ∙ ap (λ (b : Bool). cond b 12 0) (lacks-signalled (signalled vcpu 10 fault (length guest) data_of) ∙ ap (λ (p : Paper). is_missing (feed_of_signal p.signal).source) (sym answered))
 
   fed-missing : (given.number ≡ 12) ↔ ((action_of data_of ≡ 0) × (is_on fault.access 0 ≡ true) × (in_context fault.gva (load 8 msg 24) (load 4 msg 32) ≡ false)
       × (page_exists (length guest) fault.gpa ≡ false))
   fed-missing =
-      let source = ap (λ (f : Feed). eqb f.source 3) fed-is in (
+      let source = ap (λ (f : Feed). is_missing f.source) fed-is in (
         λ n. test wants
-            (λ w. let three : eqb (feed_of_signal given.signal).source 3 ≡ true = twelve (eqb (feed_of_signal given.signal).source 3) (sym number_is ∙ n) in
+            (λ w. let three : is_missing (feed_of_signal given.signal).source ≡ true = twelve (is_missing (feed_of_signal given.signal).source) (sym number_is ∙ n) in
             let lacks = chosen-missing.0 (sym (source ∙ rw w) ∙ three) in
             ((wants-both w).0, (wants-both w).1, lacks.0, lacks.1))
-            (λ w. let three : eqb (feed_of_signal given.signal).source 3 ≡ true = twelve (eqb (feed_of_signal given.signal).source 3) (sym number_is ∙ n) in
+            (λ w. let three : is_missing (feed_of_signal given.signal).source ≡ true = twelve (is_missing (feed_of_signal given.signal).source) (sym number_is ∙ n) in
             clash three (source ∙ rw w)),
-        λ q. let three : eqb (feed_of_signal given.signal).source 3 ≡ true = source ∙ rw (both-wants (q.0, q.1)) (chosen-missing.1 (q.2, q.3)) in
+        λ q. let three : is_missing (feed_of_signal given.signal).source ≡ true = source ∙ rw (both-wants (q.0, q.1)) (chosen-missing.1 (q.2, q.3)) in
             number_is ∙ ap (λ (b : Bool). cond {A = ℕ} b 12 0) three,
       )
     where
@@ -277,19 +284,18 @@ part_moved input start n at k l =
     ap (λ (x : List ℕ). take k x) (drop-taken at n (drop start input)) ∙ take-take k (n - at) (drop at (drop start input)) (omega arith)
     ∙ ap (λ (x : List ℕ). take k x) (drop-drop at start input)
 
-feed-back : (start : ℕ) (g : Signal) → feed_in start (feed_of_signal g) ≡ feed_of_signal (resume_of start g)
+feed-back : (start : ℕ) (g : Signal) → feed_in start (feed_of_signal g) ≡ feed_of_resume (resume_of start g)
 feed-back start Quiet = refl
 feed-back start (Kick wait vcpu) = refl
 feed-back start (Crash vcpu) = refl
-feed-back start (Resume vcpu action value feed) = refl
+feed-back start (Resume r) = refl
 
 feed-moved : (input guest : List ℕ) (start n : ℕ) (f : Feed) (bytes : List ℕ) → Names (take n (drop start input)) guest f bytes → Names input guest (feed_in start f) bytes
 feed-moved input guest start n f bytes h =
     record {
-      source = h.source;
       of_message = λ one.
           let p = h.of_message one in
-          let e : cond (eqb f.source 1) (start + f.at) f.at ≡ start + f.at = rw one in
+          let e : cond (is_message f.source) (start + f.at) f.at ≡ start + f.at = rw one in
           record {
             inside = rw e (part-inside input start n f.at f.length p.inside p.any);
             any = p.any;
@@ -297,14 +303,14 @@ feed-moved input guest start n f bytes h =
           };
       of_guest = λ two.
           let p = h.of_guest two in
-          let e : cond (eqb f.source 1) (start + f.at) f.at ≡ f.at = rw two in
+          let e : cond (is_message f.source) (start + f.at) f.at ≡ f.at = rw two in
           record { inside = rw e p.inside; any = p.any; same = rw e p.same };
     }
 
 turn-names : (input : List ℕ) (b : Batch State) (bytes : List ℕ)
     → let r = message_of b.state (next_of input b) (out_left b) b.guest in
     let e = turn_of message_takes input b in
-    Names (next_of input b) r.guest (feed_of_signal r.answer.signal) bytes → Names input e.guest (feed_of_signal e.resume) bytes
+    Names (next_of input b) r.guest (feed_of_signal r.answer.signal) bytes → Names input e.guest (feed_of_resume e.resume) bytes
 unfolding turn_of
 turn-names input b bytes h =
     let r = message_of b.state (next_of input b) (out_left b) b.guest in
@@ -314,22 +320,21 @@ turn-names input b bytes h =
 -- ---- any session: what a message's verdict names
 -- what a form's choice has, but for its place in the message
 record Rest (guest : ℕ) (x : Feed) : Type 0 where
-  source : x.source ≤ 3
-  of_guest : x.source ≡ 2 → x.at + x.length ≤ guest
-  of_none : x.source ≡ 3 → x.length ≡ 0
+  of_guest : x.source ≡ Guest → x.at + x.length ≤ guest
+  of_none : x.source ≡ Missing → x.length ≡ 0
 
 unfed-rests : (guest : ℕ) → Rest guest unfed
-unfed-rests guest = record { source = omega arith; of_guest = λ e. absurd (omega arith); of_none = λ e. absurd (omega arith) }
+unfed-rests guest = record { of_guest = λ e. absurd (cc); of_none = λ e. absurd (cc) }
 
 chosen-rests : (gva gpa guest : ℕ) (d : List ℕ) → Rest guest (chosen_feed gva gpa guest d)
 unfolding chosen_feed page_feed page_exists
 chosen-rests gva gpa guest d =
     pick (Rest guest) (in_context gva (address_of d) (supplied_size d)) _ _
-    (λ _. record { source = omega arith; of_guest = λ e. absurd (omega arith); of_none = λ e. absurd (omega arith) })
+    (λ _. record { of_guest = λ e. absurd (cc); of_none = λ e. absurd (cc) })
     (λ _. pick (Rest guest) (leb ((gpa / 4096 + 1) * 4096) guest) _ _
     (λ p. let l = leb-true ((gpa / 4096 + 1) * 4096) guest p in
-    record { source = omega arith; of_guest = λ _. omega arith; of_none = λ e. absurd (omega arith) })
-    (λ _. record { source = omega arith; of_guest = λ e. absurd (omega arith); of_none = λ _. refl }))
+    record { of_guest = λ _. omega arith; of_none = λ e. absurd (cc) })
+    (λ _. record { of_guest = λ e. absurd (cc); of_none = λ _. refl }))
 
 form-rests : (form : ReplyForm) (f : Facts) (d : List ℕ) → Rest f.guest (feed_by form f d)
 unfolding feed_of
@@ -355,10 +360,10 @@ command-unfed id d =
 -- a reply's signal names its feed, or nothing
 reply-feeds : (P : Feed → Type 0) (resumes : Bool) (vcpu action value : ℕ) (f : Feed) → P unfed → P f → P (feed_of_signal (reply_signal resumes vcpu action value f))
 reply-feeds P resumes vcpu action value f n y =
-    pick (λ (g : Signal). P (feed_of_signal g)) (eqb action 2) _ _ (λ _. n) (λ _. pick (λ (g : Signal). P (feed_of_signal g)) resumes (Resume vcpu action value f) Quiet (λ _. y) (λ _. n))
+    pick (λ (g : Signal). P (feed_of_signal g)) (eqb action 2) _ _ (λ _. n) (λ _. pick (λ (g : Signal). P (feed_of_signal g)) resumes (resume vcpu action value f) Quiet (λ _. y) (λ _. n))
 
 unfed-lies : (msg guest : List ℕ) → Lies msg guest unfed
-unfed-lies msg guest = record { source = omega arith; of_message = λ e. absurd (omega arith); of_guest = λ e. absurd (omega arith); of_none = λ e. absurd (omega arith) }
+unfed-lies msg guest = record { of_message = λ e. absurd (cc); of_guest = λ e. absurd (cc); of_none = λ e. absurd (cc) }
 
 answer-seq : (mode : ReplyMode) (n : ℕ) → answer_seq mode n OK ≡ n
 unfolding answer_seq
@@ -388,16 +393,15 @@ module _ (st : State) (msg out guest : List ℕ) where
       let long = length-drop 8 msg in
       reply-feeds (Lies msg guest) (not (eqb facts.awaited 2)) (vcpu_of body) (action_of body) (value_of form body) x (unfed-lies msg guest)
       (record {
-        source = rest.source;
         of_message = λ one. let i = inside one in let whole = i.0 in let few = i.1 in omega arith;
         of_guest = rest.of_guest;
         of_none = rest.of_none;
       }))
 
-  headed-lies : (h : Header) → Lies msg guest (feed_of_signal (headed_of st body out guest h).answer.signal)
+  headed-lies : (h : HeaderRead) → Lies msg guest (feed_of_signal (headed_of st body out guest h).answer.signal)
   unfolding headed_of
-  headed-lies Broken = unfed-lies msg guest
-  headed-lies (Whole id size seq) = judged-lies id size seq
+  headed-lies None = unfed-lies msg guest
+  headed-lies (Some h) = judged-lies h.id h.size h.seq
 
   message-lies : Lies msg guest (feed_of_signal (message_of st msg out guest).answer.signal)
   unfolding message_of
@@ -422,31 +426,31 @@ module _ (st : State) (msg out guest : List ℕ) where
   abbrev L12 : Told → Type 0
   L12 r = r.answer.number ≡ 12 → Lacked st msg out guest r
 
-  lacks-source : (g : Signal) → cond {A = ℕ} (lacks_page g) 12 0 ≡ 12 → (feed_of_signal g).source ≡ 3
-  lacks-source g n = eqb-true (feed_of_signal g).source 3 (sym (lacks-signalled g) ∙ yes (lacks_page g) n)
+  lacks-source : (g : Signal) → cond {A = ℕ} (lacks_page g) 12 0 ≡ 12 → (feed_of_signal g).source ≡ Missing
+  lacks-source g n = is-missing (feed_of_signal g).source (sym (lacks-signalled g) ∙ yes (lacks_page g) n)
     where
       yes : (b : Bool) → ◌≡◌ {A = ℕ} (cond b 12 0) 12 → b ≡ true
       yes true h = refl
       yes false h = absurd (omega arith)
 
-  judged-lacked : (id size seq : ℕ) → header_of msg ≡ Whole id size seq → L12 (here id seq (verdict st.session.settings facts id seq body))
+  judged-lacked : (id size seq : ℕ) → header_of msg ≡ whole_header id size seq → L12 (here id seq (verdict st.session.settings facts id seq body))
   unfolding judged_of answering_of change
   judged-lacked id size seq w =
       verdict-cases (λ v. L12 (here id seq v)) st.session.settings facts id seq body (λ n. absurd (omega arith)) (λ _ _ n. absurd (omega arith))
-      (λ _ n. let z = lacks-source (signal_of (change_of id body)) n in let u = ap (λ (f : Feed). f.source) (command-unfed id body) in absurd (omega arith))
+      (λ _ n. let z = lacks-source (signal_of (change_of id body)) n in let u = ap (λ (f : Feed). f.source) (command-unfed id body) in absurd (cc))
       (λ p n. let form = (event_row_of facts.awaited).form in
       let x = feed_by form facts body in
       let g = reply_signal (not (eqb facts.awaited 2)) (vcpu_of body) (action_of body) (value_of form body) x in
       let three = lacks-source g n in
       let empty : (feed_of_signal g).length ≡ 0
-      = reply-feeds (λ (f : Feed). f.source ≡ 3 → f.length ≡ 0) (not (eqb facts.awaited 2)) (vcpu_of body) (action_of body) (value_of form body) x (λ e. absurd (omega arith))
+      = reply-feeds (λ (f : Feed). f.source ≡ Missing → f.length ≡ 0) (not (eqb facts.awaited 2)) (vcpu_of body) (action_of body) (value_of form body) x (λ e. absurd (cc))
       (form-rests form facts body).of_none three in
       let mode = mode_of_number st.session.tool.mode in
       let sixteen = p.reply in
       let silent : answer_of (layout_of id).reply mode st.session.tool.seq id seq OK (reply_data st.session.settings guest id body) ≡ []
       = rw sixteen (unfold layout_of in unfold answer_of in refl) in
       record {
-        of = (size, seq, w ∙ ap (λ (k : ℕ). Whole k size seq) sixteen);
+        of = (size, seq, w ∙ ap (λ (k : ℕ). whole_header k size seq) sixteen);
         count = ap length silent;
         bytes = empty;
         output = ap (λ (l : List ℕ). store out 0 l) silent ∙ store-none out 0;
@@ -459,10 +463,10 @@ module _ (st : State) (msg out guest : List ℕ) where
       let x = h n in
       record { of = x.of; count = x.count; bytes = x.bytes; output = x.output; memory = x.memory; state = x.state }
 
-  headed-lacked : (h : Header) → header_of msg ≡ h → L12 (headed_of st body out guest h)
+  headed-lacked : (h : HeaderRead) → header_of msg ≡ h → L12 (headed_of st body out guest h)
   unfolding headed_of
-  headed-lacked Broken w = λ n. absurd (omega arith)
-  headed-lacked (Whole id size seq) w = reporting-lacked _ _ (judged-lacked id size seq w)
+  headed-lacked None w = λ n. absurd (omega arith)
+  headed-lacked (Some h) w = reporting-lacked _ _ (judged-lacked h.id h.size h.seq w)
 
   message-lacked : L12 (message_of st msg out guest)
   unfolding message_of

@@ -7,9 +7,8 @@ use mathlib.Core.Bool.{Bool, true, false, cond, not, ◌&&◌, So, and-false, or
 use lib.ListN.{length, get_or, set, drop}
 use lib.Dec.{eqb}
 use borrow.Author.Tests.{lt-ltb, le-ltb, not-false}
-use Rattle.msrs.specs.declared.Place.{Place}
-use Rattle.msrs.specs.declared.Place.TheVariants.{At, None}
-use Rattle.msrs.specs.Place.{msr_place, is_at, is_msr, msr_at}
+use Rattle.std.specs.Prelude.{Option, Some, None, is_some}
+use Rattle.msrs.specs.Place.{msr_place, is_msr, msr_at}
 use Rattle.msrs.specs.Places.{in_ranges}
 use Rattle.msrs.proofs.Ranges.{onto, place-was, places}
 use Rattle.kvmi.specs.declared.Settings.{Settings}
@@ -64,8 +63,8 @@ reads : (w : List ℕ) (vcpu msr : ℕ) → msr_bit_on w vcpu msr ≡ (in_ranges
 unfolding msr_bit_on is_msr
 reads w vcpu msr = rw (← places.exactly msr) (step (msr_place msr) refl)
   where
-    step : (p : Place) → msr_place msr ≡ p → read_switch w vcpu p ≡ (is_at p && is_on (get_or w (vcpu * 272 + 16 + slot_before msr / 64) 0) (slot_before msr % 64))
-    step (At place) e = rw (← place-was msr place e) (states w vcpu place)
+    step : (p : Option ℕ) → msr_place msr ≡ p → read_switch w vcpu p ≡ (is_some p && is_on (get_or w (vcpu * 272 + 16 + slot_before msr / 64) 0) (slot_before msr % 64))
+    step (Some place) e = rw (← place-was msr place e) (states w vcpu place)
     step None e = refl
 
 sets : (w : List ℕ) (vcpu msr : ℕ) (on : Bool)
@@ -75,10 +74,10 @@ sets : (w : List ℕ) (vcpu msr : ℕ) (on : Bool)
 unfolding set_msr_bit is_msr switched_field set_field put_bit64 field
 sets w vcpu msr on = rw (← places.exactly msr) (step (msr_place msr) refl)
   where
-    step : (p : Place) → msr_place msr ≡ p
+    step : (p : Option ℕ) → msr_place msr ≡ p
         → set_switch w vcpu p on
-        ≡ cond (is_at p) (set w (vcpu * 272 + 16 + slot_before msr / 64) (put_bit (get_or w (vcpu * 272 + 16 + slot_before msr / 64) 0) (slot_before msr % 64) on)) w
-    step (At place) e =
+        ≡ cond (is_some p) (set w (vcpu * 272 + 16 + slot_before msr / 64) (put_bit (get_or w (vcpu * 272 + 16 + slot_before msr / 64) 0) (slot_before msr % 64) on)) w
+    step (Some place) e =
         let at : vcpu * 272 + (16 + place / 64) ≡ vcpu * 272 + 16 + place / 64 = omega arith in
         rw (← place-was msr place e, at, lt-ltb (place % 64) 64 (omega arith))
     step None e = refl

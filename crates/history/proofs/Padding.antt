@@ -10,10 +10,9 @@ use lib.ListN.{length, get_or, drop}
 use lib.Seq.{get_or-drop}
 use lib.Dec.{leb, ltb, eqb}
 use borrow.Author.Tests.{eq-eqb, eqb-true, le-leb, leb-true, le-ltb, ltb-false, not-true, not-false}
-use Rattle.wire.specs.Header.{header_of}
+use Rattle.std.specs.Prelude.{Some, None}
+use Rattle.wire.specs.Header.{whole, HeaderRead, header_of}
 use Rattle.msrs.specs.Place.{is_msr}
-use Rattle.wire.specs.declared.Header.{Header}
-use Rattle.wire.specs.declared.Header.TheVariants.{Whole, Broken}
 use Rattle.wire.proofs.Laws.{le-or-lt}
 use Rattle.kvmi.specs.declared.Facts.{Facts}
 use Rattle.kvmi.specs.declared.Change.{Change}
@@ -258,13 +257,13 @@ module _ (s : Settings) (m : Model) (id : ℕ) (msg out : List ℕ) where
       }
 
 -- ---- what is reported is the first
-abbrev id_of_header : Header → ℕ
-id_of_header (Whole id size seq) = id
-id_of_header Broken = 0
+abbrev id_of_header : HeaderRead → ℕ
+id_of_header (Some h) = h.id
+id_of_header None = 0
 
-abbrev is_whole_header : Header → Bool
-is_whole_header (Whole id size seq) = true
-is_whole_header Broken = false
+abbrev is_whole_header : HeaderRead → Bool
+is_whole_header (Some h) = true
+is_whole_header None = false
 
 module _ (s : Settings) (m : Model) (msg out : List ℕ) where
   none_first : (p : ℕ) → p ≡ 0 → ((at : ℕ) → Dirty s m msg out at → ⊥) → ReportsFirst s m msg out p
@@ -279,10 +278,10 @@ module _ (s : Settings) (m : Model) (msg out : List ℕ) where
   one-first p n x least = record { exactly = (λ _. (p, x), λ _. n); itself = λ _. x; first = least }
 
   -- test 6 looks at the padding of the message that came
-  same_id : (id size seq at : ℕ) → header_of msg ≡ Whole id size seq → (x : Dirty s m msg out at) → x.0 ≡ id
+  same_id : (id size seq at : ℕ) → header_of msg ≡ whole id size seq → (x : Dirty s m msg out at) → x.0 ≡ id
   same_id id size seq at w (i, r, b, n) = ap id_of_header (sym r.header.2 ∙ w)
 
-  headed-first : m.closed ≡ false → least_out ≤ length out → (id size seq : ℕ) → header_of msg ≡ Whole id size seq
+  headed-first : m.closed ≡ false → least_out ≤ length out → (id size seq : ℕ) → header_of msg ≡ whole id size seq
       → ReportsFirst s m msg out (reported_padding s m.mode id (drop 8 msg))
   unfolding reported_padding first_padding
   headed-first opened room id size seq w =
@@ -329,9 +328,9 @@ module _ (st : State) (msg out guest : List ℕ) where
       (λ o. pick First (ltb (length out) least_out) _ _ (λ h. none_first cfg (model_of st) msg out 0 refl (λ at x. clash h (le-ltb (length out) least_out x.1.room)))
       (λ h. by (header_of msg) refl o (ltb-false (length out) least_out h)))
     where
-      by : (h : Header) → header_of msg ≡ h → is_closed st ≡ false → least_out ≤ length out → First (headed_of st (drop 8 msg) out guest h)
-      by Broken w o l = none_first cfg (model_of st) msg out 0 refl (λ at x. clash (ap is_whole_header x.1.header.2) (ap is_whole_header w))
-      by (Whole id size seq) w o l = headed-first cfg (model_of st) msg out o l id size seq w
+      by : (h : HeaderRead) → header_of msg ≡ h → is_closed st ≡ false → least_out ≤ length out → First (headed_of st (drop 8 msg) out guest h)
+      by None w o l = none_first cfg (model_of st) msg out 0 refl (λ at x. clash (ap is_whole_header x.1.header.2) (ap is_whole_header w))
+      by (Some h) w o l = headed-first cfg (model_of st) msg out o l h.id h.size h.seq w
 
   -- a byte is reported with -22 alone
   abbrev Told-with : Told → ℤ → Type 0
@@ -347,13 +346,13 @@ module _ (st : State) (msg out guest : List ℕ) where
   judged-with id seq d p (Fails code) r n = ⊎_elim (λ e. absurd (n e)) (λ e. (e, refl)) r
   judged-with id seq d p (Does c) r n = absurd (n r)
 
-  headed-with : (h : Header) → Told-with (headed_of st (drop 8 msg) out guest h) (code_headed st guest (drop 8 msg) h)
+  headed-with : (h : HeaderRead) → Told-with (headed_of st (drop 8 msg) out guest h) (code_headed st guest (drop 8 msg) h)
   unfolding headed_of
-  headed-with Broken = λ n. absurd (n refl)
-  headed-with (Whole id size seq) =
+  headed-with None = λ n. absurd (n refl)
+  headed-with (Some h) =
       let d = drop 8 msg in
       let f = facts_in st (length guest) (vcpu_of d) in
-      judged-with id seq d _ (verdict cfg f id seq d) (reported cfg f id d seq)
+      judged-with h.id h.seq d _ (verdict cfg f h.id h.seq d) (reported cfg f h.id d h.seq)
 
   message-with : Told-with (message_of st msg out guest) (code_of st msg out guest)
   unfolding message_of
@@ -443,9 +442,9 @@ unfolding message_of headed_of
 message-stays st msg out guest =
     either_stays (is_closed st) _ _ _ _ refl (either_stays (ltb (length out) least_out) _ _ _ _ refl (by (header_of msg)))
   where
-    by : (h : Header) → Stays (headed_of st (drop 8 msg) out guest h) (headed_unreported st (drop 8 msg) out guest h)
-    by Broken = refl
-    by (Whole id size seq) = refl
+    by : (h : HeaderRead) → Stays (headed_of st (drop 8 msg) out guest h) (headed_unreported st (drop 8 msg) out guest h)
+    by None = refl
+    by (Some h) = refl
 
 tests-stay : (s : Settings) (f : Facts) (id : ℕ) (d : List ℕ)
     → command_verdict s f id d

@@ -9,11 +9,10 @@ use lib.ListN.{length, drop}
 use lib.Dec.{ltb, leb, eqb}
 use native.Mathlib.Omega.{arith}
 use borrow.Author.Tests.{eqb-true, eqb-false, ne_eqb}
+use Rattle.std.specs.Prelude.{Some, None}
 use Rattle.wire.specs.Bytes.{le, store}
 use Rattle.wire.specs.Code.{twos, code_bytes}
-use Rattle.wire.specs.Header.{header_of}
-use Rattle.wire.specs.declared.Header.{Header}
-use Rattle.wire.specs.declared.Header.TheVariants.{Whole, Broken}
+use Rattle.wire.specs.Header.{whole as whole_header, HeaderRead, header_of}
 use Rattle.kvmi.specs.declared.Settings.{Settings}
 use Rattle.kvmi.specs.declared.Facts.{Facts}
 use Rattle.kvmi.specs.declared.ReplyMode.{ReplyMode}
@@ -66,15 +65,15 @@ unfolding allows_command allows_event reaches_test6 reported_padding
 reported-alike revision s mode id d = refl
 
 -- the id of a header, 0 where there is none
-abbrev id_of : Header → ℕ
-id_of Broken = 0
-id_of (Whole id size seq) = id
+abbrev id_of : HeaderRead → ℕ
+id_of None = 0
+id_of (Some h) = h.id
 
-abbrev is_broken : Header → Bool
-is_broken Broken = true
-is_broken (Whole id size seq) = false
+abbrev is_broken : HeaderRead → Bool
+is_broken None = true
+is_broken (Some h) = false
 
-broken-whole : {id size seq : ℕ} → Broken ≡ Whole id size seq → ⊥
+broken-whole : {id size seq : ℕ} → None ≡ whole_header id size seq → ⊥
 broken-whole e = false≢true (sym (ap is_broken e))
 
 -- a test with the same outcome on both sides
@@ -197,7 +196,7 @@ module _ (revision : ℕ) (st : State) where
     Said id seq d v = Q (reporting_of (reported_of st id d) (judged_of other id seq d out guest v)) (reporting_of (reported_of st id d) (judged_of st id seq d out guest v))
 
     headed-by : (id size seq : ℕ) (d : List ℕ) → Said id seq d (verdict s (facts_in st (length guest) (vcpu_of d)) id seq d)
-        → Q (headed_of other d out guest (Whole id size seq)) (headed_of st d out guest (Whole id size seq))
+        → Q (headed_of other d out guest (whole_header id size seq)) (headed_of st d out guest (whole_header id size seq))
     unfolding headed_of
     headed-by id size seq d h =
         let f = facts_in st (length guest) (vcpu_of d) in
@@ -228,18 +227,18 @@ module _ (revision : ℕ) (st : State) where
   unfolding headed_of
   others msg out guest u = message-by Same out guest msg refl refl (by-header (header_of msg) refl)
     where
-      by-header : (h : Header) → header_of msg ≡ h → Same (headed_of other (drop 8 msg) out guest h) (headed_of st (drop 8 msg) out guest h)
-      by-header Broken w = refl
-      by-header (Whole id size seq) w =
-          headed-by Same out guest id size seq (drop 8 msg)
-          (another-said out guest id seq (drop 8 msg) (λ e. u.0 (size, seq, w ∙ ap (λ (n : ℕ). Whole n size seq) e)) (λ e. u.1 (size, seq, w ∙ ap (λ (n : ℕ). Whole n size seq) e)))
+      by-header : (h : HeaderRead) → header_of msg ≡ h → Same (headed_of other (drop 8 msg) out guest h) (headed_of st (drop 8 msg) out guest h)
+      by-header None w = refl
+      by-header (Some h) w =
+          headed-by Same out guest h.id h.size h.seq (drop 8 msg)
+          (another-said out guest h.id h.seq (drop 8 msg) (λ e. u.0 (h.size, h.seq, w ∙ ap (λ (n : ℕ). whole_header n h.size h.seq) e)) (λ e. u.1 (h.size, h.seq, w ∙ ap (λ (n : ℕ). whole_header n h.size h.seq) e)))
 
   -- message 13, none of whose entries is skipped
   pub unskipped : (msg out guest : List ℕ) → HasId msg 13 → skips st msg ≡ false → Same (message_of other msg out guest) (message_of st msg out guest)
   unfolding change_of
   unskipped msg out guest (size, seq, w) k =
       message-by Same out guest msg refl refl
-      (subst (λ (h : Header). Same (headed_of other d out guest h) (headed_of st d out guest h)) (sym w) (headed-by Same out guest 13 size seq d said))
+      (subst (λ (h : HeaderRead). Same (headed_of other d out guest h) (headed_of st d out guest h)) (sym w) (headed-by Same out guest 13 size seq d said))
     where
       d : List ℕ
       d = drop 8 msg
@@ -265,7 +264,7 @@ module _ (revision : ℕ) (st : State) where
   unfolding change_of
   bytes msg out guest (size, seq, w) =
       message-by SameBytes out guest msg (same_bytes refl) (same_bytes refl)
-      (subst (λ (h : Header). SameBytes (headed_of other d out guest h) (headed_of st d out guest h)) (sym w) (headed-by SameBytes out guest 13 size seq d said))
+      (subst (λ (h : HeaderRead). SameBytes (headed_of other d out guest h) (headed_of st d out guest h)) (sym w) (headed-by SameBytes out guest 13 size seq d said))
     where
       d : List ℕ
       d = drop 8 msg
@@ -293,13 +292,13 @@ module _ (revision : ℕ) (st : State) where
       d : List ℕ
       d = drop 8 msg
 
-      by-header : (h : Header) → code_headed other guest d h ≡ code_headed st guest d h
-      by-header Broken = refl
-      by-header (Whole id size seq) =
+      by-header : (h : HeaderRead) → code_headed other guest d h ≡ code_headed st guest d h
+      by-header None = refl
+      by-header (Some h) =
           let f = facts_in st (length guest) (vcpu_of d) in
-          ap (code_by other guest d) (verdict-alike revision s f id seq d)
-          ∙ verdict-cases (λ (v : Verdict). code_by other guest d v ≡ code_by st guest d v) s f id seq d refl (λ code _. refl)
-          (λ _. code_alike guest d id) (λ _. ap (λ (r : StateChanged). r.code) (end-alike guest d f))
+          ap (code_by other guest d) (verdict-alike revision s f h.id h.seq d)
+          ∙ verdict-cases (λ (v : Verdict). code_by other guest d v ≡ code_by st guest d v) s f h.id h.seq d refl (λ code _. refl)
+          (λ _. code_alike guest d h.id) (λ _. ap (λ (r : StateChanged). r.code) (end-alike guest d f))
 
   -- ---- GET_VERSION
   -- what is told of it: all but the version number
@@ -341,7 +340,7 @@ module _ (revision : ℕ) (st : State) where
   unfolding judged_of change_of change
   version msg out guest (size, seq, w) =
       message-by (Versioned out) out guest msg (refl, refl, refl, inl refl) (refl, refl, refl, inl refl)
-      (subst (λ (h : Header). Versioned out (headed_of other d out guest h) (headed_of st d out guest h)) (sym w) (headed-by (Versioned out) out guest 1 size seq d said))
+      (subst (λ (h : HeaderRead). Versioned out (headed_of other d out guest h) (headed_of st d out guest h)) (sym w) (headed-by (Versioned out) out guest 1 size seq d said))
     where
       d : List ℕ
       d = drop 8 msg
@@ -432,11 +431,11 @@ left-alike revision st (message msg out guest) u = by (header_of msg) refl
     same : (HasId msg 1 → ⊥) → (message_of (revised_state revision st) msg out guest).state ≡ revised_state revision (message_of st msg out guest).state
     same one = ap (λ (r : Told). r.state) (others revision st msg out guest (one, u msg out guest refl))
 
-    by : (h : Header) → header_of msg ≡ h → (message_of (revised_state revision st) msg out guest).state ≡ revised_state revision (message_of st msg out guest).state
-    by Broken w = same (λ (size, seq, v). broken-whole (sym w ∙ v))
-    by (Whole id size seq) w =
-        test (eqb id 1) (λ e. (version revision st msg out guest (size, seq, w ∙ ap (λ (n : ℕ). Whole n size seq) (eqb-true id 1 e))).1)
-        (λ e. same (λ (size', seq', v). eqb-false id 1 e (ap id_of (sym w ∙ v))))
+    by : (h : HeaderRead) → header_of msg ≡ h → (message_of (revised_state revision st) msg out guest).state ≡ revised_state revision (message_of st msg out guest).state
+    by None w = same (λ (size, seq, v). broken-whole (sym w ∙ v))
+    by (Some h) w =
+        test (eqb h.id 1) (λ e. (version revision st msg out guest (h.size, h.seq, w ∙ ap (λ (n : ℕ). whole_header n h.size h.seq) (eqb-true h.id 1 e))).1)
+        (λ e. same (λ (size', seq', v). eqb-false h.id 1 e (ap id_of (sym w ∙ v))))
 left-alike revision st (ready vcpu) u = ap (λ (r : Told). r.state) (ready-alike revision st vcpu)
 left-alike revision st (enter vcpu block event own out) u = ap (λ (r : Told). r.state) (enter-alike revision st vcpu block event own out)
 left-alike revision st (write_image out) u = ap (λ (r : Told). r.state) (image-alike revision st out)

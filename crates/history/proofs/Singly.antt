@@ -45,7 +45,7 @@ pub one_place : (g : Signal) → length (listed_as g) ≤ 1
 one_place Quiet = omega arith
 one_place (Kick wait vcpu) = omega arith
 one_place (Crash vcpu) = omega arith
-one_place (Resume vcpu action value feed) = omega arith
+one_place (Resume r) = omega arith
 
 -- ---- from somewhere in a batch to its end, by the messages between
 record Ran (input : List ℕ) (b : Batch State) (cs : List Call) (e : Batch State) : Type 0 where

@@ -9,11 +9,10 @@ use lib.ListN.{length, take, drop, replicate, length-append, length-take, length
 use lib.Seq.{take_at, take-append_seam}
 use lib.Dec.{leb, ltb, eqb}
 use borrow.Author.Tests.{ltb-false, eqb-true, eqb-false, ne_eqb}
+use Rattle.std.specs.Prelude.{Some, None}
 use Rattle.wire.specs.Bytes.{le, store}
 use Rattle.wire.specs.Code.{code_bytes}
-use Rattle.wire.specs.Header.{header_of}
-use Rattle.wire.specs.declared.Header.{Header}
-use Rattle.wire.specs.declared.Header.TheVariants.{Whole, Broken}
+use Rattle.wire.specs.Header.{whole, HeaderRead, header_of}
 use Rattle.wire.proofs.Laws.{length-le, length-store, store-start}
 use Rattle.kvmi.specs.declared.Settings.{Settings}
 use Rattle.kvmi.specs.declared.Signal.{Signal}
@@ -180,7 +179,7 @@ module _ (msg out out' : List ℕ) (lo : length out ≡ length out') where
       → For (record { answer = a; state = st; out = out; guest = guest }) (record { answer = a; state = st; out = out'; guest = guest' })
   untouched a z st guest guest' = idle (message msg out []) a z st out out' guest guest'
 
-  module _ (d : List ℕ) (id size seq : ℕ) (w : header_of msg ≡ Whole id size seq) where
+  module _ (d : List ℕ) (id size seq : ℕ) (w : header_of msg ≡ whole id size seq) where
     answering-same : (mode : ReplyMode) (code : ℤ) (g : Signal) (guest guest' : List ℕ) (st : State) → length guest ≡ length guest'
         → Inside out For (answering_of mode id seq code d g out guest st) (answering_of mode id seq code d g out' guest' st)
     unfolding answering_of own_bytes
@@ -225,17 +224,17 @@ module _ (msg out out' : List ℕ) (lo : length out ≡ length out') where
   reporting-same padding r q h = record { answer = ap (with_padding padding) h.answer; state = h.state; bytes = h.bytes }
 
   module _ (st : State) (guest guest' : List ℕ) (l : length guest ≡ length guest') where
-    headed-same : (h : Header) → header_of msg ≡ h → Inside out For (headed_of st (drop 8 msg) out guest h) (headed_of st (drop 8 msg) out' guest' h)
+    headed-same : (h : HeaderRead) → header_of msg ≡ h → Inside out For (headed_of st (drop 8 msg) out guest h) (headed_of st (drop 8 msg) out' guest' h)
     unfolding headed_of
-    headed-same Broken w = λ _. untouched _ refl _ guest guest'
-    headed-same (Whole id size seq) w =
+    headed-same None w = λ _. untouched _ refl _ guest guest'
+    headed-same (Some h) w =
         let d = drop 8 msg in
         let judged =
         subst
-        (λ (n : ℕ). Inside out For (judged_of st id seq d out guest (verdict st.session.settings (facts_in st (length guest) (vcpu_of d)) id seq d))
-        (judged_of st id seq d out' guest' (verdict st.session.settings (facts_in st n (vcpu_of d)) id seq d)))
+        (λ (n : ℕ). Inside out For (judged_of st h.id h.seq d out guest (verdict st.session.settings (facts_in st (length guest) (vcpu_of d)) h.id h.seq d))
+        (judged_of st h.id h.seq d out' guest' (verdict st.session.settings (facts_in st n (vcpu_of d)) h.id h.seq d)))
         l
-        (judged-same d id size seq w guest guest' st l (verdict st.session.settings (facts_in st (length guest) (vcpu_of d)) id seq d)) in
+        (judged-same d h.id h.size h.seq w guest guest' st l (verdict st.session.settings (facts_in st (length guest) (vcpu_of d)) h.id h.seq d)) in
         λ fits. reporting-same _ _ _ (judged fits)
 
     message-inside : Inside out For (message_of st msg out guest) (message_of st msg out' guest')

@@ -10,8 +10,7 @@ use lib.IntN.{ℤ}
 use lib.ListN.{length, drop, get_or-eq_default}
 use lib.Dec.{ltb, leb, eqb}
 use borrow.Author.Tests.{eqb-true, eqb-false, ltb-true, ltb-false}
-use Rattle.msrs.specs.declared.Place.{Place}
-use Rattle.msrs.specs.declared.Place.TheVariants.{At, None}
+use Rattle.std.specs.Prelude.{Option, Some, None}
 use Rattle.msrs.specs.Place.{msr_place}
 use Rattle.msrs.proofs.Ranges.{in-places}
 use Rattle.kvmi.specs.declared.Settings.{Settings}
@@ -127,8 +126,8 @@ module _ (st : State) (on : mode_of_number st.session.tool.mode ≡ On) (id seq 
   unfolding change set_msr_bit switched_field
   msr-edit enable msr = by (msr_place msr) refl
     where
-      by : (p : Place) → msr_place msr ≡ p → Does-edit (SetMsr enable (vcpu_of d) msr)
-      by (At place) e =
+      by : (p : Option ℕ) → msr_place msr ≡ p → Does-edit (SetMsr enable (vcpu_of d) msr)
+      by (Some place) e =
           does-one (SetMsr enable (vcpu_of d) msr) (at (16 + place / 64) (omega (arith, in-places msr place e)) (λ x. put_bit64 x (place % 64) enable)) (λ w. rw e)
       by None e = does-one (SetMsr enable (vcpu_of d) msr) keep (λ w. rw e)
 

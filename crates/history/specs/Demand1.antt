@@ -4,10 +4,9 @@
 -- `enter_of`, `image_of` and `read_of`, which are total. The second is said here of these, for any session, words, bytes and numbers whatever, well formed or not:
 -- which numbers a call answers with, each refusal's number exactly if its condition holds, behind those that are tested before it, and what it leaves.
 -- An answer has one number, so that of one call's conditions no two hold.
-use Rattle.std.specs.Prelude.{◌≡◌, ◌↔◌, ◌⊎◌, ◌≢◌, ℕ, ◌≤◌, ◌<◌, List, [], ◌∷◌, true, false, cond, length, drop}
+use Rattle.std.specs.Prelude.{◌≡◌, ◌↔◌, ◌⊎◌, ◌≢◌, ℕ, ◌≤◌, ◌<◌, List, [], ◌∷◌, true, false, cond, length, drop, None}
 use Rattle.std.proofs.Math.Bool.{So}
-use Rattle.wire.specs.Header.{header_of}
-use Rattle.wire.specs.declared.Header.TheVariants.{Whole, Broken}
+use Rattle.wire.specs.Header.{whole, header_of}
 use Rattle.kvmi.specs.declared.Settings.{Settings}
 use Rattle.kvmi.specs.declared.Change.{Change}
 use Rattle.kvmi.specs.declared.Verdict.{Verdict}
@@ -19,7 +18,7 @@ use Rattle.kvmi.specs.Limits.{least_out, event_out, state_bytes}
 use Rattle.kvmi.specs.Model.{awaited_by, is_some}
 use Rattle.kvmi.specs.Message.{vcpu_of}
 use Rattle.kvmi.specs.Verdict.{verdict}
-use Rattle.kvmi.specs.Batch.{Batch, is_resume, at_start, goes_on}
+use Rattle.kvmi.specs.Batch.{Batch, is_resume, resume_lacks_page, at_start, goes_on}
 use Rattle.kvmi.specs.Image.{image, bad_form, forbidden, load_image}
 use Rattle.session.specs.State.{State, closed_session}
 use Rattle.session.specs.Calls.{Told, told_closing, fresh_of, ready_of}
@@ -93,13 +92,13 @@ said_of st msg guest id seq = verdict st.session.settings (facts_in st (length g
 -- "a rule below says "closes"": test 1, of the header, or one of tests 2 to 6
 abbrev pub RuleCloses : State → List ℕ → List ℕ → Type 0
 RuleCloses st msg guest =
-    (header_of msg ≡ Broken)
-    ⊎ ((id : ℕ) × (size : ℕ) × (seq : ℕ) × (header_of msg ≡ Whole id size seq) × (said_of st msg guest id seq ≡ Closes))
+    (header_of msg ≡ None)
+    ⊎ ((id : ℕ) × (size : ℕ) × (seq : ℕ) × (header_of msg ≡ whole id size seq) × (said_of st msg guest id seq ≡ Closes))
 
 -- W5, "a continue that needs the guest page where none exists": what tests 2 to 6 say of the message is to take it, and that is what it signals
 abbrev pub NeedsPage : State → List ℕ → List ℕ → Type 0
 NeedsPage st msg guest =
-    (id : ℕ) × (size : ℕ) × (seq : ℕ) × (c : Change) × (header_of msg ≡ Whole id size seq) × (said_of st msg guest id seq ≡ Does c) × (lacks_page (signal_of c) ≡ true)
+    (id : ℕ) × (size : ℕ) × (seq : ℕ) × (c : Change) × (header_of msg ≡ whole id size seq) × (said_of st msg guest id seq ≡ Does c) × (lacks_page (signal_of c) ≡ true)
 
 -- ---- "no session": no lent word changes, and the session that is handed back is a closed one; the call has no output and no guest memory
 pub record NoSession (p : Paper) (s : Settings) (vcpu_words page_words : List ℕ) (r : Told) : Type 0 where
@@ -171,7 +170,7 @@ pub record BatchAnswers (st : State) (input out signals guest : List ℕ) (b : B
   pub opened : (b.number ≡ 0) ⊎ (b.number ≡ 12) → Open b.state
   pub resumes : is_resume b.resume ≡ true → (b.number ≡ 0) ⊎ (b.number ≡ 12)
   -- W5: "it ends a batch with that answer": under 12 the resume that lacks its page is the one that is handed back
-  pub no_page : (b.number ≡ 12) ↔ (lacks_page b.resume ≡ true)
+  pub no_page : (b.number ≡ 12) ↔ (resume_lacks_page b.resume ≡ true)
   -- it ends for one of W3's reasons
   pub ends : goes_on input b ≡ false
 

@@ -1,7 +1,7 @@
 -- Demand 2: "Each message is answered and acted on exactly as the KVMI document and our rules say: same reply bytes, same error code, same tables
 -- after. A command naming one vCPU changes no other vCPU's switches, unless it closes the session."
 -- `acted` is said of every session that began, after every list of calls; the others of any session whatever, well formed or not.
-use Rattle.std.specs.Prelude.{◌≡◌, ◌≢◌, ℕ, List, ◌||◌, ℤ, drop, eqb}
+use Rattle.std.specs.Prelude.{◌≡◌, ◌≢◌, ℕ, List, ◌||◌, Some, ℤ, drop, eqb}
 use Rattle.std.proofs.Math.Bool.{So}
 use Rattle.kvmi.specs.declared.Settings.{Settings}
 use Rattle.kvmi.specs.Codes.{is_error}
@@ -13,7 +13,6 @@ use Rattle.session.specs.State.{State}
 use Rattle.session.specs.Calls.{Told}
 use Rattle.session.specs.Meaning.{tables_of, model_of}
 use Rattle.message.specs.Message.{message_of}
-use Rattle.stream.specs.declared.Code.TheVariants.{Written}
 use Rattle.stream.specs.Line.{error_of}
 use Rattle.refine.specs.Errors.{HasId, code_of, ErrorSpares}
 use Rattle.history.specs.History.{step_of, after_of, BeganOn}
@@ -32,7 +31,7 @@ pub record SameStep (r : Told) (q : Step) : Type 0 where
 -- ---- errors
 -- the error that stands in the bytes written, in a reply or in a CMD_ERROR event
 abbrev pub WritesError : Told → ℤ → Type 0
-WritesError r code = error_of r.out r.answer.count ≡ Written code
+WritesError r code = error_of r.out r.answer.count ≡ Some code
 
 -- ---- one vCPU
 -- a message marked (v), EVENT_REPLY among them, and the vCPU that it names

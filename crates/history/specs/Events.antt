@@ -4,12 +4,11 @@ use Rattle.std.specs.Prelude.{◌≡◌, ◌↔◌, ◌≢◌, ℕ, ◌+◌, ◌
 use Rattle.std.proofs.Math.Bool.{So}
 use Rattle.std.proofs.Math.Option.{none, some}
 use Rattle.wire.specs.Bytes.{load}
-use Rattle.wire.specs.Header.{header_of}
-use Rattle.wire.specs.declared.Header.TheVariants.{Whole}
+use Rattle.wire.specs.Header.{whole, header_of}
 use Rattle.kvmi.specs.declared.Settings.{Settings}
 use Rattle.kvmi.specs.declared.Signal.{Signal}
-use Rattle.kvmi.specs.declared.Signal.TheVariants.{Quiet, Crash, Resume}
-use Rattle.kvmi.specs.Answer.{handled, plain}
+use Rattle.kvmi.specs.declared.Signal.TheVariants.{Quiet, Crash}
+use Rattle.kvmi.specs.Answer.{handled, plain, resume}
 use Rattle.kvmi.specs.declared.Feed.{Feed}
 use Rattle.kvmi.specs.Feed.{Fault, no_fault, kept_of, unfed, chosen_feed}
 use Rattle.kvmi.specs.Bits.{among, is_on}
@@ -84,7 +83,7 @@ pub record Context (d : List ℕ) : Type 0 where
 
 -- a message that replies to an event of a vCPU with a seq: "padding is zero, [..] seq and event match", and its data size and its action are the event's
 pub record Replies (vcpu event seq : ℕ) (msg : List ℕ) : Type 0 where
-  pub header : (size : ℕ) × (header_of msg ≡ Whole 16 size seq)
+  pub header : (size : ℕ) × (header_of msg ≡ whole 16 size seq)
   pub names : vcpu_of (drop 8 msg) ≡ vcpu
   pub padding : first_padding 16 (drop 8 msg) ≡ 0
   pub of : replied_event (drop 8 msg) ≡ event
@@ -100,7 +99,7 @@ fed_by event fault guest d =
 -- what is signalled for its data, of a crash (action 2), of a pause (event 2) and of any other: "resume(vCPU, action, new value or 0)"
 abbrev pub signalled : ℕ → ℕ → Fault → ℕ → List ℕ → Signal
 signalled vcpu event fault guest d =
-    cond (eqb (action_of d) 2) (Crash vcpu) (cond (eqb event 2) Quiet (Resume vcpu (action_of d) (value_in event d) (fed_by event fault guest d)))
+    cond (eqb (action_of d) 2) (Crash vcpu) (cond (eqb event 2) Quiet (resume vcpu (action_of d) (value_in event d) (fed_by event fault guest d)))
 
 -- a call that is no reply to an event of a vCPU, and a list of them
 abbrev pub NoReply : ℕ → Call → Type 0
@@ -163,4 +162,4 @@ pub record Events : Type 0 where
       → (between : List Call) → NoReplies vcpu between → Open (after_of r.state between)
       → (msg out' guest : List ℕ) → Replies vcpu event (after s m cs).seq msg → least_out ≤ length out'
       → (step_of (after_of r.state between) (message msg out' guest)).answer
-      ≡ handled 0 (cond (eqb (action_of (drop 8 msg)) 2) (Crash vcpu) (Resume vcpu (action_of (drop 8 msg)) (value_in event (drop 8 msg)) (fed_by event (kept_of event own) (length guest) (drop 8 msg))))
+      ≡ handled 0 (cond (eqb (action_of (drop 8 msg)) 2) (Crash vcpu) (resume vcpu (action_of (drop 8 msg)) (value_in event (drop 8 msg)) (fed_by event (kept_of event own) (length guest) (drop 8 msg))))

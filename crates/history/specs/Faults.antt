@@ -2,10 +2,13 @@
 -- that feed the instruction. Said of every session that began, after every list of calls, but `moves`, which is said of any model, and `lies`, `kept`, `lacked`
 -- and `in_batch`, which are said of any session, whatever bits it holds. That a fault's reply is taken or closes, and what is signalled for it, `Events` says
 -- with the other events.
-use Rattle.std.specs.Prelude.{◌≡◌, ◌↔◌, ℕ, ◌+◌, ◌/◌, ◌%◌, ◌^◌, ◌≤◌, ◌<◌, List, true, false, length, drop}
+use Rattle.std.specs.Prelude.{Option, Some, None, ◌≡◌, ◌≢◌, ◌↔◌, ℕ, ◌+◌, ◌/◌, ◌%◌, ◌^◌, ◌≤◌, ◌<◌, List, true, false, length, drop}
 use Rattle.std.proofs.Math.Option.{some}
 use Rattle.wire.specs.Bytes.{load}
 use Rattle.kvmi.specs.declared.Feed.{Feed}
+use Rattle.kvmi.specs.declared.Source.TheVariants.{Unfed, Message, Guest, Missing}
+use Rattle.kvmi.specs.declared.Resumption.{Resumption}
+use Rattle.kvmi.specs.Answer.{resume}
 use Rattle.kvmi.specs.declared.Settings.{Settings}
 use Rattle.kvmi.specs.declared.Signal.{Signal}
 use Rattle.kvmi.specs.declared.Signal.TheVariants.{Quiet, Kick, Crash, Resume}
@@ -36,32 +39,35 @@ pub record Part (buffer : List ℕ) (f : Feed) (bytes : List ℕ) : Type 0 where
   pub any : 0 < f.length
   pub same : part_of buffer f.at f.length ≡ bytes
 
--- by its source: 1 the message, 2 guest memory; of any other none are named
+-- by its source: the message or guest memory; of any other none are named
 pub record Names (msg guest : List ℕ) (f : Feed) (bytes : List ℕ) : Type 0 where
-  pub source : f.source ≤ 3
-  pub of_message : f.source ≡ 1 → Part msg f bytes
-  pub of_guest : f.source ≡ 2 → Part guest f bytes
+  pub of_message : f.source ≡ Message → Part msg f bytes
+  pub of_guest : f.source ≡ Guest → Part guest f bytes
 
 -- what feeds a signalled vCPU
 abbrev pub feed_of_signal : Signal → Feed
 feed_of_signal Quiet = unfed
 feed_of_signal (Kick wait vcpu) = unfed
 feed_of_signal (Crash vcpu) = unfed
-feed_of_signal (Resume vcpu action value feed) = feed
+feed_of_signal (Resume r) = r.feed
+
+-- and a vCPU that a batch resumes
+abbrev pub feed_of_resume : Option Resumption → Feed
+feed_of_resume None = unfed
+feed_of_resume (Some r) = r.feed
 
 -- a signal but for its bytes
 abbrev pub without_feed : Signal → Signal
 without_feed Quiet = Quiet
 without_feed (Kick wait vcpu) = Kick wait vcpu
 without_feed (Crash vcpu) = Crash vcpu
-without_feed (Resume vcpu action value feed) = Resume vcpu action value unfed
+without_feed (Resume r) = resume r.vcpu r.action r.value unfed
 
 -- the part that a feed names lies inside its buffer, and one that is missing has no bytes
 pub record Lies (msg guest : List ℕ) (f : Feed) : Type 0 where
-  pub source : f.source ≤ 3
-  pub of_message : f.source ≡ 1 → f.at + f.length ≤ length msg
-  pub of_guest : f.source ≡ 2 → f.at + f.length ≤ length guest
-  pub of_none : f.source ≡ 3 → f.length ≡ 0
+  pub of_message : f.source ≡ Message → f.at + f.length ≤ length msg
+  pub of_guest : f.source ≡ Guest → f.at + f.length ≤ length guest
+  pub of_none : f.source ≡ Missing → f.length ≡ 0
 
 -- what answer 12 leaves: an EVENT_REPLY was taken, which writes nothing and hands back no bytes; of the session the awaited record alone goes
 pub record Lacked (st : State) (msg out guest : List ℕ) (r : Told) : Type 0 where
@@ -99,7 +105,7 @@ pub record Faults : Type 0 where
   -- "On a continued read (access bit R) the host wants the bytes": exactly then there are some, or the page is missing
   pub wanted : (s : Settings) (st : State) (m : Model) → BeganOn s st m → (cs : List Call) (vcpu seq : ℕ) (fault : Fault) (msg out guest : List ℕ)
       → awaited_by (after s m cs) vcpu ≡ some (awaiting 10 seq fault) → Replies vcpu 10 seq msg → least_out ≤ length out
-      → (0 < (feed_of_signal (step_of (after_of st cs) (message msg out guest)).answer.signal).source)
+      → ((feed_of_signal (step_of (after_of st cs) (message msg out guest)).answer.signal).source ≢ Unfed)
       ↔ ((action_of (drop 8 msg) ≡ 0) × (is_on fault.access 0 ≡ true))
   -- "a continue that needs the guest page where none exists is answer 12"
   pub missing : (s : Settings) (st : State) (m : Model) → BeganOn s st m → (cs : List Call) (vcpu seq : ℕ) (fault : Fault) (msg out guest : List ℕ)
@@ -119,4 +125,4 @@ pub record Faults : Type 0 where
   pub in_batch : (input : List ℕ) (b : Batch State) (bytes : List ℕ)
       → let r = message_of b.state (next_of input b) (out_left b) b.guest in
       let e = turn_of message_takes input b in
-      Names (next_of input b) r.guest (feed_of_signal r.answer.signal) bytes → Names input e.guest (feed_of_signal e.resume) bytes
+      Names (next_of input b) r.guest (feed_of_signal r.answer.signal) bytes → Names input e.guest (feed_of_resume e.resume) bytes

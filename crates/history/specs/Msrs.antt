@@ -1,8 +1,7 @@
 -- "W4. Let reviewers see the MSR ranges": an MSR of no place has no switch, at every level, and "No answer or image changes". Which MSRs have a place, and
 -- what it is, stands in msrs/specs/Places. All but `recorded` is said of any session and any words, well formed or not. (The list form's records have no MSRs.)
-use Rattle.std.specs.Prelude.{◌≡◌, ℕ, ◌+◌, ◌*◌, ◌/◌, ◌%◌, ◌≤◌, List, [], ◌∷◌, Bool, false, cond, not, ◌&&◌, ◌||◌, length, get_or, set, drop, leb, ltb, eqb}
+use Rattle.std.specs.Prelude.{◌≡◌, ℕ, ◌+◌, ◌*◌, ◌/◌, ◌%◌, ◌≤◌, List, [], ◌∷◌, Bool, false, cond, not, ◌&&◌, ◌||◌, length, get_or, set, drop, leb, ltb, eqb, None}
 use Rattle.std.proofs.Math.Bool.{So}
-use Rattle.msrs.specs.declared.Place.TheVariants.{None}
 use Rattle.msrs.specs.Place.{msr_place, is_msr}
 use Rattle.msrs.specs.Places.{in_ranges}
 use Rattle.kvmi.specs.declared.Settings.{Settings}

@@ -1,11 +1,9 @@
 -- "W6. Which padding byte was it?": what the answer to a message reports, and that nothing else of it changed. All but `booked`, which is said of every session
 -- that began, after every list of calls, is said of any session, whatever bits it holds.
-use Rattle.std.specs.Prelude.{◌≡◌, ◌↔◌, ◌⊎◌, ◌≢◌, ℕ, ◌+◌, ◌*◌, ◌≤◌, ◌<◌, List, [], ◌∷◌, cond, false, not, ◌&&◌, ◌||◌, length, get_or, drop, ltb, leb, eqb}
+use Rattle.std.specs.Prelude.{◌≡◌, ◌↔◌, ◌⊎◌, ◌≢◌, ℕ, ◌+◌, ◌*◌, ◌≤◌, ◌<◌, List, [], ◌∷◌, cond, false, not, ◌&&◌, ◌||◌, length, get_or, drop, ltb, leb, eqb, Some, None}
 use Rattle.std.proofs.Math.Bool.{So}
-use Rattle.wire.specs.Header.{header_of}
+use Rattle.wire.specs.Header.{HeaderRead, header_of}
 use Rattle.msrs.specs.Place.{is_msr}
-use Rattle.wire.specs.declared.Header.{Header}
-use Rattle.wire.specs.declared.Header.TheVariants.{Whole, Broken}
 use Rattle.kvmi.specs.declared.Facts.{Facts}
 use Rattle.kvmi.specs.declared.ReplyMode.TheVariants.{On}
 use Rattle.kvmi.specs.declared.Settings.{Settings}
@@ -80,10 +78,10 @@ pub record ReportsFirst (s : Settings) (m : Model) (msg out : List ℕ) (padding
   pub first : (at : ℕ) → Dirty s m msg out at → padding ≤ at
 
 -- ---- a message without W6's report
-abbrev pub headed_unreported : State → List ℕ → List ℕ → List ℕ → Header → Told
-headed_unreported st d out guest Broken = told_closing st out guest
-headed_unreported st d out guest (Whole id size seq) =
-    judged_of st id seq d out guest (verdict st.session.settings (facts_in st (length guest) (vcpu_of d)) id seq d)
+abbrev pub headed_unreported : State → List ℕ → List ℕ → List ℕ → HeaderRead → Told
+headed_unreported st d out guest None = told_closing st out guest
+headed_unreported st d out guest (Some h) =
+    judged_of st h.id h.seq d out guest (verdict st.session.settings (facts_in st (length guest) (vcpu_of d)) h.id h.seq d)
 
 abbrev pub message_unreported : State → List ℕ → List ℕ → List ℕ → Told
 message_unreported st msg out guest =

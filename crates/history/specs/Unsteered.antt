@@ -1,10 +1,8 @@
 -- The guest can't steer the filter. Two runs of a call that agree on everything but what the guest has a part in agree on answer, session, tables and
 -- the bytes that go out, but for the data of VM_READ_PHYSICAL's reply and the registers and own bytes of an event; and so do two runs of every list of calls.
 -- A host may reuse its output buffer: what an earlier read left in it moves nothing. Said of any session whatever, well formed or not.
-use Rattle.std.specs.Prelude.{◌≡◌, ℕ, List, [], ◌∷◌, Bool, false, cond, length, take, eqb}
-use Rattle.wire.specs.Header.{header_of}
-use Rattle.wire.specs.declared.Header.{Header}
-use Rattle.wire.specs.declared.Header.TheVariants.{Whole, Broken}
+use Rattle.std.specs.Prelude.{◌≡◌, ℕ, List, [], ◌∷◌, Bool, false, cond, length, take, eqb, Some, None}
+use Rattle.wire.specs.Header.{HeaderRead, header_of}
 use Rattle.kvmi.specs.Answer.{Paper}
 use Rattle.kvmi.specs.Event.{cr_named, msr_named}
 use Rattle.kvmi.specs.Feed.{PF, kept_of, view_named}
@@ -15,9 +13,9 @@ use Rattle.history.specs.History.{step_of, after_of}
 
 -- ---- what a call writes
 -- whether a header is that of VM_READ_PHYSICAL, whose reply has guest memory as its data
-abbrev pub reads_guest : Header → Bool
-reads_guest (Whole id size seq) = eqb id 6
-reads_guest Broken = false
+abbrev pub reads_guest : HeaderRead → Bool
+reads_guest (Some h) = eqb h.id 6
+reads_guest None = false
 
 -- the bytes that a call wrote; what lies behind them in the output is as it was (Demand1: `past`)
 abbrev pub written : Told → List ℕ

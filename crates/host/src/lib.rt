@@ -13,6 +13,7 @@ ghost use Rattle.kvmi.specs.Settings.{is_set};
 
 use calls::ResultWords;
 use lookup::PageNumbers;
+use message::After;
 use page_words::PageWords;
 use session::Session;
 use store::words::VcpuWords;
@@ -69,8 +70,8 @@ pub extern "C" fn semblurick_raw_message(
         × (res.new ≡ (message_given s.old vcpus.old pages.old msg.now out.old guest.old).result) }
 {
     let d = calls::message(*s, vcpus, pages, msg, out, guest, res);
-    if d.moved != 0 {
-        let after = message::session_after(*s, d.moved, d.value);
+    if !matches!(d.after, After::Same) {
+        let after = message::session_after(*s, d.after);
         s.tool.events = after.tool.events;
         s.tool.pages = after.tool.pages;
         s.tool.opened = after.tool.opened;

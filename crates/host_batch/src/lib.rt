@@ -7,7 +7,7 @@ ghost use Rattle.std.specs.Prelude.{◌≡◌};
 ghost use Rattle.batch_given.specs.Given.{batch_words, batch_given};
 
 use calls::{RESULT_WORDS, ResultWords, Returned};
-use kvmi::Signal;
+use kvmi::{Resumption, Source};
 use page_words::PageWords;
 use session::Session;
 use store::words::VcpuWords;
@@ -16,32 +16,29 @@ use store::words::VcpuWords;
 const RESUME: u64 = 3;
 
 // A batch's values, into the words lent for them.
-fn put_batch(res: &mut ResultWords, used: usize, count: usize, listed: usize, resume: Signal)
+fn put_batch(
+    res: &mut ResultWords,
+    used: usize,
+    count: usize,
+    listed: usize,
+    resume: Option<Resumption>,
+)
     ensures { res.new ≡ batch_words used count listed resume }
 {
     *res = [0; RESULT_WORDS];
     res[0] = used as u64;
     res[1] = count as u64;
     res[2] = listed as u64;
-    match resume {
-        Signal::Quiet => {}
-        Signal::Kick { wait: _, vcpu: _ } => {}
-        Signal::Crash { vcpu: _ } => {}
-        Signal::Resume {
-            vcpu,
-            action,
-            value,
-            feed,
-        } => {
-            res[3] = RESUME;
-            res[4] = vcpu as u64;
-            res[5] = action as u64;
-            res[6] = value;
-            if feed.source != kvmi::answers::MISSING {
-                res[7] = feed.source as u64;
-                res[8] = feed.at;
-                res[9] = feed.length as u64;
-            }
+    if let Some(resumption) = resume {
+        let feed = resumption.feed;
+        res[3] = RESUME;
+        res[4] = resumption.vcpu as u64;
+        res[5] = resumption.action as u64;
+        res[6] = resumption.value;
+        if !matches!(feed.source, Source::Missing) {
+            res[7] = feed.source as u64;
+            res[8] = feed.at;
+            res[9] = feed.length as u64;
         }
     }
 }

@@ -12,14 +12,7 @@ ghost use Rattle.image_bytes.specs.Parts.{vc_bytes, pa_bytes, front_bytes, back_
 pub fn stated_count(vcpus: u32) -> u16
     ensures { result ≡ min vcpus 16 }
 {
-    if vcpus < 16 { vcpus as u16 } else { 16 }
-}
-
-// What is left of a number without another.
-fn less(a: usize, b: usize) -> usize
-    ensures { result ≡ a - b }
-{
-    if b <= a { a - b } else { 0 }
+    vcpus.min(16) as u16
 }
 
 // How many bytes an image of n vCPUs has, with so many switches on and so many pages.
@@ -30,17 +23,16 @@ fn size_of(n: u16, on: usize, used: usize) -> usize
     14 + 10 * (n as usize) + 8 * on + 14 * used
 }
 
-// The VC records of n vCPUs.
+// The VC records of n vCPUs. This loop and the next differ in the record, its size and what it is made of: one function for both would
+// take a closure, and its contract would have to say what that writes.
 fn put_vcpus(out: &mut [u8], at: usize, ready: u64, words: &[u64], n: u16)
     requires { at + 10 * n ≤ length out.old }
     ensures { out.new ≡ store out.old at (vc_bytes 0 (vcpus_of ready words.now 0 n)) }
 {
-    let mut i = 0;
-    while i < n {
+    for i in 0..n {
         let from = at + 10 * (i as usize);
         let end = from + 10;
         image_record::vc(&mut out[from..end], ready, words, i);
-        i += 1;
     }
 }
 
@@ -49,12 +41,10 @@ fn put_pages(out: &mut [u8], at: usize, pages: &[u64], used: usize)
     requires { (used ≤ length pages.now) × (at + 14 * used ≤ length out.old) }
     ensures { out.new ≡ store out.old at (pa_bytes (pages_of pages.now used)) }
 {
-    let mut i = 0;
-    while i < used {
+    for i in 0..used {
         let from = at + 14 * i;
         let end = from + 14;
         image_record::pa(&mut out[from..end], pages[i]);
-        i += 1;
     }
 }
 
@@ -88,7 +78,7 @@ pub fn measure(count: u32, used: u64, vcpus: &[u64], pages: &[u64]) -> usize
     ensures { (events ready : ℕ) → result ≡ length (stated_bytes events ready count used vcpus.now pages.now) }
 {
     let n = stated_count(count);
-    let held = wire::smaller(used as usize, pages.len());
+    let held = (used as usize).min(pages.len());
     let on = image_msrs::count(vcpus, n);
     size_of(n, on, held)
 }
@@ -108,8 +98,8 @@ pub fn put(
     ensures out_after { out.new ≡ store out.old 0 (stated_bytes events ready count used vcpus.now pages.now) }
 {
     let n = stated_count(count);
-    let held = wire::smaller(used as usize, pages.len());
-    let room = less(out.len(), 14 * held + 6);
+    let held = (used as usize).min(pages.len());
+    let room = out.len().saturating_sub(14 * held + 6);
     let on = image_msrs::put(&mut out[..room], 8 + 10 * (n as usize), vcpus, n);
     let size = size_of(n, on, held);
     if size <= out.len() {

@@ -14,6 +14,7 @@ use lib.Bits.{bit_or, and_le_l, and_le_r, or_add_and}
 use lib.Pow.{pow_mono}
 use lib.Count.{ones, ones_in, ones_step, ones-le, count_trailing_zeros, under}
 use borrow.Author.Tests.{eqb-true, eqb-false}
+use Rattle.std.specs.Prelude.{Some}
 use Rattle.wire.specs.Bytes.{store}
 use Rattle.wire.proofs.Laws.{le-or-lt, store-past, store-join}
 use Rattle.kvmi.specs.Bits.{bit_of, is_on}
@@ -24,7 +25,7 @@ use Rattle.laws.proofs.Bool.{test}
 use Rattle.laws.proofs.Record.{length-write}
 use Rattle.store.specs.Words.{field, switch_on}
 use Rattle.store.specs.Meaning.{switches_on, msrs_of}
-use Rattle.image_msrs.specs.Switches.{ms_bytes, switch_at, msr_of_switch, switches_from, bits_from, one_at, four_at, four_bits, four_of, Marked, Marks, SwitchesPut}
+use Rattle.image_msrs.specs.Switches.{ms_bytes, switch_at, msr_of_switch, switches_from, bits_from, one_at, four_at, four_bits, four_of, NextOn, Marked, Marks, SwitchesPut}
 use Rattle.image_msrs.specs.declared.Four.{Four}
 use Rattle.image_msrs.proofs.Stores.{Going, going_end}
 
@@ -186,8 +187,8 @@ module _ (w : List ℕ) (v : ℕ) where
     count : on + more ≡ length (fours_from w v j)
     count = rw (next, length-append) (omega (arith, g.count, found))
 
-    pub finding-few : (on + more ≤ 16384) × (2 * fours + 1 < 2 ^ 64)
-    finding-few =
+    pub finding_few : (on + more ≤ 16384) × (2 * fours + 1 < 2 ^ 64)
+    finding_few =
         let few = fours_bound w v j in
         (omega (arith, count), omega (arith, g.small, pow_mono {i = 64 - i} {j = 63} (omega arith)))
 
@@ -247,8 +248,8 @@ module _ (f : Four) (g : ℕ) where
   four-count p q r s =
       rw (four-length, bits-count f.a g 64 p, bits-count f.b (g + 64) 64 q, bits-count f.c (g + 128) 64 r, bits-count f.d (g + 192) 64 s) (omega arith)
 
-  pub four-few : f.a < 2 ^ 64 → f.b < 2 ^ 64 → f.c < 2 ^ 64 → f.d < 2 ^ 64 → ones f.a + ones f.b + ones f.c + ones f.d ≤ 256
-  four-few p q r s = omega (arith, ones-le 64 f.a p, ones-le 64 f.b q, ones-le 64 f.c r, ones-le 64 f.d s)
+  pub four_few : f.a < 2 ^ 64 → f.b < 2 ^ 64 → f.c < 2 ^ 64 → f.d < 2 ^ 64 → ones f.a + ones f.b + ones f.c + ones f.d ≤ 256
+  four_few p q r s = omega (arith, ones-le 64 f.a p, ones-le 64 f.b q, ones-le 64 f.c r, ones-le 64 f.d s)
 
   pub four-none : bit_or (bit_or (bit_or f.a f.b) f.c) f.d ≡ 0 → 0 ≡ length (four_bits f g)
   four-none h =
@@ -288,6 +289,31 @@ lowest f x g (suc n) (suc m) d h l = test (eqb (x % 2) 1) odd (even (λ q. lowes
         let many : suc n - (suc k + 1) ≡ n - (k + 1) = omega arith in
         rw zeroth record { inside = omega (arith, r.inside); first = rw (e, half, place, next, many) r.first; less = rw (half, many) r.less }
 
+-- one step along the bits that are on
+module _ (left at end : ℕ) (d : left ≡ 0 → ⊥) (h : at ≤ end) (few : end ≤ at + 64) (g : left < 2 ^ (end - at)) where
+  many-left : (k : ℕ) → end - at - (k + 1) ≡ end - (at + k + 1)
+  many-left k = omega arith
+
+  pub next-inside : at + count_trailing_zeros 64 left < end
+  next-inside = let low = lowest one_at left at (end - at) 64 d g (omega arith) in omega (arith, low.inside)
+
+  pub next-fits : left / 2 ^ count_trailing_zeros 64 left / 2 < 2 ^ (end - (at + count_trailing_zeros 64 left + 1))
+  next-fits = rw many-left at (lowest one_at left at (end - at) 64 d g (omega arith)).less
+
+  pub next-bit : NextOn left at end (Some (at + count_trailing_zeros 64 left)) (left / 2 ^ count_trailing_zeros 64 left / 2) (at + count_trailing_zeros 64 left + 1) end
+  next-bit = (
+    next-inside,
+    refl,
+    λ f.
+        let k = count_trailing_zeros 64 left in
+        let next : at + (k + 1) ≡ at + k + 1 = omega arith in
+        rw (next, many-left k) at (lowest f left at (end - at) 64 d g (omega arith)).first,
+  )
+
+-- before the first step
+pub bits-begin : (f : ℕ → List Msr) (x g : ℕ) {left at end : ℕ} → left ≡ x → at ≡ g → end ≡ g + 64 → bits_from f x g 64 ≡ bits_from f left at (end - at)
+bits-begin f x g d e q = let all : g + 64 - g ≡ 64 = omega arith in rw (d, e, q, all)
+
 -- ---- the bytes of MS records
 pub length-ms : (ms : List Msr) → length (ms_bytes ms) ≡ 8 * length ms
 unfolding ms_bytes
@@ -306,9 +332,6 @@ ms-nil = refl
 pub ms-first : (m : Msr) (ms : List Msr) → ms_bytes (m ∷ ms) ≡ write (ms_record m) ++ ms_bytes ms
 unfolding ms_bytes
 ms-first m ms = refl
-
-pub ms-room : {x g n k : ℕ} → Lowest one_at x g n k → 8 ≤ length (ms_bytes (bits_from one_at x g n))
-ms-room low = rw (low.first, length-ms) (omega arith)
 
 -- records behind others
 pub put-join : {s out next : List ℕ} {at p r : ℕ} {a b : List Msr} → SwitchesPut s at a out p → SwitchesPut out p b next r → r ≤ length s → SwitchesPut s at (a ++ b) next r

@@ -1,5 +1,5 @@
 -- The MSR switches of all vCPUs as one row, 16,384 for each vCPU in the order of their places, and the bytes of their records.
-use Rattle.std.specs.Prelude.{◌≡◌, ℕ, zero, suc, ◌+◌, ◌*◌, ◌/◌, ◌%◌, ◌<◌, List, [], ◌∷◌, ◌++◌, Bool, cond, eqb, length, get_or}
+use Rattle.std.specs.Prelude.{◌≡◌, ℕ, zero, suc, ◌+◌, ◌-◌, ◌*◌, ◌/◌, ◌%◌, ◌<◌, List, [], ◌∷◌, ◌++◌, Bool, cond, eqb, length, get_or, Option, Some, None}
 use Rattle.wire.specs.Bytes.{store}
 use Rattle.msrs.specs.Place.{msr_at}
 use Rattle.kvmi.specs.Record.{write_all}
@@ -33,6 +33,12 @@ bits_from f x g (suc n) = cond (eqb (x % 2) 1) (f g ++ bits_from f (x / 2) (suc 
 -- in a word, a switch
 abbrev pub one_at : ℕ → List Msr
 one_at g = msr_of_switch g ∷ []
+
+-- the next of the bits that are on, from number `at` up to `end`, and what is left of them
+abbrev pub NextOn : ℕ → ℕ → ℕ → Option ℕ → ℕ → ℕ → ℕ → Type 0
+NextOn left at end None left' at' end' = left ≡ 0
+NextOn left at end (Some bit) left' at' end' =
+    (bit < end) × (end' ≡ end) × ((f : ℕ → List Msr) → bits_from f left at (end - at) ≡ f bit ++ bits_from f left' at' (end - at'))
 
 -- ---- four words side by side
 -- those from one on; a word past the end is 0

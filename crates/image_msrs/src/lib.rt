@@ -9,13 +9,17 @@ ghost use Rattle.kvmi.specs.Image.{ms_record};
 ghost use Rattle.store.specs.Meaning.{msrs_of};
 ghost use Rattle.image_msrs.specs.Switches.{ms_bytes, msr_of_switch, one_at, switches_from, bits_from, four_at, four_bits, four_of, Marked, Marks, SwitchesPut};
 
+mod bits;
+
+use bits::BitsOn;
 use msrs::PLACES;
 use store::words::{BLOCK_WORDS, MSRS};
 
 // How many switches four words have, 64 each.
 const FOUR: usize = 256;
 
-// Four words side by side: all words of switches are looked at in fours, of which most are 0.
+// Four words side by side: all words of switches are looked at in fours, of which most are 0. Four fields and no array: each word is named by
+// itself, here and in `four_bits`, and is kept in a register.
 #[derive(Clone, Copy)]
 struct Four {
     a: u64,
@@ -46,28 +50,25 @@ fn read_four(words: &[u64], v: usize, j: usize) -> Four
 }
 
 // How many bits of four words are on, whichever switches they are.
+#[tactic(auto, using(crate::proofs::Switches::four_few))]
 fn count_four(f: Four) -> usize
     ensures { (g : ℕ) → result ≡ length (four_bits f g) }
 {
     if (f.a | f.b | f.c | f.d) == 0 {
         return 0;
     }
-    (u64::count_ones(f.a)
-        + u64::count_ones(f.b)
-        + u64::count_ones(f.c)
-        + u64::count_ones(f.d)) as usize
+    (f.a.count_ones() + f.b.count_ones() + f.c.count_ones() + f.d.count_ones()) as usize
 }
 
 // The switches of a vCPU, from its last four to its first.
+#[tactic(auto, using(crate::proofs::Switches::finding_few))]
 fn find(words: &[u64], v: usize) -> Found
     requires { v < 16 }
     ensures { Marked words.now v result.on result.fours }
 {
     let mut on = 0;
     let mut fours = 0;
-    let mut j = 64;
-    while 0 < j {
-        j -= 1;
+    for j in (0..64).rev() {
         let more = count_four(read_four(words, v, j));
         on += more;
         fours = if more == 0 { 2 * fours } else { 2 * fours + 1 };
@@ -81,12 +82,10 @@ fn find_all(words: &[u64], n: usize, marks: &mut [u64]) -> usize
     ensures { (result ≡ length (switches_from words.now 0 (n * 16384))) × Marks words.now n marks.new }
 {
     let mut on = 0;
-    let mut v = 0;
-    while v < n {
+    for v in 0..n {
         let found = find(words, v);
         marks[v] = found.fours;
         on += found.on;
-        v += 1;
     }
     on
 }
@@ -107,14 +106,9 @@ fn put_bits(out: &mut [u8], at: usize, g: usize, w: u64) -> usize
     ensures { SwitchesPut out.old at (bits_from one_at w g 64) out.new result }
 {
     let mut to = at;
-    let mut p = g;
-    let mut x = w;
-    while x != 0 {
-        let k = u64::trailing_zeros(x) as usize;
-        put_ms(out, to, p + k);
+    for p in BitsOn::of(w, g) {
+        put_ms(out, to, p);
         to += 8;
-        p += k + 1;
-        x = x >> k >> 1;
     }
     to
 }
@@ -136,15 +130,9 @@ fn put_vcpu(out: &mut [u8], at: usize, words: &[u64], v: usize, fours: u64) -> u
     ensures { SwitchesPut out.old at (bits_from (four_of words.now v) fours 0 64) out.new result }
 {
     let mut to = at;
-    let mut j = 0;
-    let mut x = fours;
-    while x != 0 {
-        let k = u64::trailing_zeros(x) as usize;
-        let i = j + k;
-        let f = read_four(words, v, i);
-        to = put_four(out, to, v * PLACES + FOUR * i, f);
-        j += k + 1;
-        x = x >> k >> 1;
+    for j in BitsOn::of(fours, 0) {
+        let f = read_four(words, v, j);
+        to = put_four(out, to, v * PLACES + FOUR * j, f);
     }
     to
 }
@@ -155,10 +143,8 @@ fn put_switches(out: &mut [u8], at: usize, words: &[u64], n: usize, marks: &[u64
     ensures { out.new ≡ store out.old at (ms_bytes (switches_from words.now 0 (n * 16384))) }
 {
     let mut to = at;
-    let mut v = 0;
-    while v < n {
+    for v in 0..n {
         to = put_vcpu(out, to, words, v, marks[v]);
-        v += 1;
     }
 }
 
@@ -167,7 +153,7 @@ pub fn count(words: &[u64], n: u16) -> usize
     ensures { result ≡ length (msrs_of words.now 0 (min n 16)) }
 {
     let mut marks = [0u64; 16];
-    find_all(words, wire::smaller(n as usize, 16), &mut marks)
+    find_all(words, (n as usize).min(16), &mut marks)
 }
 
 // The MS records of these switches at an offset, where there is room for all of them. Gives how many there are.
@@ -175,13 +161,10 @@ pub fn put(out: &mut [u8], at: usize, words: &[u64], n: u16) -> usize
     ensures value { result ≡ length (msrs_of words.now 0 (min n 16)) }
     ensures out_after { out.new ≡ store out.old at (ms_bytes (msrs_of words.now 0 (min n 16))) }
 {
-    let held = wire::smaller(n as usize, 16);
+    let held = (n as usize).min(16);
     let mut marks = [0u64; 16];
     let on = find_all(words, held, &mut marks);
-    if out.len() < at {
-        return on;
-    }
-    if 8 * on <= out.len() - at {
+    if at <= out.len() && 8 * on <= out.len() - at {
         put_switches(out, at, words, held, &marks);
     }
     on

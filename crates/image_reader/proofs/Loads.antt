@@ -1,7 +1,7 @@
 -- One record more of an accepted image: the words hold what the records before it state. Assumes nothing.
-use mathlib.Core.Path.{◌≡◌, refl, sym, ◌∙◌}
+use mathlib.Core.Path.{◌≡◌, refl, sym, subst, ◌∙◌}
 use mathlib.Core.Logic.{◌⊎◌, inl, inr, ⊎_elim}
-use Prim.Native.Nat.{ℕ, zero, suc, ◌+◌, ◌%◌, ◌^◌, ◌≤◌, ◌<◌}
+use Prim.Native.Nat.{ℕ, suc, ◌+◌, ◌%◌, ◌^◌, ◌≤◌, ◌<◌}
 use native.Mathlib.Nat.{add-zero, zero-add, suc-add, add-suc}
 use native.Mathlib.Omega.{arith}
 use mathlib.Core.List.{List, [], ◌∷◌, ◌++◌}
@@ -17,17 +17,21 @@ use Rattle.store.specs.Words.{set_msr_bit, cleared}
 use Rattle.laws.proofs.Bool.{and_l, and_r, length-snoc}
 use Rattle.laws.proofs.Load.{judged, refused}
 use Rattle.kvmi.specs.declared.Signal.TheVariants.{Quiet}
-use Rattle.kvmi.specs.Answer.{handled, plain_at}
+use Rattle.kvmi.specs.Answer.{paper, handled}
 use Rattle.session.specs.State.{state}
 use Rattle.session.specs.Calls.{Told}
-use Rattle.image_step.specs.declared.Outcome.TheVariants.{Accepted, BadForm, Forbidden}
+use Rattle.std.specs.Prelude.{Some, None, Result, Ok, Err}
+use Rattle.std.specs.Prelude as std
+use Rattle.image_step.specs.declared.Stated.{Stated}
+use Rattle.image_step.specs.declared.Refusal.{Refusal}
+use Rattle.image_step.specs.Step.{refusal_answer}
 use Rattle.image_reader.specs.Read.{vcpu_loaded, vcpus_loaded, msrs_loaded, page_word, pages_loaded, loaded_state, told_refused, told_loaded, opened_session}
-use Rattle.image_form.specs.declared.Mark.{Mark}
-use Rattle.image_form.specs.declared.Mark.TheVariants.{Vm, Vc, Ms, Pa, En, Cut}
-use Rattle.image_form.specs.Form.{mark_at, row_at}
+use Rattle.image_form.specs.declared.Kind.{Kind}
+use Rattle.image_form.specs.declared.Kind.TheVariants.{Vm, Vc, Ms, Pa, En}
+use Rattle.image_form.specs.Form.{size_of, mark_at, row_at}
 use Rattle.image_form.proofs.Forms.{mark-cut, mark-room}
-use Rattle.image_test.specs.Test.{ready_loaded, records_at, outcome}
-use Rattle.image_reader.specs.Load.{size_by, page_by, word_of, vcpus_by, pages_by}
+use Rattle.image_test.specs.Test.{records_at, outcome}
+use Rattle.image_reader.specs.Load.{loading, page_by, word_of, vcpus_by, pages_by}
 use Rattle.image_test.proofs.Steps.{rest-whole, cut-none, first-none}
 
 -- ---- one element more
@@ -55,6 +59,25 @@ word_good p h =
     let b : p.page % 2 ^ 52 ≡ p.page = omega arith in
     rw (a, b)
 
+-- ---- a kind that loads words
+abbrev loads : Kind → Type 0
+loads Vm = ⊥
+loads Vc = Unit {0}
+loads Ms = Unit {0}
+loads Pa = Unit {0}
+loads En = ⊥
+
+unsome : {a b : Kind} → Some a ≡ Some b → a ≡ b
+unsome e = cc
+
+loads-some : (m : std.Option Kind) (k : Kind) → loading m ≡ Some k → (m ≡ Some k) × loads k
+loads-some (Some Vm) k e = cc
+loads-some (Some Vc) k e = subst (λ x. (Some Vc ≡ Some x) × loads x) (unsome e) (refl, tt)
+loads-some (Some Ms) k e = subst (λ x. (Some Ms ≡ Some x) × loads x) (unsome e) (refl, tt)
+loads-some (Some Pa) k e = subst (λ x. (Some Pa ≡ Some x) × loads x) (unsome e) (refl, tt)
+loads-some (Some En) k e = cc
+loads-some None k e = cc
+
 -- ---- the words so far: t is what the records before a place state
 pub record Loading (s : Settings) (l : List ℕ) (u : Tables) (v₀ p₀ : List ℕ) (at i : ℕ) (v p : List ℕ) : Type 0 where
   pub tables : Tables
@@ -68,7 +91,7 @@ pub record Loading (s : Settings) (l : List ℕ) (u : Tables) (v₀ p₀ : List 
 
 module _ (s : Settings) (l : List ℕ) (u : Tables) (v₀ p₀ : List ℕ) where
   module _ (at i : ℕ) (v p : List ℕ) (h : Loading s l u v₀ p₀ at i v p) where
-    load-vc : mark_at l at ≡ Vc → Loading s l u v₀ p₀ (at + 10) i (vcpus_by Vc l at v) p
+    load-vc : mark_at l at ≡ Some Vc → Loading s l u v₀ p₀ (at + 10) i (vcpus_by Vc l at v) p
     unfolding vcpus_by msrs_loaded
     load-vc m =
         let t = h.tables in
@@ -91,7 +114,7 @@ module _ (s : Settings) (l : List ℕ) (u : Tables) (v₀ p₀ : List ℕ) where
           count = h.count;
         }
 
-    load-ms : mark_at l at ≡ Ms → Loading s l u v₀ p₀ (at + 8) i (vcpus_by Ms l at v) p
+    load-ms : mark_at l at ≡ Some Ms → Loading s l u v₀ p₀ (at + 8) i (vcpus_by Ms l at v) p
     unfolding vcpus_by
     load-ms m =
         let t = h.tables in
@@ -109,7 +132,7 @@ module _ (s : Settings) (l : List ℕ) (u : Tables) (v₀ p₀ : List ℕ) where
           count = h.count;
         }
 
-    load-pa : mark_at l at ≡ Pa → Loading s l u v₀ p₀ (at + 14) (i + 1) v (pages_by Pa l at i p)
+    load-pa : mark_at l at ≡ Some Pa → Loading s l u v₀ p₀ (at + 14) (i + 1) v (pages_by Pa l at i p)
     unfolding pages_by
     load-pa m =
         let t = h.tables in
@@ -134,38 +157,34 @@ module _ (s : Settings) (l : List ℕ) (u : Tables) (v₀ p₀ : List ℕ) where
     end-tables t off [] e = cc
     end-tables t off (r ∷ rs) e = refused e
 
-    ended : (m : Mark) → mark_at l at ≡ m → size_by m ≡ 0 → (v ≡ msrs_loaded (vcpus_loaded v₀ 0 u.vcpus) u.msrs) × (p ≡ pages_loaded p₀ 0 u.pages)
+    ended : (m : std.Option Kind) → mark_at l at ≡ m → loading m ≡ None → (v ≡ msrs_loaded (vcpus_loaded v₀ 0 u.vcpus) u.msrs) × (p ≡ pages_loaded p₀ 0 u.pages)
     unfolding records_at
-    ended Vm m e = refused (rw (rest-whole l at VM m) at h.goes)
-    ended Vc m e = absurd (omega arith)
-    ended Ms m e = absurd (omega arith)
-    ended Pa m e = absurd (omega arith)
-    ended En m e =
+    ended (Some Vm) m e = refused (rw (rest-whole l at VM m) at h.goes)
+    ended (Some Vc) m e = cc
+    ended (Some Ms) m e = cc
+    ended (Some Pa) m e = cc
+    ended (Some En) m e =
         let t = h.tables in
         let f = row_at EN l at in
         let g : judge (fits_in EN s.vcpus h.least t f) true at (ending t (at + 6) (records_at l (at + 6))) ≡ loaded u = rw (rest-whole l at EN m) at h.goes in
         let same : t ≡ u = end-tables t (at + 6) (records_at l (at + 6)) (judged (fits_in EN s.vcpus h.least t f) true at (ending t (at + 6) (records_at l (at + 6))) u g).2 in
         rw (← same) (h.vcpus, h.pages)
-    ended Cut m e = refused (sym (cut-none s s.vcpus at h.least h.tables (drop at l) (mark-cut l at m)) ∙ h.goes)
+    ended None m e = refused (sym (cut-none s s.vcpus at h.least h.tables (drop at l) (mark-cut l at m)) ∙ h.goes)
 
-    pub load-ended : size_by (mark_at l at) ≡ 0 → (v ≡ msrs_loaded (vcpus_loaded v₀ 0 u.vcpus) u.msrs) × (p ≡ pages_loaded p₀ 0 u.pages)
+    pub load-ended : loading (mark_at l at) ≡ None → (v ≡ msrs_loaded (vcpus_loaded v₀ 0 u.vcpus) u.msrs) × (p ≡ pages_loaded p₀ 0 u.pages)
     load-ended e = ended (mark_at l at) refl e
 
-    one_more : (m : Mark) → mark_at l at ≡ m → 0 < size_by m → Loading s l u v₀ p₀ (at + size_by m) (i + page_by m) (vcpus_by m l at v) (pages_by m l at i p)
+    pub load-more : (k : Kind) → loading (mark_at l at) ≡ Some k → Loading s l u v₀ p₀ (at + size_of k) (i + page_by k) (vcpus_by k l at v) (pages_by k l at i p)
     unfolding vcpus_by pages_by
-    one_more Vm m e = absurd (omega arith)
-    one_more Vc m e = rw add-zero (load-vc m)
-    one_more Ms m e = rw add-zero (load-ms m)
-    one_more Pa m e = load-pa m
-    one_more En m e = absurd (omega arith)
-    one_more Cut m e = absurd (omega arith)
+    load-more Vm e = absurd (loads-some _ Vm e).1
+    load-more Vc e = rw add-zero (load-vc (loads-some _ Vc e).0)
+    load-more Ms e = rw add-zero (load-ms (loads-some _ Ms e).0)
+    load-more Pa e = load-pa (loads-some _ Pa e).0
+    load-more En e = absurd (loads-some _ En e).1
 
-    pub load-more : 0 < size_by (mark_at l at) → Loading s l u v₀ p₀ (at + size_by (mark_at l at)) (i + page_by (mark_at l at)) (vcpus_by (mark_at l at) l at v) (pages_by (mark_at l at) l at i p)
-    load-more e = one_more (mark_at l at) refl e
-
-  begin-by : (m : Mark) → mark_at l 0 ≡ m → load_records s (records_at l 0) ≡ loaded u → Loading s l u v₀ p₀ 8 0 v₀ p₀
+  begin-by : (m : std.Option Kind) → mark_at l 0 ≡ m → load_records s (records_at l 0) ≡ loaded u → Loading s l u v₀ p₀ 8 0 v₀ p₀
   unfolding records_at vm_form vm_may vcpus_loaded msrs_loaded pages_loaded
-  begin-by Vm m e =
+  begin-by (Some Vm) m e =
       let f = row_at VM l 0 in
       let next = load_rest s f.1.0 8 (suc (order_of VM f)) (stated f.1.1.0) (records_at l 8) in
       let g : judge (eqb f.0 1 && vm_form f.1.0 f.1.1.0) (vm_may s f.1.0 f.1.1.0) 0 next ≡ loaded u = rw (rest-whole l 0 VM m) at e in
@@ -184,66 +203,56 @@ module _ (s : Settings) (l : List ℕ) (u : Tables) (v₀ p₀ : List ℕ) where
         pages = refl;
         count = refl;
       }
-  begin-by Vc m e = refused (rw (rest-whole l 0 VC m) at e)
-  begin-by Ms m e = refused (rw (rest-whole l 0 MS m) at e)
-  begin-by Pa m e = refused (rw (rest-whole l 0 PA m) at e)
-  begin-by En m e = refused (rw (rest-whole l 0 EN m) at e)
-  begin-by Cut m e = refused (sym (first-none s (drop 0 l) (mark-cut l 0 m)) ∙ e)
+  begin-by (Some Vc) m e = refused (rw (rest-whole l 0 VC m) at e)
+  begin-by (Some Ms) m e = refused (rw (rest-whole l 0 MS m) at e)
+  begin-by (Some Pa) m e = refused (rw (rest-whole l 0 PA m) at e)
+  begin-by (Some En) m e = refused (rw (rest-whole l 0 EN m) at e)
+  begin-by None m e = refused (sym (first-none s (drop 0 l) (mark-cut l 0 m)) ∙ e)
 
   pub load-begins : load_image s l ≡ loaded u → Loading s l u v₀ p₀ 8 0 v₀ p₀
   unfolding load_image records_at
   load-begins e = begin-by (mark_at l 0) refl e
 
 -- ---- what code asks of a step
-room_by : (l : List ℕ) (at : ℕ) (m : Mark) → mark_at l at ≡ m → 0 < size_by m → at + size_by m ≤ length l
-room_by l at Vm m e = absurd (omega arith)
-room_by l at Vc m e = mark-room l at VC m
-room_by l at Ms m e = mark-room l at MS m
-room_by l at Pa m e = mark-room l at PA m
-room_by l at En m e = absurd (omega arith)
-room_by l at Cut m e = absurd (omega arith)
+load-room : (l : List ℕ) (at : ℕ) (k : Kind) → loading (mark_at l at) ≡ Some k → at + size_of k ≤ length l
+load-room l at Vm e = mark-room l at VM (loads-some _ Vm e).0
+load-room l at Vc e = mark-room l at VC (loads-some _ Vc e).0
+load-room l at Ms e = mark-room l at MS (loads-some _ Ms e).0
+load-room l at Pa e = mark-room l at PA (loads-some _ Pa e).0
+load-room l at En e = mark-room l at EN (loads-some _ En e).0
 
-pub load-room : (l : List ℕ) (at : ℕ) → 0 < size_by (mark_at l at) → at + size_by (mark_at l at) ≤ length l
-load-room l at e = room_by l at (mark_at l at) refl e
+-- a record has bytes, and loads no more page words than it has bytes
+sizes : (k : Kind) → (page_by k ≤ size_of k) × (0 < size_of k)
+sizes Vm = (omega arith, omega arith)
+sizes Vc = (omega arith, omega arith)
+sizes Ms = (omega arith, omega arith)
+sizes Pa = (omega arith, omega arith)
+sizes En = (omega arith, omega arith)
 
-pub page-small : (m : Mark) → page_by m ≤ size_by m
-page-small Vm = omega arith
-page-small Vc = omega arith
-page-small Ms = omega arith
-page-small Pa = omega arith
-page-small En = omega arith
-page-small Cut = omega arith
-
-pub some_size : (a b : ℕ) → a ≡ b → (a ≡ 0 → ⊥) → 0 < b
-some_size zero b e n = absurd (n refl)
-some_size (suc a) b e n = omega arith
+pub load-fits : (l : List ℕ) (at : ℕ) (k : Kind) → loading (mark_at l at) ≡ Some k → (at + size_of k ≤ length l) × (page_by k ≤ size_of k) × (0 < size_of k)
+load-fits l at k e = (load-room l at k e, (sizes k).0, (sizes k).1)
 
 -- ---- the call, by what the test said
+unerr : {a b : Refusal} → ◌≡◌ {A = Result Stated Refusal} (Err a) (Err b) → a ≡ b
+unerr e = cc
+
+unok : {a b : Stated} → ◌≡◌ {A = Result Stated Refusal} (Ok a) (Ok b) → a ≡ b
+unok e = cc
+
 module _ (s : Settings) (v p : List ℕ) where
-  pub told-bad : (x : Loaded) (off : ℕ) → outcome x ≡ BadForm off → told_refused (plain_at 8 off) s v p ≡ told_loaded s v p x
+  pub told-refusal : (x : Loaded) (r : Refusal) → outcome x ≡ Err r → told_refused (paper (refusal_answer r)) s v p ≡ told_loaded s v p x
   unfolding outcome told_loaded
-  told-bad (loaded t) off e = let z : ◌≡◌ {A = ℕ} 0 1 = cc in absurd (omega arith)
-  told-bad (bad_form at) off e = let q : off ≡ at = cc in rw q
-  told-bad (forbidden at) off e = let z : ◌≡◌ {A = ℕ} 0 1 = cc in absurd (omega arith)
+  told-refusal (loaded t) r e = cc
+  told-refusal (bad_form off) r e = subst (λ y. told_refused (paper (refusal_answer y)) s v p ≡ told_loaded s v p (bad_form off)) (unerr e) refl
+  told-refusal (forbidden off) r e = subst (λ y. told_refused (paper (refusal_answer y)) s v p ≡ told_loaded s v p (forbidden off)) (unerr e) refl
 
-  pub told-forbidden : (x : Loaded) (off : ℕ) → outcome x ≡ Forbidden off → told_refused (plain_at 9 off) s v p ≡ told_loaded s v p x
-  unfolding outcome told_loaded
-  told-forbidden (loaded t) off e = let z : ◌≡◌ {A = ℕ} 0 1 = cc in absurd (omega arith)
-  told-forbidden (bad_form at) off e = let z : ◌≡◌ {A = ℕ} 0 1 = cc in absurd (omega arith)
-  told-forbidden (forbidden at) off e = let q : off ≡ at = cc in rw q
+  abbrev pub told_opened : Stated → List ℕ → List ℕ → Told
+  told_opened a w q = record { answer = handled 0 Quiet; state = state (opened_session s a.events a.pages a.ready) w q; out = []; guest = [] }
 
-  abbrev pub told_opened : ℕ → ℕ → ℕ → List ℕ → List ℕ → Told
-  told_opened events pages ready w q =
-      record { answer = handled 0 Quiet; state = state (opened_session s events pages ready) w q; out = []; guest = [] }
-
-  pub told-accepted : (x : Loaded) (events pages ready : ℕ) (w q : List ℕ) → outcome x ≡ Accepted events pages ready
+  pub told-accepted : (x : Loaded) (a : Stated) (w q : List ℕ) → outcome x ≡ Ok a
       → ((u : Tables) → x ≡ loaded u → (w ≡ msrs_loaded (vcpus_loaded (cleared v) 0 u.vcpus) u.msrs) × (q ≡ pages_loaded (cleared p) 0 u.pages))
-      → told_opened events pages ready w q ≡ told_loaded s v p x
+      → told_opened a w q ≡ told_loaded s v p x
   unfolding outcome told_loaded loaded_state
-  told-accepted (loaded t) events pages ready w q e k =
-      let a : events ≡ t.events = cc in
-      let b : pages ≡ length t.pages = cc in
-      let d : ready ≡ ready_loaded 0 0 t.vcpus = cc in
-      rw ((k t refl).0, (k t refl).1, a, b, d)
-  told-accepted (bad_form at) events pages ready w q e k = let z : ◌≡◌ {A = ℕ} 0 1 = cc in absurd (omega arith)
-  told-accepted (forbidden at) events pages ready w q e k = let z : ◌≡◌ {A = ℕ} 0 1 = cc in absurd (omega arith)
+  told-accepted (loaded t) a w q e k = rw (← unok e, (k t refl).0, (k t refl).1)
+  told-accepted (bad_form at) a w q e k = cc
+  told-accepted (forbidden at) a w q e k = cc

@@ -1,144 +1,121 @@
 // The image reader: one pass tests every record and changes nothing, and one loads what an accepted image states.
 #![tactic(auto)]
 
-ghost use Rattle.std.specs.Prelude.{◌≡◌, true, ◌+◌, ◌≤◌, length, set, []};
-ghost use Rattle.kvmi.specs.Bits.{bit};
+ghost use Rattle.std.specs.Prelude.{◌≡◌, true, ◌+◌, ◌≤◌, length, set, [], Some};
 ghost use Rattle.kvmi.specs.Record.{VC, MS};
 ghost use Rattle.kvmi.specs.Image.{vcpu_of_row};
 ghost use Rattle.store.specs.Words.{set_msr_bit};
 ghost use Rattle.image_reader.specs.Read.{vcpu_loaded, HoldStated, read_of, opened_session};
 ghost use Rattle.session.specs.Calls.{told};
-ghost use Rattle.image_reader.specs.Load.{size_by, page_by, word_of, word_at, vcpus_by, pages_by};
+ghost use Rattle.session.specs.State.{closed_session};
+ghost use Rattle.image_reader.specs.Load.{loading, page_by, word_of, word_at, vcpus_by, pages_by};
 ghost use Rattle.image_form.specs.Form.{mark_at, row_at};
 
-use image_form::Mark;
-use image_step::Outcome;
+use image_form::{Kind, MsRecord, PaRecord, VcRecord};
+use image_step::Stated;
 use kvmi::{Answer, Settings};
 use page_words::PageWords;
 use session::{Done, Session, Shared, Tool};
+use store::words;
 use store::words::VcpuWords;
 
-// The bytes of a record that loads words.
-fn record_size(mark: Mark) -> usize
-    ensures { result ≡ size_by mark }
+// A page's word: the view from bit 55 on, the page from bit 3 on, and the access.
+const VIEW: u64 = 1 << 55;
+
+const PAGE: u64 = 1 << 3;
+
+// The kind of the record at an offset, if it loads words. VM and EN load none.
+fn loading_at(l: &[u8], at: usize) -> Option<Kind>
+    ensures { result ≡ loading (mark_at l.now at) }
 {
-    match mark {
-        Mark::Vc => 10,
-        Mark::Ms => 8,
-        Mark::Pa => 14,
-        Mark::Vm => 0,
-        Mark::En => 0,
-        Mark::Cut => 0,
+    match image_form::mark_at(l, at)? {
+        Kind::Vm | Kind::En => None,
+        kind => Some(kind),
     }
 }
 
-// How many page words it loads.
-fn pages_of(mark: Mark) -> usize
-    ensures { result ≡ page_by mark }
+// How many page words a record loads.
+fn pages_of(kind: Kind) -> usize
+    ensures { result ≡ page_by kind }
 {
-    match mark {
-        Mark::Pa => 1,
-        Mark::Vc => 0,
-        Mark::Ms => 0,
-        Mark::Vm => 0,
-        Mark::En => 0,
-        Mark::Cut => 0,
+    match kind {
+        Kind::Pa => 1,
+        _ => 0,
     }
-}
-
-fn bit_of(on: bool) -> u64
-    ensures { result ≡ bit on }
-{
-    if on { 1 } else { 0 }
 }
 
 // The word of a page.
-fn word_of(view: u16, page: u64, access: u8) -> u64
-    ensures { result ≡ word_of view page access }
+fn word_of(record: PaRecord) -> u64
+    ensures { result ≡ word_of record.view record.page record.access }
 {
-    (view % 8) as u64 * 36028797018963968 + (page % kvmi::PAGES) * 8 + access as u64
+    (record.view % 8) as u64 * VIEW + (record.page % kvmi::PAGES) * PAGE + record.access as u64
 }
 
+#[tactic(auto, unfolding(crate::specs::Read::vcpu_loaded))]
 fn load_vc(vcpus: &mut [u64], l: &[u8], at: usize)
     requires { at + 10 ≤ length l.now }
     ensures { vcpus.new ≡ vcpu_loaded vcpus.old (row_at VC l.now at).0 (vcpu_of_row (row_at VC l.now at)) }
 {
-    let i = wire::load16(l, at + 2);
-    let step = bit_of(wire::byte(l, at + 4) / 2 == 1);
-    let crs = wire::byte(l, at + 5);
-    let events = wire::load16(l, at + 6);
-    let pauses = wire::byte(l, at + 8);
-    store::words::write_field(vcpus, i, store::words::SINGLESTEP, step);
-    store::words::write_field(vcpus, i, store::words::CRS, crs as u64);
-    store::words::write_field(vcpus, i, store::words::EVENTS, events as u64);
-    store::words::write_field(vcpus, i, store::words::PAUSES, pauses as u64);
+    let record = VcRecord::read(l, at);
+    let vcpu = record.vcpu;
+    let step = record.is_stepping() as u64;
+    words::write_field(vcpus, vcpu, words::SINGLESTEP, step);
+    words::write_field(vcpus, vcpu, words::CRS, record.crs as u64);
+    words::write_field(vcpus, vcpu, words::EVENTS, record.events as u64);
+    words::write_field(vcpus, vcpu, words::PAUSES, record.pauses as u64);
 }
 
 fn load_ms(vcpus: &mut [u64], l: &[u8], at: usize)
     requires { at + 8 ≤ length l.now }
     ensures { vcpus.new ≡ set_msr_bit vcpus.old (row_at MS l.now at).0 (row_at MS l.now at).1.0 true }
 {
-    store::words::write_msr(
-        vcpus,
-        wire::load16(l, at + 2),
-        wire::load32(l, at + 4),
-        true,
-    );
+    let record = MsRecord::read(l, at);
+    words::write_msr(vcpus, record.vcpu, record.msr, true);
 }
 
 fn load_pa(pages: &mut [u64], l: &[u8], at: usize, i: usize)
     requires { at + 14 ≤ length l.now }
     ensures { pages.new ≡ set pages.old i (word_at l.now at) }
 {
-    let word = word_of(
-        wire::load16(l, at + 2),
-        wire::load64(l, at + 6),
-        wire::byte(l, at + 4),
-    );
+    let word = word_of(PaRecord::read(l, at));
     if i < pages.len() {
         pages[i] = word;
     }
 }
 
-fn load_record(mark: Mark, vcpus: &mut [u64], pages: &mut [u64], l: &[u8], at: usize, i: usize)
-    requires { mark ≡ mark_at l.now at }
-    ensures { (vcpus.new ≡ vcpus_by mark l.now at vcpus.old) × (pages.new ≡ pages_by mark l.now at i pages.old) }
+#[tactic(auto, unfolding(crate::specs::Load::vcpus_by, crate::specs::Load::pages_by))]
+fn load_record(kind: Kind, vcpus: &mut [u64], pages: &mut [u64], l: &[u8], at: usize, i: usize)
+    requires { mark_at l.now at ≡ Some kind }
+    ensures { (vcpus.new ≡ vcpus_by kind l.now at vcpus.old) × (pages.new ≡ pages_by kind l.now at i pages.old) }
 {
-    match mark {
-        Mark::Vc => load_vc(vcpus, l, at),
-        Mark::Ms => load_ms(vcpus, l, at),
-        Mark::Pa => load_pa(pages, l, at, i),
-        Mark::Vm => {}
-        Mark::En => {}
-        Mark::Cut => {}
+    match kind {
+        Kind::Vc => load_vc(vcpus, l, at),
+        Kind::Ms => load_ms(vcpus, l, at),
+        Kind::Pa => load_pa(pages, l, at, i),
+        Kind::Vm | Kind::En => {}
     }
 }
 
-// What an accepted image states, onto cleared words.
+// What an accepted image states, onto cleared words. The first record is a VM.
 fn load(l: &[u8], vcpus: &mut [u64], pages: &mut [u64])
     ensures { HoldStated l.now vcpus.old pages.old vcpus.new pages.new }
 {
-    let mut at: usize = 8;
-    let mut i: usize = 0;
-    loop {
-        let mark = image_form::mark_at(l, at);
-        let size = record_size(mark);
-        if size == 0 {
-            return;
-        }
-        load_record(mark, vcpus, pages, l, at, i);
-        i += pages_of(mark);
-        at += size;
+    let mut at = Kind::Vm.size();
+    let mut i = 0;
+    while let Some(kind) = loading_at(l, at) {
+        load_record(kind, vcpus, pages, l, at, i);
+        i += pages_of(kind);
+        at += kind.size();
     }
 }
 
 // Open, with what an image states beside the words.
-fn opened(settings: Settings, events: u64, pages: u64, ready: u64) -> Session
-    ensures { result ≡ opened_session settings events pages ready }
+fn opened(settings: Settings, stated: Stated) -> Session
+    ensures { result ≡ opened_session settings stated.events stated.pages stated.ready }
 {
     let tool = Tool {
-        events,
-        pages,
+        events: stated.events,
+        pages: stated.pages as u64,
         opened: 1,
         mode: 0,
         seq: 0,
@@ -146,7 +123,19 @@ fn opened(settings: Settings, events: u64, pages: u64, ready: u64) -> Session
     Session {
         settings,
         tool,
-        shared: Shared { ready },
+        shared: Shared {
+            ready: stated.ready,
+        },
+    }
+}
+
+// Closed, with the answer that says why.
+fn refused(settings: Settings, answer: Answer) -> Done
+    ensures { (result.answer ≡ answer) × (result.session ≡ closed_session settings) }
+{
+    Done {
+        answer,
+        session: Session::shut(settings),
     }
 }
 
@@ -161,32 +150,17 @@ pub fn read_image(
     ensures { told result vcpus.new pages.new [] [] ≡ read_of settings l.now vcpus.old pages.old }
 {
     if !session::in_range(settings) {
-        return Done {
-            answer: Answer::BadSettings,
-            session: Session::shut(settings),
-        };
+        return refused(settings, Answer::BadSettings);
     }
-    let tested = image_test::test(settings, l);
-    match tested {
-        Outcome::BadForm { offset } => Done {
-            answer: Answer::BadForm { offset },
-            session: Session::shut(settings),
-        },
-        Outcome::Forbidden { offset } => Done {
-            answer: Answer::Forbidden { offset },
-            session: Session::shut(settings),
-        },
-        Outcome::Accepted {
-            events,
-            pages: count,
-            ready,
-        } => {
-            store::words::clear(vcpus);
-            store::words::clear(pages);
+    match image_test::test(settings, l) {
+        Err(refusal) => refused(settings, Answer::from(refusal)),
+        Ok(stated) => {
+            words::clear(vcpus);
+            words::clear(pages);
             load(l, vcpus, pages);
             Done {
                 answer: kvmi::answers::done(),
-                session: opened(settings, events, count as u64, ready),
+                session: opened(settings, stated),
             }
         }
     }

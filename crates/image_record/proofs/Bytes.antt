@@ -10,8 +10,9 @@ use lib.ListN.{length}
 use Rattle.wire.specs.Bytes.{le, store}
 use Rattle.wire.proofs.Laws.{le_join, store-past}
 use Rattle.kvmi.specs.Bits.{bit, is_on}
-use Rattle.kvmi.specs.Record.{write}
-use Rattle.kvmi.specs.Row.{write_row}
+use Rattle.kvmi.specs.Record.{Kind, widths, size, whole, write}
+use Rattle.kvmi.specs.Row.{Row, write_row}
+use Rattle.laws.proofs.Record.{length-write}
 use Rattle.kvmi.specs.Image.{vm_record, vc_record, ms_record, pa_record, en_record}
 use Rattle.store.specs.Words.{field, SINGLESTEP, CRS, EVENTS, PAUSES}
 use Rattle.store.specs.Meaning.{vcpu_of_words}
@@ -52,6 +53,6 @@ pub en-bytes : (n : ℕ) → le 2 0x4E45 ++ le 4 (n % 4294967296) ≡ write (en_
 unfolding write_row
 en-bytes n = rw (le_low 4 n, append-nil)
 
--- ---- a part that is too short
-pub too_short : (s b : List ℕ) (k : ℕ) → length b ≡ k → length s < k → s ≡ store s 0 b
-too_short s b k e h = sym (store-past s 0 b (omega (arith, e, h)))
+-- ---- a part that is too short for its record
+pub too_short : (s : List ℕ) (k : Kind) (f : Row (widths k)) → length s < size k → s ≡ store s 0 (write (whole k f))
+too_short s k f h = sym (store-past s 0 _ (omega (arith, length-write k f)))

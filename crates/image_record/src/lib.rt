@@ -25,14 +25,11 @@ const EN: u16 = 0x4E45;
 const VIEW: u64 = 36028797018963968;
 
 // The flags of a vCPU: 1 ready, 2 singlestep.
+#[tactic(auto, unfolding(kvmi::specs::Bits::bit))]
 fn flags_of(ready: bool, singlestep: u64) -> u8
     ensures { result ≡ bit ready + 2 * bit (not (eqb singlestep 0)) }
 {
-    if singlestep != 0 {
-        if ready { 3 } else { 2 }
-    } else {
-        if ready { 1 } else { 0 }
-    }
+    u8::from(ready) + 2 * u8::from(singlestep != 0)
 }
 
 // The VM record.
@@ -40,10 +37,10 @@ pub fn vm(out: &mut [u8], n: u16, events: u64)
     ensures { out.new ≡ store out.old 0 (write (vm_record n events)) }
 {
     if 8 <= out.len() {
-        wire::store16(out, 0, VM);
-        wire::store16(out, 2, 1);
-        wire::store16(out, 4, n);
-        wire::store16(out, 6, (events % 65536) as u16);
+        wire::store(out, 0, VM);
+        wire::store(out, 2, 1u16);
+        wire::store(out, 4, n);
+        wire::store(out, 6, (events % 65536) as u16);
     }
 }
 
@@ -58,13 +55,13 @@ pub fn vc(out: &mut [u8], ready: u64, words: &[u64], i: u16)
     let pauses = store::words::read_field(words, i, store::words::PAUSES);
     let flags = flags_of(is_ready, singlestep);
     if 10 <= out.len() {
-        wire::store16(out, 0, VC);
-        wire::store16(out, 2, i);
-        wire::store8(out, 4, flags);
-        wire::store8(out, 5, (crs % 256) as u8);
-        wire::store16(out, 6, (events % 65536) as u16);
-        wire::store8(out, 8, (pauses % 256) as u8);
-        wire::store8(out, 9, 0);
+        wire::store(out, 0, VC);
+        wire::store(out, 2, i);
+        wire::store(out, 4, flags);
+        wire::store(out, 5, (crs % 256) as u8);
+        wire::store(out, 6, (events % 65536) as u16);
+        wire::store(out, 8, (pauses % 256) as u8);
+        wire::store(out, 9, 0u8);
     }
 }
 
@@ -73,9 +70,9 @@ pub fn ms(out: &mut [u8], vcpu: u16, msr: u32)
     ensures { out.new ≡ store out.old 0 (write (ms_record (record { vcpu = vcpu; msr = msr }))) }
 {
     if 8 <= out.len() {
-        wire::store16(out, 0, MS);
-        wire::store16(out, 2, vcpu);
-        wire::store32(out, 4, msr);
+        wire::store(out, 0, MS);
+        wire::store(out, 2, vcpu);
+        wire::store(out, 4, msr);
     }
 }
 
@@ -84,10 +81,10 @@ pub fn pa(out: &mut [u8], w: u64)
     ensures { out.new ≡ store out.old 0 (write (pa_record (page_of_word w))) }
 {
     if 14 <= out.len() {
-        wire::store16(out, 0, PA);
-        wire::store16(out, 2, (w / VIEW) as u16);
-        wire::store16(out, 4, (w % 8) as u16);
-        wire::store64(out, 6, w / 8 % kvmi::PAGES);
+        wire::store(out, 0, PA);
+        wire::store(out, 2, (w / VIEW) as u16);
+        wire::store(out, 4, (w % 8) as u16);
+        wire::store(out, 6, w / 8 % kvmi::PAGES);
     }
 }
 
@@ -96,7 +93,7 @@ pub fn en(out: &mut [u8], count: usize)
     ensures { out.new ≡ store out.old 0 (write (en_record count)) }
 {
     if 6 <= out.len() {
-        wire::store16(out, 0, EN);
-        wire::store32(out, 2, (count % 4294967296) as u32);
+        wire::store(out, 0, EN);
+        wire::store(out, 2, (count % 4294967296) as u32);
     }
 }

@@ -1,26 +1,30 @@
 // The test of one record of a table image, with what it asks of those before it. It changes nothing.
 #![tactic(auto)]
 
-ghost use Rattle.std.specs.Prelude.{◌≡◌, ◌+◌, ◌≤◌, length};
+ghost use Rattle.std.specs.Prelude.{◌≡◌, ◌+◌, ◌≤◌, ◌<◌, ◌^◌, length, cond, Ok, Err};
 ghost use Rattle.kvmi.specs.Record.{VM, VC, MS, PA, EN};
-ghost use Rattle.image_form.specs.Form.{mark_at, row_at};
-ghost use Rattle.image_step.specs.declared.Outcome.TheVariants.{BadForm, Forbidden};
-ghost use Rattle.image_step.specs.declared.Advance.TheVariants.{Stop};
-ghost use Rattle.image_step.specs.Step.{is_after, vm_step, vc_step, ms_step, pa_step, en_step, next_step_of, first_by};
+ghost use Rattle.image_form.specs.Form.{size_of, mark_at, row_at};
+ghost use Rattle.image_step.specs.Step.{refusal_answer, is_after, past, vm_step, vc_step, ms_step, pa_step, en_step, next_step_of, first_by};
 
-use image_form::Mark;
-use kvmi::Settings;
+use image_form::{Kind, MsRecord, PaRecord, VcRecord, VmRecord};
+use kvmi::{Answer, Settings};
+
+// A place in the image's order: by kind, then by vCPU or view, then by MSR or page.
+#[derive(Clone, Copy, PartialEq, Eq, PartialOrd, Ord)]
+pub struct Place {
+    pub kind: Kind,
+    pub major: u16,
+    pub minor: u64,
+}
 
 // What the tests of a record ask of those before it.
 #[derive(Clone, Copy)]
 pub struct Progress {
-    // Where the next record stands, and how many stand before it. The count wraps, since it may start at any number.
+    // The offset of the next record, and how many come before it. The count wraps, since it may start at any number.
     pub at: usize,
     pub records: usize,
-    // The place of the last one in the image's order.
-    pub kind: u32,
-    pub major: u16,
-    pub minor: u64,
+    // The place of the last one.
+    pub last: Place,
     // VM event switches.
     pub events: u64,
     // How many vCPUs and pages there were, and the ready marks.
@@ -29,245 +33,193 @@ pub struct Progress {
     pub pages: usize,
 }
 
-// What a test of all of an image says: what an accepted one states, or where the first record stands that breaks a rule.
+// What an accepted image states beside its words.
 #[derive(Clone, Copy)]
-pub enum Outcome {
-    Accepted {
-        events: u64,
-        pages: usize,
-        ready: u64,
-    },
-    BadForm {
-        offset: usize,
-    },
-    Forbidden {
-        offset: usize,
-    },
+pub struct Stated {
+    pub events: u64,
+    pub pages: usize,
+    pub ready: u64,
 }
 
-// What the test of one record says.
+// The offset of the first record that breaks a rule.
 #[derive(Clone, Copy)]
-pub enum Advance {
-    Next { progress: Progress },
-    Stop { outcome: Outcome },
+pub enum Refusal {
+    BadForm { offset: usize },
+    Forbidden { offset: usize },
 }
 
-// Whether a place in the image's order comes after that of the last record.
-fn is_after(p: Progress, kind: u32, major: u16, minor: u64) -> bool
-    ensures { result ≡ is_after p kind major minor }
+impl From<Refusal> for Answer {
+    ghost from_gives = { λ r a. a ≡ refusal_answer r };
+
+    fn from(refusal: Refusal) -> Answer {
+        match refusal {
+            Refusal::BadForm { offset } => Answer::BadForm { offset },
+            Refusal::Forbidden { offset } => Answer::Forbidden { offset },
+        }
+    }
+}
+
+// What the test of a record that is not refused says: the image goes on, or it ends.
+#[derive(Clone, Copy)]
+pub enum Step {
+    Next(Progress),
+    End(Stated),
+}
+
+// Refuses if a rule does not hold. What is permitted is tested only after the form has passed: both at once take 2 instructions
+// more a record.
+fn check(holds: bool, refusal: Refusal) -> Result<(), Refusal>
+    ensures { result ≡ cond holds (Ok tt) (Err refusal) }
 {
-    if p.kind != kind {
-        return p.kind < kind;
-    }
-    if p.major != major {
-        return p.major < major;
-    }
-    p.minor < minor
+    if holds { Ok(()) } else { Err(refusal) }
 }
 
-fn reject(offset: usize) -> Advance
-    ensures { result ≡ Stop (BadForm offset) }
-{
-    Advance::Stop {
-        outcome: Outcome::BadForm { offset },
+impl Progress {
+    // Whether a place comes after that of the last record.
+    fn precedes(self, place: Place) -> bool
+        ensures { result ≡ is_after self place }
+    {
+        self.last < place
+    }
+
+    // After one record more.
+    fn past(self, place: Place) -> Progress
+        requires { self.at + size_of place.kind < 2 ^ 64 }
+        ensures { result ≡ past self place }
+    {
+        Progress {
+            at: self.at + place.kind.size(),
+            records: self.records.wrapping_add(1),
+            last: place,
+            ..self
+        }
     }
 }
 
-fn forbid(offset: usize) -> Advance
-    ensures { result ≡ Stop (Forbidden offset) }
-{
-    Advance::Stop {
-        outcome: Outcome::Forbidden { offset },
-    }
-}
-
-fn step_vm(s: Settings, l: &[u8]) -> Advance
+#[tactic(auto, unfolding(crate::specs::Step::vm_step))]
+fn step_vm(s: Settings, l: &[u8]) -> Result<Progress, Refusal>
     requires { 8 ≤ length l.now }
     ensures { result ≡ vm_step s (row_at VM l.now 0) }
 {
-    let n = wire::load16(l, 4);
-    let events = wire::load16(l, 6);
-    if wire::load16(l, 2) != 1 {
-        return reject(0);
-    }
-    if !image_form::vm_form(n, events) {
-        return reject(0);
-    }
-    if !image_form::vm_may(s, n, events) {
-        return forbid(0);
-    }
-    let progress = Progress {
-        at: 8,
-        records: 1,
-        kind: 0,
+    let record = VmRecord::read(l, 0);
+    check(record.has_form(), Refusal::BadForm { offset: 0 })?;
+    check(record.is_permitted(s), Refusal::Forbidden { offset: 0 })?;
+    let place = Place {
+        kind: Kind::Vm,
         major: 0,
         minor: 0,
-        events: events as u64,
+    };
+    Ok(Progress {
+        at: place.kind.size(),
+        records: 1,
+        last: place,
+        events: record.events as u64,
         count: 0,
         ready: 0,
         pages: 0,
-    };
-    Advance::Next { progress }
+    })
 }
 
-fn step_vc(s: Settings, l: &[u8], p: Progress) -> Advance
+#[tactic(auto, unfolding(crate::specs::Step::vc_step, store::specs::Words::put_bit64))]
+fn step_vc(s: Settings, l: &[u8], p: Progress) -> Result<Step, Refusal>
     requires { p.at + 10 ≤ length l.now }
     ensures { result ≡ vc_step s p (row_at VC l.now p.at) }
 {
-    let at = p.at;
-    let next = at + 10;
-    let vcpu = wire::load16(l, at + 2);
-    let flags = wire::byte(l, at + 4);
-    let crs = wire::byte(l, at + 5);
-    let events = wire::load16(l, at + 6);
-    let pauses = wire::byte(l, at + 8);
-    let zero = wire::byte(l, at + 9);
-    if !is_after(p, 1, vcpu, 0) {
-        return reject(at);
-    }
-    if vcpu as u32 != p.count {
-        return reject(at);
-    }
-    if !image_form::vc_form(s, vcpu, flags, crs, events, pauses, zero) {
-        return reject(at);
-    }
-    if !image_form::vc_may(s, flags, events, pauses) {
-        return forbid(at);
-    }
-    let progress = Progress {
-        at: next,
-        records: std::num::wrapping_add_usize(p.records, 1),
-        kind: 1,
-        major: vcpu,
+    let record = VcRecord::read(l, p.at);
+    let place = Place {
+        kind: Kind::Vc,
+        major: record.vcpu,
         minor: 0,
-        events: p.events,
-        count: p.count + 1,
-        ready: store::bits::put_bit(p.ready, p.count, flags % 2 == 1),
-        pages: p.pages,
     };
-    Advance::Next { progress }
+    let form = p.precedes(place) && record.vcpu as u32 == p.count && record.has_form(s);
+    check(form, Refusal::BadForm { offset: p.at })?;
+    check(record.is_permitted(s), Refusal::Forbidden { offset: p.at })?;
+    Ok(Step::Next(Progress {
+        count: p.count + 1,
+        ready: store::bits::put_bit(p.ready, p.count, record.is_ready()),
+        ..p.past(place)
+    }))
 }
 
-fn step_ms(s: Settings, l: &[u8], p: Progress) -> Advance
+#[tactic(auto, unfolding(crate::specs::Step::ms_step))]
+fn step_ms(s: Settings, l: &[u8], p: Progress) -> Result<Step, Refusal>
     requires { p.at + 8 ≤ length l.now }
     ensures { result ≡ ms_step s p (row_at MS l.now p.at) }
 {
-    let at = p.at;
-    let next = at + 8;
-    let vcpu = wire::load16(l, at + 2);
-    let msr = wire::load32(l, at + 4);
-    if !is_after(p, 2, vcpu, msr as u64) {
-        return reject(at);
-    }
-    if p.count != s.vcpus {
-        return reject(at);
-    }
-    if !image_form::ms_form(p.count, p.ready, vcpu, msr) {
-        return reject(at);
-    }
-    let progress = Progress {
-        at: next,
-        records: std::num::wrapping_add_usize(p.records, 1),
-        kind: 2,
-        major: vcpu,
-        minor: msr as u64,
-        events: p.events,
-        count: p.count,
-        ready: p.ready,
-        pages: p.pages,
+    let record = MsRecord::read(l, p.at);
+    let place = Place {
+        kind: Kind::Ms,
+        major: record.vcpu,
+        minor: record.msr as u64,
     };
-    Advance::Next { progress }
+    let form = p.precedes(place) && p.count == s.vcpus && record.has_form(p.count, p.ready);
+    check(form, Refusal::BadForm { offset: p.at })?;
+    Ok(Step::Next(p.past(place)))
 }
 
-fn step_pa(s: Settings, l: &[u8], p: Progress) -> Advance
+#[tactic(auto, unfolding(crate::specs::Step::pa_step, image_form::specs::Form::pa_fits))]
+fn step_pa(s: Settings, l: &[u8], p: Progress) -> Result<Step, Refusal>
     requires { p.at + 14 ≤ length l.now }
     ensures { result ≡ pa_step s p (row_at PA l.now p.at) }
 {
-    let at = p.at;
-    let next = at + 14;
-    let page = wire::load64(l, at + 6);
-    let view = wire::load16(l, at + 2);
-    let access = wire::byte(l, at + 4);
-    let zero = wire::byte(l, at + 5);
-    if !is_after(p, 3, view, page) {
-        return reject(at);
-    }
-    if p.count != s.vcpus {
-        return reject(at);
-    }
-    if !image_form::pa_form(p.pages, view, access, zero, page) {
-        return reject(at);
-    }
-    if !image_form::pa_may(s, view, access) {
-        return forbid(at);
-    }
-    let progress = Progress {
-        at: next,
-        records: std::num::wrapping_add_usize(p.records, 1),
-        kind: 3,
-        major: view,
-        minor: page,
-        events: p.events,
-        count: p.count,
-        ready: p.ready,
-        pages: p.pages + 1,
+    let record = PaRecord::read(l, p.at);
+    let place = Place {
+        kind: Kind::Pa,
+        major: record.view,
+        minor: record.page,
     };
-    Advance::Next { progress }
+    let form = p.precedes(place) && p.count == s.vcpus && record.has_form(p.pages);
+    check(form, Refusal::BadForm { offset: p.at })?;
+    check(record.is_permitted(s), Refusal::Forbidden { offset: p.at })?;
+    Ok(Step::Next(Progress {
+        pages: p.pages + 1,
+        ..p.past(place)
+    }))
 }
 
-fn step_en(s: Settings, l: &[u8], p: Progress) -> Advance
+#[tactic(auto, unfolding(crate::specs::Step::en_step))]
+fn step_en(s: Settings, l: &[u8], p: Progress) -> Result<Step, Refusal>
     requires { p.at + 6 ≤ length l.now }
     ensures { result ≡ en_step s (length l.now) p (row_at EN l.now p.at) }
 {
-    let at = p.at;
-    let next = at + 6;
-    let n = wire::load32(l, at + 2);
-    if !is_after(p, 4, 0, 0) {
-        return reject(at);
-    }
-    if p.count != s.vcpus {
-        return reject(at);
-    }
-    if n as usize != p.records {
-        return reject(at);
-    }
-    if l.len() != next {
-        return reject(next);
-    }
-    let outcome = Outcome::Accepted {
+    let records = wire::load::<u32>(l, p.at + 2);
+    let next = p.at + Kind::En.size();
+    let place = Place {
+        kind: Kind::En,
+        major: 0,
+        minor: 0,
+    };
+    let form = p.precedes(place) && p.count == s.vcpus && records as usize == p.records;
+    check(form, Refusal::BadForm { offset: p.at })?;
+    check(l.len() == next, Refusal::BadForm { offset: next })?;
+    Ok(Step::End(Stated {
         events: p.events,
         pages: p.pages,
         ready: p.ready,
-    };
-    Advance::Stop { outcome }
+    }))
 }
 
 // The test of the record that comes next.
-pub fn next_step(s: Settings, l: &[u8], p: Progress) -> Advance
+#[tactic(auto, unfolding(crate::specs::Step::next_step_of, crate::specs::Step::step_by))]
+pub fn next_step(s: Settings, l: &[u8], p: Progress) -> Result<Step, Refusal>
     ensures { result ≡ next_step_of s l.now p }
 {
-    let mark = image_form::mark_at(l, p.at);
-    match mark {
-        Mark::Vc => step_vc(s, l, p),
-        Mark::Ms => step_ms(s, l, p),
-        Mark::Pa => step_pa(s, l, p),
-        Mark::En => step_en(s, l, p),
-        Mark::Vm => reject(p.at),
-        Mark::Cut => reject(p.at),
+    match image_form::mark_at(l, p.at) {
+        Some(Kind::Vc) => step_vc(s, l, p),
+        Some(Kind::Ms) => step_ms(s, l, p),
+        Some(Kind::Pa) => step_pa(s, l, p),
+        Some(Kind::En) => step_en(s, l, p),
+        Some(Kind::Vm) | None => Err(Refusal::BadForm { offset: p.at }),
     }
 }
 
 // The test of the first record.
-pub fn first_step(s: Settings, l: &[u8]) -> Advance
+#[tactic(auto, unfolding(crate::specs::Step::first_by))]
+pub fn first_step(s: Settings, l: &[u8]) -> Result<Progress, Refusal>
     ensures { result ≡ first_by s l.now (mark_at l.now 0) }
 {
-    let mark = image_form::mark_at(l, 0);
-    match mark {
-        Mark::Vm => step_vm(s, l),
-        Mark::Vc => reject(0),
-        Mark::Ms => reject(0),
-        Mark::Pa => reject(0),
-        Mark::En => reject(0),
-        Mark::Cut => reject(0),
+    match image_form::mark_at(l, 0) {
+        Some(Kind::Vm) => step_vm(s, l),
+        _ => Err(Refusal::BadForm { offset: 0 }),
     }
 }

@@ -23,15 +23,18 @@ use Rattle.laws.proofs.Bool.{and_l, and_r, length-snoc}
 use Rattle.laws.proofs.Bits.{on-put, on-put-other}
 use Rattle.laws.proofs.Record.{parse-next, kind-found}
 use Rattle.store.specs.Words.{put_bit64}
-use Rattle.image_form.specs.declared.Mark.{Mark}
-use Rattle.image_form.specs.declared.Mark.TheVariants.{Vm, Vc, Ms, Pa, En, Cut}
+use Rattle.std.specs.Prelude.{Some, None, Result, Ok, Err}
+use Rattle.std.specs.Prelude as std
+use Rattle.image_form.specs.declared.Kind as code
+use Rattle.image_form.specs.declared.Kind.TheVariants.{Vm, Vc, Ms, Pa, En}
 use Rattle.image_form.specs.Form.{named, mark_at, row_at, vc_fits, ms_fits, pa_fits}
 use Rattle.image_form.proofs.Forms.{size-least, mark-kind, mark-cut, mark-room}
 use Rattle.image_step.specs.declared.Progress.{Progress}
-use Rattle.image_step.specs.declared.Outcome.{Outcome}
-use Rattle.image_step.specs.declared.Advance.{Advance}
-use Rattle.image_step.specs.declared.Advance.TheVariants.{Next, Stop}
-use Rattle.image_step.specs.Step.{judge_step, is_after, first_progress, past_vc, past_ms, past_pa, vm_step, vc_step, ms_step, pa_step, end_step, en_step, step_by, next_step_of, first_by}
+use Rattle.image_step.specs.declared.Stated.{Stated}
+use Rattle.image_step.specs.declared.Refusal.{Refusal}
+use Rattle.image_step.specs.declared.Step.{Step}
+use Rattle.image_step.specs.declared.Step.TheVariants.{Next, End}
+use Rattle.image_step.specs.Step.{judged, place_of, is_after, first_progress, past_vc, past_ms, past_pa, vm_step, vc_step, ms_step, pa_step, end_step, en_step, step_by, next_step_of, first_by}
 use Rattle.image_test.specs.Test.{ready_loaded, outcome, Stands, records_at, Rest}
 
 -- ---- the numbers of a record
@@ -78,7 +81,7 @@ pub whole-some : (r : List ℕ) (k : Kind) → kind_at r ≡ some k → size k �
 whole-some [] k e h = let w = size-least k in absurd (omega arith)
 whole-some (b ∷ r) k e h = parse-next b r ∙ ap (from (λ x. parse (length x) x) (b ∷ r)) e
 
-pub rest-whole : (l : List ℕ) (at : ℕ) (k : Kind) → mark_at l at ≡ named k → records_at l at ≡ whole k (row_at k l at) ∷ records_at l (at + size k)
+pub rest-whole : (l : List ℕ) (at : ℕ) (k : Kind) → mark_at l at ≡ Some (named k) → records_at l at ≡ whole k (row_at k l at) ∷ records_at l (at + size k)
 unfolding records_at
 rest-whole l at k e =
     let o = mark-kind l at k e in
@@ -120,18 +123,30 @@ unfolding records_at
 end-records t off l = ending_at t off (drop off l)
 
 -- ---- one step
-module _ (s : Settings) (l : List ℕ) (o : Outcome) where
+module _ (s : Settings) (l : List ℕ) (o : Result Stated Refusal) where
   -- what a step at a place leaves to be shown
-  abbrev pub Goes : ℕ → Advance → Type 0
-  Goes at (Next q) = Rest s l q o × (at < q.at)
-  Goes at (Stop x) = x ≡ o
+  abbrev pub Goes : ℕ → Result Step Refusal → Type 0
+  Goes at (Ok (Next q)) = Rest s l q o × (at < q.at)
+  Goes at (Ok (End x)) = Ok x ≡ o
+  Goes at (Err e) = Err e ≡ o
+
+  abbrev pub Begins : Result Progress Refusal → Type 0
+  Begins (Ok q) = Rest s l q o × (0 < q.at)
+  Begins (Err e) = Err e ≡ o
 
   judge-goes : (at : ℕ) (form may : Bool) (off : ℕ) (next : Loaded) (q : Progress) → outcome (judge form may off next) ≡ o
-      → (So form → So may → outcome next ≡ o → Rest s l q o × (at < q.at)) → Goes at (judge_step form may off q)
+      → (So form → So may → outcome next ≡ o → Rest s l q o × (at < q.at)) → Goes at (judged form may off (Next q))
   unfolding outcome
   judge-goes at true true off next q e k = k refl refl e
   judge-goes at true false off next q e k = e
   judge-goes at false may off next q e k = e
+
+  judge-begins : (form may : Bool) (off : ℕ) (next : Loaded) (q : Progress) → outcome (judge form may off next) ≡ o
+      → (So form → So may → outcome next ≡ o → Rest s l q o × (0 < q.at)) → Begins (judged form may off q)
+  unfolding outcome
+  judge-begins true true off next q e k = k refl refl e
+  judge-begins true false off next q e k = e
+  judge-begins false may off next q e k = e
 
   end_goes : (at : ℕ) (form : Bool) (p : Progress) (t : Tables) → length t.pages ≡ p.pages → t.events ≡ p.events → ready_loaded 0 0 t.vcpus ≡ p.ready → (last : Bool)
       → outcome (judge form true p.at (cond last (loaded t) (bad_form (p.at + 6)))) ≡ o → Goes at (end_step form last p)
@@ -142,15 +157,15 @@ module _ (s : Settings) (l : List ℕ) (o : Outcome) where
   end_goes at false p t a b c false e = e
 
   module _ (fit : length l < 2 ^ 64) (p : Progress) (t : Tables) (lo : ℕ) (st : Stands s l p t lo) where
-    vc-goes : mark_at l p.at ≡ Vc → outcome (load_rest s s.vcpus p.at lo t (records_at l p.at)) ≡ o → Goes p.at (vc_step s p (row_at VC l p.at))
+    vc-goes : mark_at l p.at ≡ Some Vc → outcome (load_rest s s.vcpus p.at lo t (records_at l p.at)) ≡ o → Goes p.at (vc_step s p (row_at VC l p.at))
     unfolding vc_step vc_fits is_after put_bit64
     vc-goes m e =
         let f = row_at VC l p.at in
         let room : p.at + 10 ≤ length l = mark-room l p.at VC m in
-        let same : fits_in VC s.vcpus lo t f ≡ (is_after p 1 f.0 0 && eqb f.0 p.count && vc_fits s f) = rw (st.order, st.count) in
+        let same : fits_in VC s.vcpus lo t f ≡ (is_after p (place_of Vc f.0 0) && eqb f.0 p.count && vc_fits s f) = rw (st.order, st.count) in
         let next = load_rest s s.vcpus (p.at + 10) (suc (order_of VC f)) (with_record VC t f) (records_at l (p.at + 10)) in
         let g : outcome (judge (fits_in VC s.vcpus lo t f) (may_of VC s f) p.at next) ≡ o = rw (rest-whole l p.at VC m) at e in
-        judge-goes p.at (is_after p 1 f.0 0 && eqb f.0 p.count && vc_fits s f) (may_of VC s f) p.at next (past_vc p f) (rw same at g)
+        judge-goes p.at (is_after p (place_of Vc f.0 0) && eqb f.0 p.count && vc_fits s f) (may_of VC s f) p.at next (past_vc p f) (rw same at g)
         (λ a b d.
         let i : f.0 ≡ p.count = eqb-true f.0 p.count (search (and_l, and_r) depth 8) in
         let w : f.0 < s.vcpus = ltb-true f.0 s.vcpus (search (and_l, and_r) depth 8) in
@@ -181,15 +196,15 @@ module _ (s : Settings) (l : List ℕ) (o : Outcome) where
         (λ h. rw (le-ltb j (length t.vcpus) (omega arith)))
         (le-or-lt (suc j) (length t.vcpus)))
 
-    ms-goes : mark_at l p.at ≡ Ms → outcome (load_rest s s.vcpus p.at lo t (records_at l p.at)) ≡ o → Goes p.at (ms_step s p (row_at MS l p.at))
+    ms-goes : mark_at l p.at ≡ Some Ms → outcome (load_rest s s.vcpus p.at lo t (records_at l p.at)) ≡ o → Goes p.at (ms_step s p (row_at MS l p.at))
     unfolding ms_step ms_fits is_after ms_form
     ms-goes m e =
         let f = row_at MS l p.at in
         let room : p.at + 8 ≤ length l = mark-room l p.at MS m in
-        let same : fits_in MS s.vcpus lo t f ≡ (is_after p 2 f.0 f.1.0 && eqb p.count s.vcpus && ms_fits p.count p.ready f) = rw (ms-same f.0 (is_msr f.1.0), st.order, st.count) in
+        let same : fits_in MS s.vcpus lo t f ≡ (is_after p (place_of Ms f.0 f.1.0) && eqb p.count s.vcpus && ms_fits p.count p.ready f) = rw (ms-same f.0 (is_msr f.1.0), st.order, st.count) in
         let next = load_rest s s.vcpus (p.at + 8) (suc (order_of MS f)) (with_record MS t f) (records_at l (p.at + 8)) in
         let g : outcome (judge (fits_in MS s.vcpus lo t f) true p.at next) ≡ o = rw (rest-whole l p.at MS m) at e in
-        judge-goes p.at (is_after p 2 f.0 f.1.0 && eqb p.count s.vcpus && ms_fits p.count p.ready f) true p.at next (past_ms p f) (rw same at g)
+        judge-goes p.at (is_after p (place_of Ms f.0 f.1.0) && eqb p.count s.vcpus && ms_fits p.count p.ready f) true p.at next (past_ms p f) (rw same at g)
         (λ a b d.
         let len = length-snoc t.msrs (msr_of_row f) in (
           record {
@@ -211,15 +226,15 @@ module _ (s : Settings) (l : List ℕ) (o : Outcome) where
           omega arith,
         ))
 
-    pa-goes : mark_at l p.at ≡ Pa → outcome (load_rest s s.vcpus p.at lo t (records_at l p.at)) ≡ o → Goes p.at (pa_step s p (row_at PA l p.at))
+    pa-goes : mark_at l p.at ≡ Some Pa → outcome (load_rest s s.vcpus p.at lo t (records_at l p.at)) ≡ o → Goes p.at (pa_step s p (row_at PA l p.at))
     unfolding pa_step pa_fits is_after
     pa-goes m e =
         let f = row_at PA l p.at in
         let room : p.at + 14 ≤ length l = mark-room l p.at PA m in
-        let same : fits_in PA s.vcpus lo t f ≡ (is_after p 3 f.0 f.1.1.1.0 && eqb p.count s.vcpus && pa_fits p.pages f) = rw (st.order, st.count, st.pages) in
+        let same : fits_in PA s.vcpus lo t f ≡ (is_after p (place_of Pa f.0 f.1.1.1.0) && eqb p.count s.vcpus && pa_fits p.pages f) = rw (st.order, st.count, st.pages) in
         let next = load_rest s s.vcpus (p.at + 14) (suc (order_of PA f)) (with_record PA t f) (records_at l (p.at + 14)) in
         let g : outcome (judge (fits_in PA s.vcpus lo t f) (may_of PA s f) p.at next) ≡ o = rw (rest-whole l p.at PA m) at e in
-        judge-goes p.at (is_after p 3 f.0 f.1.1.1.0 && eqb p.count s.vcpus && pa_fits p.pages f) (may_of PA s f) p.at next (past_pa p f) (rw same at g)
+        judge-goes p.at (is_after p (place_of Pa f.0 f.1.1.1.0) && eqb p.count s.vcpus && pa_fits p.pages f) (may_of PA s f) p.at next (past_pa p f) (rw same at g)
         (λ a b d.
         let len = length-snoc t.pages (page_of_row f) in (
           record {
@@ -241,16 +256,16 @@ module _ (s : Settings) (l : List ℕ) (o : Outcome) where
           omega arith,
         ))
 
-    en-goes : mark_at l p.at ≡ En → outcome (load_rest s s.vcpus p.at lo t (records_at l p.at)) ≡ o → Goes p.at (en_step s (length l) p (row_at EN l p.at))
+    en-goes : mark_at l p.at ≡ Some En → outcome (load_rest s s.vcpus p.at lo t (records_at l p.at)) ≡ o → Goes p.at (en_step s (length l) p (row_at EN l p.at))
     unfolding en_step is_after
     en-goes m e =
         let f = row_at EN l p.at in
         let room : p.at + 6 ≤ length l = mark-room l p.at EN m in
-        let same : fits_in EN s.vcpus lo t f ≡ (is_after p 4 0 0 && eqb p.count s.vcpus && eqb f.0 p.records) = rw (st.order, st.records, st.count) in
+        let same : fits_in EN s.vcpus lo t f ≡ (is_after p (place_of En 0 0) && eqb p.count s.vcpus && eqb f.0 p.records) = rw (st.order, st.records, st.count) in
         let last : eqb (length (drop (p.at + 6) l)) 0 ≡ eqb (length l) (p.at + 6) = rw length-drop (end_test (length l) (p.at + 6) room) in
         let g : outcome (judge (fits_in EN s.vcpus lo t f) true p.at (ending t (p.at + 6) (records_at l (p.at + 6)))) ≡ o = rw (rest-whole l p.at EN m) at e in
         let h : outcome (judge (fits_in EN s.vcpus lo t f) true p.at (cond (eqb (length l) (p.at + 6)) (loaded t) (bad_form (p.at + 6)))) ≡ o = rw (end-records t (p.at + 6) l, last) at g in
-        end_goes p.at (is_after p 4 0 0 && eqb p.count s.vcpus && eqb f.0 p.records) p t st.pages st.events st.ready (eqb (length l) (p.at + 6)) (rw same at h)
+        end_goes p.at (is_after p (place_of En 0 0) && eqb p.count s.vcpus && eqb f.0 p.records) p t st.pages st.events st.ready (eqb (length l) (p.at + 6)) (rw same at h)
       where
         end_test : (a b : ℕ) → b ≤ a → eqb (a - b) 0 ≡ eqb a b
         end_test a b h = ⊎_elim
@@ -258,28 +273,28 @@ module _ (s : Settings) (l : List ℕ) (o : Outcome) where
             (λ (g : b < a). ne_eqb (a - b) 0 (λ e. omega arith) ∙ sym (ne_eqb a b (λ e. omega arith)))
             (le-or-lt a b)
 
-    by-mark : (m : Mark) → mark_at l p.at ≡ m → outcome (load_rest s s.vcpus p.at lo t (records_at l p.at)) ≡ o → Goes p.at (step_by s l p m)
+    by-mark : (m : std.Option code.Kind) → mark_at l p.at ≡ m → outcome (load_rest s s.vcpus p.at lo t (records_at l p.at)) ≡ o → Goes p.at (step_by s l p m)
     unfolding step_by outcome records_at
-    by-mark Vm m e = rw (rest-whole l p.at VM m) at e
-    by-mark Vc m e = vc-goes m e
-    by-mark Ms m e = ms-goes m e
-    by-mark Pa m e = pa-goes m e
-    by-mark En m e = en-goes m e
-    by-mark Cut m e = sym (ap outcome (cut-none s s.vcpus p.at lo t (drop p.at l) (mark-cut l p.at m))) ∙ e
+    by-mark (Some Vm) m e = rw (rest-whole l p.at VM m) at e
+    by-mark (Some Vc) m e = vc-goes m e
+    by-mark (Some Ms) m e = ms-goes m e
+    by-mark (Some Pa) m e = pa-goes m e
+    by-mark (Some En) m e = en-goes m e
+    by-mark None m e = sym (ap outcome (cut-none s s.vcpus p.at lo t (drop p.at l) (mark-cut l p.at m))) ∙ e
 
   pub next-goes : length l < 2 ^ 64 → (p : Progress) → Rest s l p o → Goes p.at (next_step_of s l p)
   unfolding next_step_of
   next-goes fit p r = by-mark fit p r.tables r.least r.stands (mark_at l p.at) refl r.goes
 
   -- ---- the first record
-  vm-goes : mark_at l 0 ≡ Vm → outcome (load_records s (records_at l 0)) ≡ o → Goes 0 (vm_step s (row_at VM l 0))
+  vm-goes : mark_at l 0 ≡ Some Vm → outcome (load_records s (records_at l 0)) ≡ o → Begins (vm_step s (row_at VM l 0))
   unfolding vm_step vm_form vm_may ready_loaded
   vm-goes m e =
       let f = row_at VM l 0 in
       let room : 0 + 8 ≤ length l = mark-room l 0 VM m in
       let next = load_rest s f.1.0 8 (suc (order_of VM f)) (stated f.1.1.0) (records_at l 8) in
       let g : outcome (judge (eqb f.0 1 && vm_form f.1.0 f.1.1.0) (vm_may s f.1.0 f.1.1.0) 0 next) ≡ o = rw (rest-whole l 0 VM m) at e in
-      judge-goes 0 (eqb f.0 1 && vm_form f.1.0 f.1.1.0) (vm_may s f.1.0 f.1.1.0) 0 next (first_progress f.1.1.0) g
+      judge-begins (eqb f.0 1 && vm_form f.1.0 f.1.1.0) (vm_may s f.1.0 f.1.1.0) 0 next (first_progress f.1.1.0) g
       (λ a b d.
       let n : f.1.0 ≡ s.vcpus = eqb-true f.1.0 s.vcpus (search (and_l, and_r) depth 8) in
       let w : f.1.0 ≤ 16 = leb-true f.1.0 16 (search (and_l, and_r) depth 8) in (
@@ -302,22 +317,31 @@ module _ (s : Settings) (l : List ℕ) (o : Outcome) where
         omega arith,
       ))
 
-  first_by_lem : (m : Mark) → mark_at l 0 ≡ m → outcome (load_records s (records_at l 0)) ≡ o → Goes 0 (first_by s l m)
+  first_by_lem : (m : std.Option code.Kind) → mark_at l 0 ≡ m → outcome (load_records s (records_at l 0)) ≡ o → Begins (first_by s l m)
   unfolding first_by outcome records_at
-  first_by_lem Vm m e = vm-goes m e
-  first_by_lem Vc m e = rw (rest-whole l 0 VC m) at e
-  first_by_lem Ms m e = rw (rest-whole l 0 MS m) at e
-  first_by_lem Pa m e = rw (rest-whole l 0 PA m) at e
-  first_by_lem En m e = rw (rest-whole l 0 EN m) at e
-  first_by_lem Cut m e = sym (ap outcome (first-none s (drop 0 l) (mark-cut l 0 m))) ∙ e
+  first_by_lem (Some Vm) m e = vm-goes m e
+  first_by_lem (Some Vc) m e = rw (rest-whole l 0 VC m) at e
+  first_by_lem (Some Ms) m e = rw (rest-whole l 0 MS m) at e
+  first_by_lem (Some Pa) m e = rw (rest-whole l 0 PA m) at e
+  first_by_lem (Some En) m e = rw (rest-whole l 0 EN m) at e
+  first_by_lem None m e = sym (ap outcome (first-none s (drop 0 l) (mark-cut l 0 m))) ∙ e
 
   -- ---- what a step says
-  pub went : (at : ℕ) (x : Advance) (q : Progress) → x ≡ Next q → Goes at x → Rest s l q o × (at < q.at)
+  pub went : (at : ℕ) (x : Result Step Refusal) (q : Progress) → x ≡ Ok (Next q) → Goes at x → Rest s l q o × (at < q.at)
   went at x q e g = rw e at g
 
-  pub stopped : (at : ℕ) (x : Advance) (y : Outcome) → x ≡ Stop y → Goes at x → y ≡ o
-  stopped at x y e g = rw e at g
+  pub ended : (at : ℕ) (x : Result Step Refusal) (y : Stated) → x ≡ Ok (End y) → Goes at x → Ok y ≡ o
+  ended at x y e g = rw e at g
 
-pub first_goes : (s : Settings) (l : List ℕ) → Goes s l (outcome (load_image s l)) 0 (first_by s l (mark_at l 0))
+  pub refused : (at : ℕ) (x : Result Step Refusal) (y : Refusal) → x ≡ Err y → Goes at x → Err y ≡ o
+  refused at x y e g = rw e at g
+
+  pub began : (x : Result Progress Refusal) (q : Progress) → x ≡ Ok q → Begins x → Rest s l q o
+  began x q e g = (rw e at g).0
+
+  pub begin-refused : (x : Result Progress Refusal) (y : Refusal) → x ≡ Err y → Begins x → Err y ≡ o
+  begin-refused x y e g = rw e at g
+
+pub first_goes : (s : Settings) (l : List ℕ) → Begins s l (outcome (load_image s l)) (first_by s l (mark_at l 0))
 unfolding load_image records_at
 first_goes s l = first_by_lem s l (outcome (load_image s l)) (mark_at l 0) refl refl

@@ -1,36 +1,41 @@
 -- Laws of the image writer's call: a vCPU that awaits a reply, and what is answered. Assumes nothing.
 use mathlib.Core.Path.{◌≡◌, refl}
-use Prim.Native.Nat.{ℕ, suc, ◌+◌, ◌-◌, ◌≤◌, ◌<◌, min}
+use Prim.Native.Nat.{ℕ, zero, suc, ◌+◌, ◌-◌, ◌≤◌, ◌<◌, min}
 use native.Mathlib.Numerals.{add-one}
 use native.Mathlib.Omega.{arith}
 use mathlib.Core.List.{List, []}
-use mathlib.Core.Bool.{true, false}
+use mathlib.Core.Bool.{Bool, true, false, cond, not, ◌||◌}
+use mathlib.Core.Option.{none, some}
+use Rattle.std.specs.List.{list_any, range_with_len}
+use lib.Dec.{eqb}
 use lib.ListN.{length}
 use borrow.Author.Tests.{eq-eqb, ne_eqb, lt-ltb, le-ltb}
 use Rattle.wire.specs.Bytes.{store}
 use Rattle.wire.proofs.Laws.{length-store, store-past}
 use Rattle.kvmi.specs.declared.Signal.TheVariants.{Quiet}
 use Rattle.kvmi.specs.Image.{image}
+use Rattle.kvmi.specs.Model.{awaiting, is_some}
 use Rattle.kvmi.specs.Call.{awaits_any}
-use Rattle.store.specs.Words.{field, AWAITED}
+use Rattle.store.specs.Words.{field, AWAITED, AWAITED_SEQ}
 use Rattle.session.specs.State.{State, is_closed}
 use Rattle.session.specs.Calls.{told_same, told_written}
-use Rattle.session.specs.Meaning.{awaited_in, awaited_of}
+use Rattle.session.specs.Meaning.{fault_in, awaited_in, awaited_of}
 use Rattle.image_bytes.specs.Parts.{stated_of}
 use Rattle.image_writer.specs.Write.{stated_vcpus, stated_tables, image_of}
 
 -- ---- a vCPU that awaits a reply
-pub awaits-here : (w : List ℕ) (i n : ℕ) → i < n → (field w i AWAITED ≡ 0 → ⊥) → awaits_any (awaited_of w i (n - i)) ≡ true
-unfolding awaited_of awaited_in
-awaits-here w i n h d = let e : n - i ≡ suc (n - (i + 1)) = omega arith in rw (e, ne_eqb (field w i AWAITED) 0 d)
+awaited-is : (w : List ℕ) (i : ℕ) → is_some (awaited_in w i) ≡ not (eqb (field w i AWAITED) 0)
+unfolding awaited_in
+awaited-is w i = go (eqb (field w i AWAITED) 0)
+  where
+    go : (t : Bool) → is_some (cond t none (some (awaiting (field w i AWAITED) (field w i AWAITED_SEQ) (fault_in w i)))) ≡ not t
+    go true = refl
+    go false = refl
 
-pub awaits-next : (w : List ℕ) (i n : ℕ) → i < n → field w i AWAITED ≡ 0 → awaits_any (awaited_of w i (n - i)) ≡ awaits_any (awaited_of w (i + 1) (n - (i + 1)))
-unfolding awaited_of awaited_in
-awaits-next w i n h z = let e : n - i ≡ suc (n - (i + 1)) = omega arith in rw (e, eq-eqb (field w i AWAITED) 0 z, add-one)
-
-pub awaits-none : (w : List ℕ) (i n : ℕ) → n ≤ i → awaits_any (awaited_of w i (n - i)) ≡ false
+pub awaits-list : (w : List ℕ) (i n : ℕ) → list_any (λ (k : ℕ). not (eqb (field w k AWAITED) 0)) (range_with_len i n) ≡ awaits_any (awaited_of w i n)
 unfolding awaited_of
-awaits-none w i n h = let e : n - i ≡ 0 = omega arith in rw e
+awaits-list w i zero = refl
+awaits-list w i (suc n) = rw (awaited-is w i, add-one i, awaits-list w (suc i) n) refl
 
 -- ---- what an image states
 pub stated-same : (st : State)

@@ -16,15 +16,7 @@ use session::{Done, Session};
 fn awaits(words: &[u64], n: u16) -> bool
     ensures { result ≡ awaits_any (awaited_of words.now 0 n) }
 {
-    let mut i = 0;
-    while i < n {
-        let event = store::words::read_field(words, i, store::words::AWAITED);
-        if event != 0 {
-            return true;
-        }
-        i += 1;
-    }
-    false
+    (0..n).any(|i| store::words::read_field(words, i, store::words::AWAITED) != 0)
 }
 
 // How many bytes the image of a session has.
@@ -34,22 +26,17 @@ pub fn image_size(s: Session, vcpus: &[u64], pages: &[u64]) -> usize
     image_bytes::measure(s.settings.vcpus, s.tool.pages, vcpus, pages)
 }
 
-// The image of a session, at the start of the output. Past it, and where the answer is not 0, the output stays as it was.
-pub fn write_image(s: Session, vcpus: &[u64], pages: &[u64], out: &mut [u8]) -> Done
-    ensures { told result vcpus.now pages.now out.new [] ≡ image_of (state s vcpus.now pages.now) out.old }
+// What `write_image` answers.
+#[tactic(auto, unfolding(crate::specs::Write::image_of))]
+fn put_image(s: Session, vcpus: &[u64], pages: &[u64], out: &mut [u8]) -> Answer
+    ensures { told (record { session = s; answer = result }) vcpus.now pages.now out.new [] ≡ image_of (state s vcpus.now pages.now) out.old }
 {
     if s.tool.opened == 0 {
-        return Done {
-            answer: Answer::Closed,
-            session: s,
-        };
+        return Answer::Closed;
     }
     let n = image_bytes::stated_count(s.settings.vcpus);
     if awaits(vcpus, n) {
-        return Done {
-            answer: Answer::Busy,
-            session: s,
-        };
+        return Answer::Busy;
     }
     let count = image_bytes::put(
         out,
@@ -61,13 +48,16 @@ pub fn write_image(s: Session, vcpus: &[u64], pages: &[u64], out: &mut [u8]) -> 
         pages,
     );
     if out.len() < count {
-        return Done {
-            answer: Answer::ShortOut,
-            session: s,
-        };
+        Answer::ShortOut
+    } else {
+        kvmi::answers::wrote(count)
     }
-    Done {
-        answer: kvmi::answers::wrote(count),
-        session: s,
-    }
+}
+
+// The image of a session, at the start of the output. Past it, and if the answer is not 0, the output stays as it was.
+pub fn write_image(s: Session, vcpus: &[u64], pages: &[u64], out: &mut [u8]) -> Done
+    ensures { told result vcpus.now pages.now out.new [] ≡ image_of (state s vcpus.now pages.now) out.old }
+{
+    let answer = put_image(s, vcpus, pages, out);
+    Done { session: s, answer }
 }

@@ -7,8 +7,9 @@ use mathlib.Core.Option.{Option, none, some}
 use lib.ListN.{take, drop, replicate}
 use Rattle.kvmi.specs.declared.Settings.{Settings}
 use Rattle.kvmi.specs.declared.ReplyMode.TheVariants.{On, Off, ErrorsOnly}
-use Rattle.kvmi.specs.declared.Signal.{Signal}
-use Rattle.kvmi.specs.declared.Signal.TheVariants.{Quiet, Resume}
+use Rattle.std.specs.Prelude as prelude
+use Rattle.kvmi.specs.declared.Resumption.{Resumption}
+use Rattle.kvmi.specs.Answer.{resumption, resume}
 use Rattle.kvmi.specs.Tables.{with_ready, with_pauses}
 use Rattle.kvmi.specs.Model.{Awaited, Model, fresh, closed_model, with_mode, with_seq, set_awaited, on_vcpu}
 use Rattle.kvmi.specs.Reply.{message_bytes}
@@ -84,15 +85,15 @@ pub record Says : Type 0 where
   pub used : ℕ
   pub count : ℕ
   pub listed : ℕ
-  pub resume : Signal
+  pub resume : prelude.Option Resumption
 
 -- the answer's number, input bytes used, output bytes written, signals listed
 abbrev pub did : ℕ → ℕ → ℕ → ℕ → Says
-did number used count listed = record { number = number; used = used; count = count; listed = listed; resume = Quiet }
+did number used count listed = record { number = number; used = used; count = count; listed = listed; resume = prelude.None }
 
 -- with answer 0, ended by a resume: the same three counts
-abbrev pub resumed : ℕ → ℕ → ℕ → Signal → Says
-resumed used count listed resume = record { number = 0; used = used; count = count; listed = listed; resume = resume }
+abbrev pub resumed : ℕ → ℕ → ℕ → Resumption → Says
+resumed used count listed r = record { number = 0; used = used; count = count; listed = listed; resume = prelude.Some r }
 
 -- ---- rows by kind
 -- how it begins; input and what is lent; what is told, the bytes written and the signals listed, guest memory, image and what is beside
@@ -304,8 +305,8 @@ sent_event e input l t bytes signals image b = from two (from_bytes (asking e 0)
 abbrev pub sent_both : List ℕ → Lends → Says → List ℕ → List (Option Awaited) → BatchEdge
 sent_both input l t signals awaited = from two (from_bytes both) (offer 0 cr3 (lent 576) ∷ offer 1 efer (lent 576) ∷ []) input l t [] signals both (beside On 2 awaited)
 
-abbrev pub resumes_cr3 : Signal
-resumes_cr3 = Resume 0 0 0x1122334455667788 unfed
+abbrev pub resumes_cr3 : Resumption
+resumes_cr3 = resumption 0 0 0x1122334455667788 unfed
 
 abbrev pub kick_and_resume : BatchEdge
 kick_and_resume =
@@ -321,11 +322,11 @@ resume_edges =
     -- with no place left it is not taken
     ∷ sent_event cr3 (pauses 0 1 ++ answers cr3 0) (lends 4200 1) (did 0 24 16 1) (reply 9 c0) (257 ∷ []) (asking cr3 1) (beside On 1 (waits 0 cr3))
     -- a retry; of the last vCPU
-    ∷ sent_event breakpoint (answers breakpoint 1 ++ version) (lends 4112 1) (resumed 24 0 0 (Resume 0 1 0 unfed)) [] [] (asking breakpoint 0) (beside On 1 nobody)
-    ∷ from (sized 16 1) (from_bytes sixteen) (offer 15 hypercall (lent 576) ∷ []) (message_bytes 16 0 (reply_to hypercall 15 0) ++ version) (lends 4112 1) (resumed 24 0 0 (Resume 15 0 0 unfed)) [] [] sixteen (waits_none 1)
+    ∷ sent_event breakpoint (answers breakpoint 1 ++ version) (lends 4112 1) (resumed 24 0 0 (resumption 0 1 0 unfed)) [] [] (asking breakpoint 0) (beside On 1 nobody)
+    ∷ from (sized 16 1) (from_bytes sixteen) (offer 15 hypercall (lent 576) ∷ []) (message_bytes 16 0 (reply_to hypercall 15 0) ++ version) (lends 4112 1) (resumed 24 0 0 (resumption 15 0 0 unfed)) [] [] sixteen (waits_none 1)
     -- of two the first; a crash before it, which goes on
     ∷ sent_both (answers cr3 0 ++ message_bytes 16 1 (reply_to efer 1 0)) (lends 4112 1) (resumed 32 0 0 resumes_cr3) [] (none ∷ awaits_of 9 1 ∷ [])
-    ∷ sent_both (answers cr3 2 ++ message_bytes 16 1 (reply_to efer 1 0)) (lends 4112 2) (resumed 64 0 1 (Resume 1 0 0x8807060504030201 unfed)) (512 ∷ []) nobody
+    ∷ sent_both (answers cr3 2 ++ message_bytes 16 1 (reply_to efer 1 0)) (lends 4112 2) (resumed 64 0 1 (resumption 1 0 0x8807060504030201 unfed)) (512 ∷ []) nobody
     -- it is not handed back a second time
     ∷ from two (from_bytes (asking cr3 0)) (offer 0 cr3 (lent 576) ∷ message (answers cr3 0) (lent 4112) [] ∷ []) version (lends 4112 1) (did 0 8 32 0) version_bytes [] (asking cr3 0) (beside On 1 nobody)
     ∷ []

@@ -7,9 +7,9 @@ use lib.ListN.{take, drop, set, replicate}
 use Rattle.wire.specs.Bytes.{le}
 use Rattle.kvmi.specs.declared.ReplyMode.{ReplyMode}
 use Rattle.kvmi.specs.declared.ReplyMode.TheVariants.{On, Off, ErrorsOnly}
-use Rattle.kvmi.specs.declared.Signal.TheVariants.{Quiet, Crash, Resume}
+use Rattle.kvmi.specs.declared.Signal.TheVariants.{Quiet, Crash}
 use Rattle.kvmi.specs.Feed.{unfed}
-use Rattle.kvmi.specs.Answer.{handled, plain}
+use Rattle.kvmi.specs.Answer.{handled, plain, resume}
 use Rattle.kvmi.specs.Tables.{with_ready, with_events}
 use Rattle.kvmi.specs.Model.{Awaited, fresh, with_seq, on_vcpu}
 use Rattle.kvmi.specs.Call.{Call, message, ready, enter, write_image}
@@ -249,7 +249,7 @@ closes_by d e = sent e (send_as 0 16 (d e) ∷ []) closing
 -- one behind other calls is taken; the image and the reply mode after it
 abbrev pub resumes_behind : List Call → List ℕ → ReplyMode → ℕ → Event → Edge
 resumes_behind calls image mode action e =
-    sent e (calls ++ (send_as 0 16 (reply_to e 0 action) ∷ [])) (told (handled 0 (Resume 0 action e.value unfed)) [] image (beside mode 1 nobody))
+    sent e (calls ++ (send_as 0 16 (reply_to e 0 action) ∷ [])) (told (handled 0 (resume 0 action e.value unfed)) [] image (beside mode 1 nobody))
 
 abbrev pub resumes : ℕ → Event → Edge
 resumes action e = resumes_behind [] (asking e 0) On action e
@@ -283,8 +283,8 @@ event_reply_edges =
     ++ map (wrong 0) (take 23 (reply_to cr3 0 0) ∷ (reply_to cr3 0 0 ++ (0 ∷ [])) ∷ answer_data 0 0 3 ∷ [])
     ++ (sent cr3 (send_as 0 16 (reply_to cr3 0 0) ∷ send_as 0 16 (reply_to cr3 0 0) ∷ []) closing
     -- any new value
-    ∷ sent cr3 (send_as 0 16 (answer_data 0 0 5 ++ replicate 8 0) ∷ []) (told (handled 0 (Resume 0 0 0 unfed)) [] (asking cr3 0) (beside On 1 nobody))
-    ∷ sent cr3 (send_as 0 16 (answer_data 0 0 5 ++ replicate 8 0xFF) ∷ []) (told (handled 0 (Resume 0 0 0xFFFFFFFFFFFFFFFF unfed)) [] (asking cr3 0) (beside On 1 nobody))
+    ∷ sent cr3 (send_as 0 16 (answer_data 0 0 5 ++ replicate 8 0) ∷ []) (told (handled 0 (resume 0 0 0 unfed)) [] (asking cr3 0) (beside On 1 nobody))
+    ∷ sent cr3 (send_as 0 16 (answer_data 0 0 5 ++ replicate 8 0xFF) ∷ []) (told (handled 0 (resume 0 0 0xFFFFFFFFFFFFFFFF unfed)) [] (asking cr3 0) (beside On 1 nobody))
     -- a switch turned off since does not matter, nor does the reply mode
     ∷ resumes_behind (control_event 0 5 0 ∷ []) (vm ++ vc 0 1 2 0 0 ++ idle 1 ++ en 3) On 0 cr3
     ∷ resumes_behind (control_cr 0 3 0 ∷ []) (vm ++ vc 0 1 0 0x20 0 ++ idle 1 ++ en 3) On 0 cr3
@@ -329,9 +329,9 @@ sequence_edges =
     born [] (gave (handled 552 Quiet) (offered 0 1 create_vcpu) (lent 580) newborn (beside On 1 (none ∷ awaits_of 12 0 ∷ [])))
     ∷ born (enters 1 ∷ []) (gave (plain 6) [] (lent 576) newborn (beside On 1 (none ∷ awaits_of 12 0 ∷ [])))
     ∷ born (write_image (lent 34) ∷ []) (gave (plain 10) [] (lent 34) newborn (beside On 1 (none ∷ awaits_of 12 0 ∷ [])))
-    ∷ born (send_as 0 16 (reply_to create_vcpu 1 0) ∷ []) (told (handled 0 (Resume 1 0 0 unfed)) [] newborn (beside On 1 nobody))
+    ∷ born (send_as 0 16 (reply_to create_vcpu 1 0) ∷ []) (told (handled 0 (resume 1 0 0 unfed)) [] newborn (beside On 1 nobody))
     ∷ born (send_as 0 16 (reply_to create_vcpu 1 2) ∷ []) (told (handled 0 (Crash 1)) [] newborn (beside On 1 nobody))
-    ∷ born (ready 1 ∷ send_as 0 16 (reply_to create_vcpu 1 0) ∷ []) (told (handled 0 (Resume 1 0 0 unfed)) [] (vm_has 0x1000 ++ idle 0 ++ vc 1 1 0 0 0 ++ en 3) (beside On 1 nobody))
+    ∷ born (ready 1 ∷ send_as 0 16 (reply_to create_vcpu 1 0) ∷ []) (told (handled 0 (resume 1 0 0 unfed)) [] (vm_has 0x1000 ++ idle 0 ++ vc 1 1 0 0 0 ++ en 3) (beside On 1 nobody))
     ∷ born (message [] out page ∷ []) closing
     -- SINGLESTEP asks for no feature
     ∷ started (equipped 0 1 0) (from_bytes (asking stepped 0)) (offer 0 stepped (lent 576) ∷ []) (gave (handled 560 Quiet) (offered 0 0 stepped) (lent 576) (asking stepped 0) (beside On 1 (waits 0 stepped)))
@@ -346,17 +346,17 @@ sequence_edges =
     ∷ sent cr3 (ready 1 ∷ pause 1 ∷ enters 1 ∷ []) (gave (handled 552 Quiet) (pause_bytes 1 1) (lent 576) (vm ++ vc 0 1 2 0x20 0 ++ vc 1 1 0 0 0 ++ en 3) (beside On 2 (awaits_of 5 0 ∷ awaits 1 ∷ [])))
     -- of two that are awaited, the one that is meant
     ∷ both_sent [] (gave (handled 576 Quiet) (offered 1 1 efer) [] both (beside On 2 (awaits_of 5 0 ∷ awaits_of 9 1 ∷ [])))
-    ∷ both_sent (send_as 1 16 (reply_to efer 1 0) ∷ []) (told (handled 0 (Resume 1 0 efer.value unfed)) [] both (beside On 2 (awaits_of 5 0 ∷ none ∷ [])))
+    ∷ both_sent (send_as 1 16 (reply_to efer 1 0) ∷ []) (told (handled 0 (resume 1 0 efer.value unfed)) [] both (beside On 2 (awaits_of 5 0 ∷ none ∷ [])))
     ∷ both_sent (send_as 0 16 (reply_to cr3 0 2) ∷ []) (told (handled 0 (Crash 0)) [] both (beside On 2 (none ∷ awaits_of 9 1 ∷ [])))
     ∷ both_sent (send_as 0 16 (reply_to efer 1 0) ∷ []) closing
     ∷ both_sent (send_as 1 16 (reply_to cr3 1 0) ∷ []) closing
     -- of the last vCPU
     ∷ started (sized 16 1) (from_bytes sixteen) (offer 15 hypercall (lent 576) ∷ []) (gave (handled 552 Quiet) (offered 0 15 hypercall) (lent 576) sixteen (beside On 1 (replicate 15 none ++ (awaits_of 3 0 ∷ []))))
-    ∷ started (sized 16 1) (from_bytes sixteen) (offer 15 hypercall (lent 576) ∷ send_as 0 16 (reply_to hypercall 15 0) ∷ []) (told (handled 0 (Resume 15 0 0 unfed)) [] sixteen (beside On 1 (replicate 16 none)))
+    ∷ started (sized 16 1) (from_bytes sixteen) (offer 15 hypercall (lent 576) ∷ send_as 0 16 (reply_to hypercall 15 0) ∷ []) (told (handled 0 (resume 15 0 0 unfed)) [] sixteen (beside On 1 (replicate 16 none)))
     -- the seq has four bytes, and goes from 4,294,967,295 to 0
     ∷ hypercall_at 0x04030201 [] (gave (handled 552 Quiet) (17 ∷ 0 ∷ 0x20 ∷ 2 ∷ 1 ∷ 2 ∷ 3 ∷ 4 ∷ 0x20 ∷ 2 ∷ 0 ∷ 0 ∷ 3 ∷ 0 ∷ 0 ∷ 0 ∷ registers) (lent 576) (asking hypercall 0) (beside On 0x04030202 (waits 0x04030201 hypercall)))
     ∷ hypercall_at 0xFFFFFFFF [] (gave (handled 552 Quiet) (offered 0xFFFFFFFF 0 hypercall) (lent 576) (asking hypercall 0) (beside On 0 (waits 0xFFFFFFFF hypercall)))
-    ∷ hypercall_at 0xFFFFFFFF (send_as 0xFFFFFFFF 16 (reply_to hypercall 0 0) ∷ []) (told (handled 0 (Resume 0 0 0 unfed)) [] (asking hypercall 0) (beside On 0 nobody))
+    ∷ hypercall_at 0xFFFFFFFF (send_as 0xFFFFFFFF 16 (reply_to hypercall 0 0) ∷ []) (told (handled 0 (resume 0 0 0 unfed)) [] (asking hypercall 0) (beside On 0 nobody))
     ∷ []
 
 abbrev pub of_events : List Edge

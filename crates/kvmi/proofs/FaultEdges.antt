@@ -8,9 +8,11 @@ use Rattle.wire.specs.Bytes.{le}
 use Rattle.kvmi.specs.declared.Settings.{Settings}
 use Rattle.kvmi.specs.declared.ReplyMode.TheVariants.{On, Off, ErrorsOnly}
 use Rattle.kvmi.specs.declared.Signal.{Signal}
-use Rattle.kvmi.specs.declared.Signal.TheVariants.{Quiet, Crash, Resume}
+use Rattle.kvmi.specs.declared.Signal.TheVariants.{Quiet, Crash}
+use Rattle.kvmi.specs.declared.Source.TheVariants.{Unfed, Message, Guest, Missing}
 use Rattle.kvmi.specs.declared.Feed.{Feed}
-use Rattle.kvmi.specs.Answer.{Paper, handled, plain}
+use Rattle.std.specs.Prelude.{Some}
+use Rattle.kvmi.specs.Answer.{Paper, handled, plain, resumption, resume}
 use Rattle.kvmi.specs.Model.{Awaited, awaiting}
 use Rattle.kvmi.specs.Reply.{message_bytes}
 use Rattle.kvmi.specs.Call.{Call, message, enter, write_image}
@@ -46,16 +48,16 @@ unknown = 0xFFFFFFFFFFFFFFFF
 
 -- the bytes handed back: none wanted; of the message (or the input), of guest memory, by their start and length; none, for want of the page
 abbrev pub unwanted : Feed
-unwanted = record { source = 0; at = 0; length = 0 }
+unwanted = record { source = Unfed; at = 0; length = 0 }
 
 abbrev pub of_reply : ℕ → ℕ → Feed
-of_reply at length = record { source = 1; at = at; length = length }
+of_reply at length = record { source = Message; at = at; length = length }
 
 abbrev pub of_guest : ℕ → ℕ → Feed
-of_guest at length = record { source = 2; at = at; length = length }
+of_guest at length = record { source = Guest; at = at; length = length }
 
 abbrev pub lacked : Feed
-lacked = record { source = 3; at = 0; length = 0 }
+lacked = record { source = Missing; at = 0; length = 0 }
 
 -- the answer's number, and its signal
 abbrev pub says : ℕ → Signal → Paper
@@ -216,11 +218,11 @@ taken gva gpa access d guest p = faulted gva gpa access (replies d guest ∷ [])
 -- ---- the bytes of a continued read: from the reply or from the page
 -- address, size and gva: bytes of the message, with no guest memory
 abbrev pub supplies : ℕ → ℕ → ℕ → ℕ → ℕ → Edge
-supplies address size gva at length = taken gva 0x1004 1 (context_data 0 address size 0) [] (says 0 (Resume 0 0 0 (of_reply at length)))
+supplies address size gva at length = taken gva 0x1004 1 (context_data 0 address size 0) [] (says 0 (resume 0 0 0 (of_reply at length)))
 
 -- the same: the page's, from byte 0x10 of page 0 on
 abbrev pub turns : ℕ → ℕ → ℕ → Edge
-turns address size gva = taken gva 0x10 1 (context_data 0 address size 0) page (says 0 (Resume 0 0 0 (of_guest 16 4080)))
+turns address size gva = taken gva 0x10 1 (context_data 0 address size 0) page (says 0 (resume 0 0 0 (of_guest 16 4080)))
 
 abbrev pub context_edges : List Edge
 context_edges =
@@ -271,10 +273,10 @@ context_edges =
 
 -- gva is unknown. By gpa and bytes of guest memory, and with a rep flag: the page's bytes; the page is not there, and so none
 abbrev pub feeds : ℕ → ℕ → ℕ → ℕ → Edge
-feeds gpa guest at length = taken unknown gpa 1 (context_data 0 0x1000 256 0) (replicate guest 0xAB) (says 0 (Resume 0 0 0 (of_guest at length)))
+feeds gpa guest at length = taken unknown gpa 1 (context_data 0 0x1000 256 0) (replicate guest 0xAB) (says 0 (resume 0 0 0 (of_guest at length)))
 
 abbrev pub lacks : ℕ → ℕ → ℕ → Edge
-lacks gpa guest rep = taken unknown gpa 1 (context_data 0 0x1000 256 rep) (replicate guest 0xAB) (says 12 (Resume 0 0 rep lacked))
+lacks gpa guest rep = taken unknown gpa 1 (context_data 0 0x1000 256 rep) (replicate guest 0xAB) (says 12 (resume 0 0 rep lacked))
 
 abbrev pub guest_edges : List Edge
 guest_edges =
@@ -300,20 +302,20 @@ guest_edges =
     ∷ lacks 0xFFFFFFFFFFFFF000 4096 0
     ∷ lacks 0xFFFFFFFFFFFFFFFF 4096 0
     -- gva is known and past the context
-    ∷ taken 0x1010 0x10 1 (context_data 0 0x1000 16 0) [] (says 12 (Resume 0 0 0 lacked))
+    ∷ taken 0x1010 0x10 1 (context_data 0 0x1000 16 0) [] (says 12 (resume 0 0 0 lacked))
     -- it is the guest memory lent with the reply
-    ∷ faulted unknown 0x10 1 (set_access 0 0 [] ∷ replies (context_data 0 0 0 0) [] ∷ []) (left (says 12 (Resume 0 0 0 lacked)) out [] guarded (beside On 1 nobody))
+    ∷ faulted unknown 0x10 1 (set_access 0 0 [] ∷ replies (context_data 0 0 0 0) [] ∷ []) (left (says 12 (resume 0 0 0 lacked)) out [] guarded (beside On 1 nobody))
     -- no error: with errors told by an event none goes, and the seq stays
-    ∷ faulted unknown 0x10 1 (responses 0 1 1 ∷ replies (context_data 0 0 0 1) [] ∷ []) (left (says 12 (Resume 0 0 1 lacked)) out [] guarded (beside ErrorsOnly 1 nobody))
+    ∷ faulted unknown 0x10 1 (responses 0 1 1 ∷ replies (context_data 0 0 0 1) [] ∷ []) (left (says 12 (resume 0 0 1 lacked)) out [] guarded (beside ErrorsOnly 1 nobody))
     ∷ []
 
 -- ---- actions, rep flags and accesses
 -- by the event's access, action and rep flag: what is supplied; bytes are not wanted, supplied ones or a page's that is not there
 abbrev pub supplies_for : ℕ → ℕ → Edge
-supplies_for access rep = taken 0x1004 0x1004 access (context_data 0 0x1000 16 rep) [] (says 0 (Resume 0 0 rep (of_reply 44 12)))
+supplies_for access rep = taken 0x1004 0x1004 access (context_data 0 0x1000 16 rep) [] (says 0 (resume 0 0 rep (of_reply 44 12)))
 
 abbrev pub resumes_for : ℕ → ℕ → ℕ → ℕ → Edge
-resumes_for gva access action rep = taken gva 0x1004 access (context_data action 0x1000 256 rep) [] (says 0 (Resume 0 action rep unwanted))
+resumes_for gva access action rep = taken gva 0x1004 access (context_data action 0x1000 256 rep) [] (says 0 (resume 0 action rep unwanted))
 
 abbrev pub crashes : ℕ → ℕ → ℕ → Edge
 crashes gva size rep = taken gva 0x1004 1 (context_data 2 0x1000 size rep) [] (says 0 (Crash 0))
@@ -322,8 +324,8 @@ abbrev pub action_edges : List Edge
 action_edges =
     -- a continue with bit R: bytes are wanted, whatever the other bits say
     map (λ access. supplies_for access 0) (3 ∷ 5 ∷ 7 ∷ 0x81 ∷ 0xFF ∷ [])
-    ++ map (λ access. taken unknown 0x10 access (context_data 0 0 0 1) page (says 0 (Resume 0 0 1 (of_guest 16 4080)))) (1 ∷ 7 ∷ [])
-    ++ map (λ access. taken unknown 0x1004 access (context_data 0 0 0 0) page (says 12 (Resume 0 0 0 lacked))) (3 ∷ 5 ∷ 0xFF ∷ [])
+    ++ map (λ access. taken unknown 0x10 access (context_data 0 0 0 1) page (says 0 (resume 0 0 1 (of_guest 16 4080)))) (1 ∷ 7 ∷ [])
+    ++ map (λ access. taken unknown 0x1004 access (context_data 0 0 0 0) page (says 12 (resume 0 0 0 lacked))) (3 ∷ 5 ∷ 0xFF ∷ [])
     -- without it: none, and no page is asked for
     ++ map (λ access. resumes_for 0x1004 access 0 0) (0 ∷ 2 ∷ 4 ∷ 6 ∷ 0xFE ∷ [])
     ++ map (λ access. resumes_for unknown access 0 1) (0 ∷ 2 ∷ 4 ∷ 6 ∷ 0xFE ∷ [])
@@ -339,8 +341,8 @@ action_edges =
     ∷ crashes unknown 0 0
     ∷ crashes unknown 0 1
     -- the context's bytes are free, and so is its address
-    ∷ taken 0x1004 0x1004 1 (take 32 (context_data 0 0x1000 16 0) ++ replicate 256 0xFF) [] (says 0 (Resume 0 0 0 (of_reply 44 12)))
-    ∷ taken unknown 0x1004 2 (take 32 (context_data 0 unknown 0 0) ++ replicate 256 0xFF) [] (says 0 (Resume 0 0 0 unwanted))
+    ∷ taken 0x1004 0x1004 1 (take 32 (context_data 0 0x1000 16 0) ++ replicate 256 0xFF) [] (says 0 (resume 0 0 0 (of_reply 44 12)))
+    ∷ taken unknown 0x1004 2 (take 32 (context_data 0 unknown 0 0) ++ replicate 256 0xFF) [] (says 0 (resume 0 0 0 unwanted))
     ∷ [])
 
 -- ---- replies that close
@@ -397,8 +399,8 @@ closing_edges =
 -- behind other calls it is fed as ever, from the reply or from the page; the image after it
 abbrev pub fed_behind : List Call → List ℕ → List Edge
 fed_behind calls image =
-    faulted 0x1004 0x10 1 (calls ++ (replies right [] ∷ [])) (left (says 0 (Resume 0 0 0 (of_reply 44 12))) out [] image (beside On 1 nobody))
-    ∷ faulted unknown 0x10 1 (calls ++ (replies right page ∷ [])) (left (says 0 (Resume 0 0 0 (of_guest 16 4080))) out page image (beside On 1 nobody))
+    faulted 0x1004 0x10 1 (calls ++ (replies right [] ∷ [])) (left (says 0 (resume 0 0 0 (of_reply 44 12))) out [] image (beside On 1 nobody))
+    ∷ faulted unknown 0x10 1 (calls ++ (replies right page ∷ [])) (left (says 0 (resume 0 0 0 (of_guest 16 4080))) out page image (beside On 1 nobody))
     ∷ []
 
 -- both vCPUs are asked; faults went to both, with seqs 0 and 1
@@ -437,16 +439,16 @@ after_edges =
     ∷ faulted unknown 0x10 1 (replies right [] ∷ faults 0 (fault_own 0x100F 0x1FFF 5 0) (lent 576) ∷ [])
     (gave (handled 576 Quiet) (fault_bytes 1 0 (fault_own 0x100F 0x1FFF 5 0)) [] guarded (beside On 2 (awaits_fault 1 0x100F 0x1FFF 5 ∷ none ∷ [])))
     ∷ faulted unknown 0x10 1 (replies right [] ∷ faults 0 (fault_own 0x100F 0x1FFF 5 0) (lent 576) ∷ send_as 1 16 right ∷ [])
-    (left (says 0 (Resume 0 0 0 (of_reply 55 1))) out page guarded (beside On 2 nobody))
+    (left (says 0 (resume 0 0 0 (of_reply 55 1))) out page guarded (beside On 2 nobody))
     -- of two that are awaited, the one that is meant
     ∷ both_sent [] (gave (handled 576 Quiet) (fault_bytes 1 1 (fault_own 0x2008 0xFFE 3 0)) (lent 577) both (beside On 2 (awaits_fault 0 0x1004 0x10 1 ∷ awaits_fault 1 0x2008 0xFFE 3 ∷ [])))
-    ∷ both_sent (send_as 1 16 (right1 0x2000) ∷ []) (left (says 0 (Resume 1 0 1 (of_reply 48 8))) out page both (beside On 2 (awaits_fault 0 0x1004 0x10 1 ∷ none ∷ [])))
-    ∷ both_sent (send_as 1 16 (right1 0x1000) ∷ []) (left (says 0 (Resume 1 0 1 (of_guest 4094 2))) out page both (beside On 2 (awaits_fault 0 0x1004 0x10 1 ∷ none ∷ [])))
-    ∷ both_sent (send_as 0 16 right ∷ []) (left (says 0 (Resume 0 0 0 (of_reply 44 12))) out page both (beside On 2 (none ∷ awaits_fault 1 0x2008 0xFFE 3 ∷ [])))
+    ∷ both_sent (send_as 1 16 (right1 0x2000) ∷ []) (left (says 0 (resume 1 0 1 (of_reply 48 8))) out page both (beside On 2 (awaits_fault 0 0x1004 0x10 1 ∷ none ∷ [])))
+    ∷ both_sent (send_as 1 16 (right1 0x1000) ∷ []) (left (says 0 (resume 1 0 1 (of_guest 4094 2))) out page both (beside On 2 (awaits_fault 0 0x1004 0x10 1 ∷ none ∷ [])))
+    ∷ both_sent (send_as 0 16 right ∷ []) (left (says 0 (resume 0 0 0 (of_reply 44 12))) out page both (beside On 2 (none ∷ awaits_fault 1 0x2008 0xFFE 3 ∷ [])))
     ∷ both_sent (send_as 0 16 (right1 0x2000) ∷ []) closing
     -- of the last vCPU
     ∷ started (sized 16 1) (from_bytes sixteen) (faults 15 (fault_own 0x1004 0x6000 1 0) (lent 576) ∷ send_as 0 16 (answer_data 15 0 10 ++ drop 16 right) ∷ [])
-    (left (says 0 (Resume 15 0 0 (of_reply 44 12))) out page sixteen (beside On 1 (replicate 16 none)))
+    (left (says 0 (resume 15 0 0 (of_reply 44 12))) out page sixteen (beside On 1 (replicate 16 none)))
     ∷ [])
 
 abbrev pub of_faults : List Edge
@@ -467,7 +469,7 @@ in_write gva input l t bytes signals image b = from two (from_bytes (page0 0)) (
 
 -- ended by 12: input bytes used, output bytes written, signals listed, rep flag
 abbrev pub ended12 : ℕ → ℕ → ℕ → ℕ → Says
-ended12 used count listed rep = record { number = 12; used = used; count = count; listed = listed; resume = Resume 0 0 rep lacked }
+ended12 used count listed rep = record { number = 12; used = used; count = count; listed = listed; resume = Some (resumption 0 0 rep lacked) }
 
 abbrev pub lacked_behind : BatchEdge
 lacked_behind = in_write unknown (version ++ pauses 0 1 ++ reply_message right ++ version) (lends 4200 2) (ended12 328 48 1 0) (version_bytes ++ reply 9 c0) (257 ∷ []) (page0 1) (beside On 1 nobody)
@@ -475,18 +477,18 @@ lacked_behind = in_write unknown (version ++ pauses 0 1 ++ reply_message right +
 abbrev pub of_fault_batches : List BatchEdge
 of_fault_batches =
     -- supplied bytes are a part of the input: of its first message, its second, its third; what is behind is unused
-    in_write 0x1004 (reply_message right ++ version) (lends 4112 1) (resumed 296 0 0 (Resume 0 0 0 (of_reply 44 12))) [] [] (page0 0) (beside On 1 nobody)
-    ∷ in_write 0x1004 (version ++ reply_message right ++ version) (lends 4200 1) (resumed 304 32 0 (Resume 0 0 0 (of_reply 52 12))) version_bytes [] (page0 0) (beside On 1 nobody)
-    ∷ in_write 0x100F (version ++ pauses 0 1 ++ reply_message (context_data 0 0x1000 16 1)) (lends 4200 2) (resumed 328 48 1 (Resume 0 0 1 (of_reply 87 1))) (version_bytes ++ reply 9 c0) (257 ∷ []) (page0 1) (beside On 1 nobody)
+    in_write 0x1004 (reply_message right ++ version) (lends 4112 1) (resumed 296 0 0 (resumption 0 0 0 (of_reply 44 12))) [] [] (page0 0) (beside On 1 nobody)
+    ∷ in_write 0x1004 (version ++ reply_message right ++ version) (lends 4200 1) (resumed 304 32 0 (resumption 0 0 0 (of_reply 52 12))) version_bytes [] (page0 0) (beside On 1 nobody)
+    ∷ in_write 0x100F (version ++ pauses 0 1 ++ reply_message (context_data 0 0x1000 16 1)) (lends 4200 2) (resumed 328 48 1 (resumption 0 0 1 (of_reply 87 1))) (version_bytes ++ reply 9 c0) (257 ∷ []) (page0 1) (beside On 1 nobody)
     -- behind 264 bytes; behind a message that forgets the page
-    ∷ in_write 0x1004 (msg 17 (replicate 256 0) ++ reply_message right) (lends 4200 1) (resumed 560 16 0 (Resume 0 0 0 (of_reply 308 12))) (reply 17 c1000) [] (page0 0) (beside On 1 nobody)
-    ∷ in_write 0x1004 (msg 13 (access_data 1 0 (entry 0 7)) ++ reply_message right) (lends 4200 1) (resumed 328 16 0 (Resume 0 0 0 (of_reply 76 12))) (reply 13 c0) [] (paged 0x0400 0 [] 3) (beside On 1 nobody)
+    ∷ in_write 0x1004 (msg 17 (replicate 256 0) ++ reply_message right) (lends 4200 1) (resumed 560 16 0 (resumption 0 0 0 (of_reply 308 12))) (reply 17 c1000) [] (page0 0) (beside On 1 nobody)
+    ∷ in_write 0x1004 (msg 13 (access_data 1 0 (entry 0 7)) ++ reply_message right) (lends 4200 1) (resumed 328 16 0 (resumption 0 0 0 (of_reply 76 12))) (reply 13 c0) [] (paged 0x0400 0 [] 3) (beside On 1 nobody)
     -- a page's are where they are; also of a page that was written just before
-    ∷ in_write unknown (reply_message right ++ three) (lends_page 4112 1) (resumed 296 0 0 (Resume 0 0 0 (of_guest 16 4080))) [] [] (page0 0) (beside On 1 nobody)
-    ∷ in_write unknown (version ++ reply_message right) (lends_page 4200 1) (resumed 304 32 0 (Resume 0 0 0 (of_guest 16 4080))) version_bytes [] (page0 0) (beside On 1 nobody)
-    ∷ onto two (from_bytes (page0 0)) (faults 0 (fault_own unknown 0 1 0) (lent 576) ∷ []) (pokes 5 ++ reply_message right) (lends_page 4200 1) (resumed 321 16 0 (Resume 0 0 0 (of_guest 0 4096))) (reply 7 c0) [] (5 ∷ drop 1 page) (page0 0) (beside On 1 nobody)
+    ∷ in_write unknown (reply_message right ++ three) (lends_page 4112 1) (resumed 296 0 0 (resumption 0 0 0 (of_guest 16 4080))) [] [] (page0 0) (beside On 1 nobody)
+    ∷ in_write unknown (version ++ reply_message right) (lends_page 4200 1) (resumed 304 32 0 (resumption 0 0 0 (of_guest 16 4080))) version_bytes [] (page0 0) (beside On 1 nobody)
+    ∷ onto two (from_bytes (page0 0)) (faults 0 (fault_own unknown 0 1 0) (lent 576) ∷ []) (pokes 5 ++ reply_message right) (lends_page 4200 1) (resumed 321 16 0 (resumption 0 0 0 (of_guest 0 4096))) (reply 7 c0) [] (5 ∷ drop 1 page) (page0 0) (beside On 1 nobody)
     -- a retry has none, wherever it is
-    ∷ in_write 0x1004 (version ++ reply_message (context_data 1 0x1000 16 1) ++ version) (lends 4200 1) (resumed 304 32 0 (Resume 0 1 1 unwanted)) version_bytes [] (page0 0) (beside On 1 nobody)
+    ∷ in_write 0x1004 (version ++ reply_message (context_data 1 0x1000 16 1) ++ version) (lends 4200 1) (resumed 304 32 0 (resumption 0 1 1 unwanted)) version_bytes [] (page0 0) (beside On 1 nobody)
     -- 12 ends it, and is used: alone, with a rest, with a cut rest, behind others, whose counts stand
     ∷ in_write unknown (reply_message right) (lends 4112 1) (ended12 296 0 0 0) [] [] (page0 0) (beside On 1 nobody)
     ∷ in_write unknown (reply_message (context_data 0 0 0 1) ++ version) (lends 4112 1) (ended12 296 0 0 1) [] [] (page0 0) (beside On 1 nobody)

@@ -5,8 +5,8 @@ use mathlib.Core.List.{List, [], ◌∷◌, map}
 use lib.ListN.{get_or}
 use Rattle.kvmi.specs.declared.Answer.{Answer}
 use Rattle.kvmi.specs.declared.Answer.TheVariants.{Handled, Closing, Closed, ShortOut, BadVcpu, BadState, Waiting, BadSettings, BadForm, Forbidden, Busy, NotApplicable}
-use Rattle.kvmi.specs.declared.Signal.TheVariants.{Quiet, Resume}
-use Rattle.kvmi.specs.Answer.{Paper, paper, lacks_page}
+use Rattle.kvmi.specs.declared.Signal.TheVariants.{Quiet}
+use Rattle.kvmi.specs.Answer.{Paper, paper, lacks_page, resume}
 use Rattle.kvmi.specs.Feed.{missing}
 
 -- the answers with values, by number; 12 is as 0, and there is no 11
@@ -49,7 +49,7 @@ pub as-in-the-table :
     map (λ (a : Answer). (paper a).number) (
     Handled (record { count = 5; signal = Quiet; padding = 0 })
     ∷ Closing ∷ Closed ∷ ShortOut ∷ BadVcpu ∷ BadState ∷ Waiting ∷ BadSettings ∷ BadForm 28 ∷ Forbidden 8 ∷ Busy
-    ∷ Handled (record { count = 0; signal = Resume 1 0 1 missing; padding = 0 })
+    ∷ Handled (record { count = 0; signal = resume 1 0 1 missing; padding = 0 })
     ∷ NotApplicable
     ∷ []
     )

@@ -1,9 +1,20 @@
 -- "Host answers": document 01's number and values of each case of an answer, W5's 12, which is a message's that was taken, and W6's padding byte.
-use Rattle.std.specs.Prelude.{ℕ, Bool, false, cond, eqb}
+use Rattle.std.specs.Prelude.{ℕ, Bool, true, false, cond}
 use Rattle.kvmi.specs.declared.Answer.{Answer}
 use Rattle.kvmi.specs.declared.Answer.TheVariants.{Handled, Closing, Closed, ShortOut, BadVcpu, BadState, Waiting, BadSettings, BadForm, Forbidden, Busy, NotApplicable}
 use Rattle.kvmi.specs.declared.Signal.{Signal}
 use Rattle.kvmi.specs.declared.Signal.TheVariants.{Quiet, Kick, Crash, Resume}
+use Rattle.kvmi.specs.declared.Feed.{Feed}
+use Rattle.kvmi.specs.declared.Resumption.{Resumption}
+use Rattle.kvmi.specs.declared.Source.{Source}
+use Rattle.kvmi.specs.declared.Source.TheVariants.{Unfed, Message, Guest, Missing}
+
+-- a resume(vCPU, action, value), with W5's bytes
+abbrev pub resumption : ℕ → ℕ → ℕ → Feed → Resumption
+resumption vcpu action value feed = record { vcpu = vcpu; action = action; value = value; feed = feed }
+
+abbrev pub resume : ℕ → ℕ → ℕ → Feed → Signal
+resume vcpu action value feed = Resume (resumption vcpu action value feed)
 
 -- number, count of bytes written, signal (none, kick(vCPU, wait), crash(vCPU), and W1's resume(vCPU, action, value), with W5's bytes), offset, and W6's message offset of
 -- a padding byte; what an answer has none of is 0 or none
@@ -14,12 +25,18 @@ pub record Paper : Type 0 where
   pub offset : ℕ
   pub padding : ℕ
 
+abbrev pub is_missing : Source → Bool
+is_missing Unfed = false
+is_missing Message = false
+is_missing Guest = false
+is_missing Missing = true
+
 -- W5: "a continue that needs the guest page where none exists"
 abbrev pub lacks_page : Signal → Bool
 lacks_page Quiet = false
 lacks_page (Kick wait vcpu) = false
 lacks_page (Crash vcpu) = false
-lacks_page (Resume vcpu action value feed) = eqb feed.source 3
+lacks_page (Resume r) = is_missing r.feed.source
 
 -- answer 0; W5: such a continue "is answer 12 and hands back no bytes, all else as under answer 0"
 abbrev pub handled : ℕ → Signal → Paper

@@ -1,14 +1,16 @@
 -- W3, "Several messages in one write": a call for messages end to end. It is said once, for a session and for its book, and rests on nothing but what a
 -- single message does to either (`Takes`).
-use Rattle.std.specs.Prelude.{ℕ, zero, suc, ◌+◌, ◌-◌, ◌*◌, min, List, [], ◌∷◌, ◌++◌, Bool, true, false, cond, not, ◌&&◌, length, take, drop, leb, ltb, eqb}
+use Rattle.std.specs.Prelude.{Option, Some, None, is_some, ℕ, zero, suc, ◌+◌, ◌-◌, ◌*◌, min, List, [], ◌∷◌, ◌++◌, Bool, true, false, cond, not, ◌&&◌, length, take, drop, leb, ltb, eqb}
 use Rattle.wire.specs.Bytes.{load, store}
 use Rattle.kvmi.specs.declared.Settings.{Settings}
 use Rattle.kvmi.specs.declared.Feed.{Feed}
+use Rattle.kvmi.specs.declared.Resumption.{Resumption}
 use Rattle.kvmi.specs.declared.Signal.{Signal}
 use Rattle.kvmi.specs.declared.Signal.TheVariants.{Quiet, Kick, Crash, Resume}
 use Rattle.kvmi.specs.Bits.{bit}
 use Rattle.kvmi.specs.Limits.{least_out}
-use Rattle.kvmi.specs.Answer.{Paper}
+use Rattle.kvmi.specs.Answer.{Paper, is_missing}
+use Rattle.kvmi.specs.Feed.{is_message}
 use Rattle.kvmi.specs.Model.{Model}
 use Rattle.kvmi.specs.Call.{Call, message, Step, message_step}
 
@@ -36,24 +38,26 @@ abbrev pub listed_as : Signal → List ℕ
 listed_as Quiet = []
 listed_as (Kick wait vcpu) = (256 + 2 * vcpu + bit wait) ∷ []
 listed_as (Crash vcpu) = (512 + vcpu) ∷ []
-listed_as (Resume vcpu action value feed) = []
+listed_as (Resume r) = []
 
 -- the bytes that feed a vCPU, of a message that begins at a byte of the input: W5's "part of one of the two buffers" is then one of the input
 abbrev pub feed_in : ℕ → Feed → Feed
-feed_in start f = record { source = f.source; at = cond (eqb f.source 1) (start + f.at) f.at; length = f.length }
+feed_in start f = record { source = f.source; at = cond (is_message f.source) (start + f.at) f.at; length = f.length }
 
 -- "A resume is handed back beside the list": of any other signal nothing is
-abbrev pub resume_of : ℕ → Signal → Signal
-resume_of start Quiet = Quiet
-resume_of start (Kick wait vcpu) = Quiet
-resume_of start (Crash vcpu) = Quiet
-resume_of start (Resume vcpu action value feed) = Resume vcpu action value (feed_in start feed)
+abbrev pub resume_of : ℕ → Signal → Option Resumption
+resume_of start Quiet = None
+resume_of start (Kick wait vcpu) = None
+resume_of start (Crash vcpu) = None
+resume_of start (Resume r) = Some (record { vcpu = r.vcpu; action = r.action; value = r.value; feed = feed_in start r.feed })
 
-abbrev pub is_resume : Signal → Bool
-is_resume Quiet = false
-is_resume (Kick wait vcpu) = false
-is_resume (Crash vcpu) = false
-is_resume (Resume vcpu action value feed) = true
+abbrev pub is_resume : Option Resumption → Bool
+is_resume r = is_some r
+
+-- whether it lacks the page that was to feed it
+abbrev pub resume_lacks_page : Option Resumption → Bool
+resume_lacks_page None = false
+resume_lacks_page (Some r) = is_missing r.feed.source
 
 -- ---- how far a batch is, or where it ended
 pub record Batch (A : Type 0) : Type 0 where
@@ -64,7 +68,7 @@ pub record Batch (A : Type 0) : Type 0 where
   pub count : ℕ
   pub listed : ℕ
   -- the resume, if one ended it
-  pub resume : Signal
+  pub resume : Option Resumption
   -- whole, what the messages so far left
   pub state : A
   pub out : List ℕ
@@ -74,7 +78,7 @@ pub record Batch (A : Type 0) : Type 0 where
 -- before the first message
 abbrev pub at_start : {A : Type 0} → ℕ → A → List ℕ → List ℕ → List ℕ → Batch A
 at_start number a out signals guest =
-    record { number = number; used = 0; count = 0; listed = 0; resume = Quiet; state = a; out = out; signals = signals; guest = guest }
+    record { number = number; used = 0; count = 0; listed = 0; resume = None; state = a; out = out; signals = signals; guest = guest }
 
 -- "Refusals, tested first, for an empty batch too: closed 2, short output 3, a list with no place 11", by the lengths of both; 0: none of them
 unfoldable pub refusal_of : Bool → ℕ → ℕ → ℕ

@@ -1,10 +1,8 @@
 -- The host calls of demand 3's list on the model, each with its arguments: its answer, what it leaves in lent memory, and the model after it.
 -- They read nothing but the model, the arguments and the settings.
-use Rattle.std.specs.Prelude.{ℕ, ◌-◌, ◌≡◌, List, [], ◌∷◌, ◌++◌, Bool, true, false, cond, not, ◌&&◌, ◌||◌, ℤ, length, drop, leb, ltb, eqb}
+use Rattle.std.specs.Prelude.{ℕ, ◌-◌, ◌≡◌, List, [], ◌∷◌, ◌++◌, Bool, true, false, cond, not, ◌&&◌, ◌||◌, ℤ, length, drop, leb, ltb, eqb, Some, None}
 use Rattle.std.proofs.Math.Option.{Option, none, some}
-use Rattle.wire.specs.Header.{header_of}
-use Rattle.wire.specs.declared.Header.{Header}
-use Rattle.wire.specs.declared.Header.TheVariants.{Whole, Broken}
+use Rattle.wire.specs.Header.{HeaderRead, header_of}
 use Rattle.kvmi.specs.declared.Settings.{Settings}
 use Rattle.kvmi.specs.declared.Signal.{Signal}
 use Rattle.kvmi.specs.declared.Signal.TheVariants.{Quiet}
@@ -95,10 +93,10 @@ judged s m id seq d out guest (Does c) =
 
 -- test 1: "Fewer than 8 bytes, or size unequal to the bytes that follow: closes."
 -- The vCPU number is read from the data of every message and used only where the message names a vCPU.
-unfoldable pub headed : Settings → Model → List ℕ → List ℕ → List ℕ → Header → Step
-headed s m d out guest Broken = closing s out guest
-headed s m d out guest (Whole id size seq) =
-    reporting (reported_padding s m.mode id d) (judged s m id seq d out guest (verdict s (facts_of m (length guest) (vcpu_of d)) id seq d))
+unfoldable pub headed : Settings → Model → List ℕ → List ℕ → List ℕ → HeaderRead → Step
+headed s m d out guest None = closing s out guest
+headed s m d out guest (Some h) =
+    reporting (reported_padding s m.mode h.id d) (judged s m h.id h.seq d out guest (verdict s (facts_of m (length guest) (vcpu_of d)) h.id h.seq d))
 
 -- 2 closed; 3 short out, below 4,112; then the tests
 unfoldable pub message_step : Settings → Model → List ℕ → List ℕ → List ℕ → Step

@@ -8,9 +8,10 @@ use Rattle.kvmi.specs.declared.Settings.{Settings}
 use Rattle.kvmi.specs.declared.ReplyMode.{ReplyMode}
 use Rattle.kvmi.specs.declared.Feed.{Feed}
 use Rattle.kvmi.specs.declared.Signal.{Signal}
-use Rattle.kvmi.specs.declared.Signal.TheVariants.{Quiet, Kick, Crash, Resume}
+use Rattle.kvmi.specs.declared.Signal.TheVariants.{Quiet, Kick, Crash}
 use Rattle.kvmi.specs.declared.Change.{Change}
 use Rattle.kvmi.specs.declared.Change.TheVariants.{Nothing, SetVmEvent, WritePhysical, QueuePause, SetVcpuEvent, SetCr, SetMsr, SetPages, SetSinglestep, SetReplies, EndWait}
+use Rattle.kvmi.specs.Answer.{resume}
 use Rattle.kvmi.specs.Limits.{page_limit}
 use Rattle.kvmi.specs.Settings.{all_or_nothing}
 use Rattle.kvmi.specs.Bits.{put_bit}
@@ -100,7 +101,7 @@ apply s m guest d (EndWait resumes vcpu action value feed) = applied (set_awaite
 -- of an event's reply: "A crash is signalled; the session stays open."; W1: "Such a continue or retry, unlike a pause's, is signalled as
 -- resume(vCPU, action, new value or 0)."; W5's bytes go with it
 abbrev pub reply_signal : Bool → ℕ → ℕ → ℕ → Feed → Signal
-reply_signal resumes vcpu action value feed = cond (eqb action 2) (Crash vcpu) (cond resumes (Resume vcpu action value feed) Quiet)
+reply_signal resumes vcpu action value feed = cond (eqb action 2) (Crash vcpu) (cond resumes (resume vcpu action value feed) Quiet)
 
 -- "signal: none, kick(vCPU, wait), crash(vCPU)", and resume: a kick for message 9
 abbrev pub signal_of : Change → Signal

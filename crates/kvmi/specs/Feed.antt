@@ -1,9 +1,11 @@
 -- Document 02, "W5. Page faults with bytes supplied by the tool.": what a page fault's bytes say, its reply's context, and the bytes that feed the
 -- instruction whose read it stopped. Quotes are W5's, unless they are marked. own is a fault's own bytes, d its reply's data.
-use Rattle.std.specs.Prelude.{ℕ, ◌+◌, ◌-◌, ◌*◌, ◌/◌, ◌%◌, ◌^◌, List, Bool, cond, not, ◌&&◌, get_or, leb, ltb, eqb}
+use Rattle.std.specs.Prelude.{ℕ, ◌+◌, ◌-◌, ◌*◌, ◌/◌, ◌%◌, ◌^◌, List, Bool, true, false, cond, not, ◌&&◌, get_or, leb, ltb, eqb}
 use Rattle.wire.specs.Bytes.{load}
 use Rattle.kvmi.specs.declared.Facts.{Facts}
 use Rattle.kvmi.specs.declared.Feed.{Feed}
+use Rattle.kvmi.specs.declared.Source.{Source}
+use Rattle.kvmi.specs.declared.Source.TheVariants.{Unfed, Message, Guest, Missing}
 use Rattle.kvmi.specs.Bits.{is_on}
 use Rattle.kvmi.specs.Message.{action_of}
 
@@ -50,19 +52,25 @@ context_fits d = eqb (get_or d 28 0) 0 && eqb (load 2 d 30) 0 && leb (supplied_s
 -- ---- the bytes that feed the instruction: which part of which buffer
 -- none are wanted
 abbrev pub unfed : Feed
-unfed = record { source = 0; at = 0; length = 0 }
+unfed = record { source = Unfed; at = 0; length = 0 }
 
 -- "the supplied data from gva to its end"; the data begins at byte 40 of the message
 abbrev pub supplied : ℕ → ℕ → ℕ → Feed
-supplied gva address size = record { source = 1; at = 40 + (gva - address); length = size - (gva - address) }
+supplied gva address size = record { source = Message; at = 40 + (gva - address); length = size - (gva - address) }
 
 -- "the page's bytes from gpa to the page end"
 abbrev pub from_page : ℕ → Feed
-from_page gpa = record { source = 2; at = gpa; length = 4096 - gpa % 4096 }
+from_page gpa = record { source = Guest; at = gpa; length = 4096 - gpa % 4096 }
 
 -- they are the guest page's, "where none exists"
 abbrev pub missing : Feed
-missing = record { source = 3; at = 0; length = 0 }
+missing = record { source = Missing; at = 0; length = 0 }
+
+abbrev pub is_message : Source → Bool
+is_message Unfed = false
+is_message Message = true
+is_message Guest = false
+is_message Missing = false
 
 -- "On a continued read (access bit R) the host wants the bytes to feed the instruction": the action is 0, and R is bit 0
 unfoldable pub wants_bytes : ℕ → ℕ → Bool

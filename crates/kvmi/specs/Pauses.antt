@@ -14,7 +14,7 @@ abbrev pub kicks : ℕ → Signal → ℕ
 kicks vcpu Quiet = 0
 kicks vcpu (Kick wait v) = bit (eqb v vcpu)
 kicks vcpu (Crash v) = 0
-kicks vcpu (Resume v action value feed) = 0
+kicks vcpu (Resume r) = 0
 
 -- by a call's answer
 unfoldable pub accepted : ℕ → Paper → ℕ

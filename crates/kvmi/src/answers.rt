@@ -4,7 +4,7 @@ ghost use Rattle.kvmi.specs.declared.Signal.TheVariants.{Quiet};
 ghost use Rattle.kvmi.specs.Answer.{paper, handled, with_padding, lacks_page};
 ghost use Rattle.kvmi.specs.Feed.{unfed};
 
-use crate::{Answer, Feed, Signal, Values};
+use crate::{Answer, Feed, Signal, Source, Values};
 
 // Bytes written, and something for the host to do.
 pub fn signalled(count: usize, signal: Signal) -> Answer
@@ -56,35 +56,19 @@ pub fn failed(count: usize, padding: usize) -> Answer
 pub fn values(a: Answer) -> Values
     ensures { (result.count ≡ (paper a).count) × (result.signal ≡ (paper a).signal) × (result.padding ≡ (paper a).padding) }
 {
-    match a {
-        Answer::Handled(values) => values,
-        Answer::Closing => quiet(),
-        Answer::Closed => quiet(),
-        Answer::ShortOut => quiet(),
-        Answer::BadVcpu => quiet(),
-        Answer::BadState => quiet(),
-        Answer::Waiting => quiet(),
-        Answer::BadSettings => quiet(),
-        Answer::BadForm { offset: _ } => quiet(),
-        Answer::Forbidden { offset: _ } => quiet(),
-        Answer::Busy => quiet(),
-        Answer::NotApplicable => quiet(),
+    if let Answer::Handled(values) = a {
+        values
+    } else {
+        quiet()
     }
 }
-
-// The sources of the bytes that feed a resumed vCPU: its message, guest memory; and that there is no such guest page.
-pub const MESSAGE: u32 = 1;
-
-pub const GUEST: u32 = 2;
-
-pub const MISSING: u32 = 3;
 
 // No bytes are wanted.
 pub fn unfed() -> Feed
     ensures { result ≡ unfed }
 {
     Feed {
-        source: 0,
+        source: Source::Unfed,
         at: 0,
         length: 0,
     }
@@ -94,15 +78,9 @@ pub fn unfed() -> Feed
 pub fn lacks_page(signal: Signal) -> bool
     ensures { result ≡ lacks_page signal }
 {
-    match signal {
-        Signal::Quiet => false,
-        Signal::Kick { wait: _, vcpu: _ } => false,
-        Signal::Crash { vcpu: _ } => false,
-        Signal::Resume {
-            vcpu: _,
-            action: _,
-            value: _,
-            feed,
-        } => feed.source == MISSING,
+    if let Signal::Resume(resumption) = signal {
+        matches!(resumption.feed.source, Source::Missing)
+    } else {
+        false
     }
 }

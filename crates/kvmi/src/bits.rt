@@ -6,5 +6,5 @@ ghost use Rattle.kvmi.specs.Bits.{is_on};
 pub fn is_on(w: u64, k: u32) -> bool
     ensures { result ≡ is_on w k }
 {
-    if k < 64 { (w >> k) % 2 == 1 } else { false }
+    k < 64 && (w >> k) % 2 == 1
 }

@@ -52,13 +52,5 @@ pub fn row(event: u64) -> EventRow
 pub fn is_offered(switch: EventSwitch) -> bool
     ensures { result ≡ is_offered switch }
 {
-    match switch {
-        EventSwitch::Unoffered => false,
-        EventSwitch::NoEvent => true,
-        EventSwitch::OfVm => true,
-        EventSwitch::OfVcpu => true,
-        EventSwitch::OfCr => true,
-        EventSwitch::OfMsr => true,
-        EventSwitch::OfPage => true,
-    }
+    !matches!(switch, EventSwitch::Unoffered)
 }

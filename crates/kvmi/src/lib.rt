@@ -4,6 +4,7 @@
 pub mod answers;
 pub mod bits;
 pub mod events;
+pub mod mode;
 pub mod table;
 
 // How many pages a view has, 2^52.
@@ -47,40 +48,49 @@ pub enum ReplyMode {
 #[derive(Clone, Copy)]
 pub enum Signal {
     Quiet,
-    Kick {
-        wait: bool,
-        vcpu: u16,
-    },
-    Crash {
-        vcpu: u16,
-    },
-    // A vCPU goes on from an event that it was offered: 0 continue or 1 retry, the register's new value, a page fault's rep flag or 0, and the bytes that
-    // feed the instruction.
-    Resume {
-        vcpu: u16,
-        action: u32,
-        value: u64,
-        feed: Feed,
-    },
+    Kick { wait: bool, vcpu: u16 },
+    Crash { vcpu: u16 },
+    Resume(Resumption),
+}
+
+// How a vCPU goes on from an event that it was offered: 0 continue or 1 retry, the register's new value, a page fault's rep flag or 0, and the bytes that
+// feed the instruction. The action is a number, as in the reply: `apply` and `reply_signal` (specs/Change) take any.
+#[derive(Clone, Copy)]
+pub struct Resumption {
+    pub vcpu: u16,
+    pub action: u32,
+    pub value: u64,
+    pub feed: Feed,
 }
 
 // The bytes that feed an instruction whose read a page fault stopped, on a continue: those that the tool supplied, a part of its message, or the guest
-// page's, a part of guest memory; where in it they begin, and how many they are.
+// page's, a part of guest memory; where in it they begin, and how many they are. With both numbers in the variants of `Source` that have them a small
+// command takes 263 instructions and not 227, counted without the proofs.
 #[derive(Clone, Copy)]
 pub struct Feed {
     pub at: u64,
     pub length: u32,
-    // 0 none are wanted, 1 the message, 2 guest memory, 3 they are the guest page's, and the guest has no such page.
-    pub source: u32,
+    pub source: Source,
+}
+
+// Where the bytes of a feed are. A result of the C interface has their numbers, from 0 on in this order.
+#[derive(Clone, Copy)]
+pub enum Source {
+    // None are wanted.
+    Unfed,
+    Message,
+    Guest,
+    // They are the guest page's, and the guest has no such page.
+    Missing,
 }
 
 // The values of answers 0 and 12: what the host is to do, where a command's first padding byte stands that is not zero (its message offset; 0: none),
 // and how many bytes were written. The count stands last: a store of its own width ends each answer with values, so that the compiler keeps answers in
-// registers.
+// registers. With the signal first a small command takes 14 instructions more.
 #[derive(Clone, Copy)]
 pub struct Values {
-    pub signal: Signal,
     pub padding: usize,
+    pub signal: Signal,
     pub count: usize,
 }
 

@@ -11,6 +11,7 @@ use Rattle.wire.specs.Bytes.{load}
 use Rattle.kvmi.specs.declared.Settings.{Settings}
 use Rattle.kvmi.specs.declared.Facts.{Facts}
 use Rattle.kvmi.specs.declared.Feed.{Feed}
+use Rattle.kvmi.specs.declared.Source.TheVariants.{Message}
 use Rattle.kvmi.specs.declared.EventRow.{EventRow}
 use Rattle.kvmi.specs.declared.ReplyForm.{ReplyForm}
 use Rattle.kvmi.specs.declared.ReplyForm.TheVariants.{Plain, NewValue, Context}
@@ -35,7 +36,7 @@ in-to gva address size h = ltb-true gva (address + size) (and_r (not (eqb gva un
 -- ---- the bytes that feed a vCPU
 -- where the message supplies them, its data are 288 bytes, its header is 8, and the bytes are a part of these
 abbrev pub Inside : List ℕ → Feed → Type 0
-Inside d x = x.source ≡ 1 → (length d ≡ 288) × (x.at + x.length ≤ 296)
+Inside d x = x.source ≡ Message → (length d ≡ 288) × (x.at + x.length ≤ 296)
 
 -- the reply to a page fault alone has a context, and 288 data bytes
 abbrev is_long : ReplyForm → ℕ → Bool
@@ -56,7 +57,7 @@ context-few d h =
 
 page-inside : (guest gpa : ℕ) (d : List ℕ) → Inside d (page_feed guest gpa)
 unfolding page_feed
-page-inside guest gpa d = pick (Inside d) (page_exists guest gpa) _ _ (λ _ s. absurd (omega arith)) (λ _ s. absurd (omega arith))
+page-inside guest gpa d = pick (Inside d) (page_exists guest gpa) _ _ (λ _ s. absurd (cc)) (λ _ s. absurd (cc))
 
 chosen-inside : (gva gpa guest : ℕ) (d : List ℕ) → length d ≡ 288 → supplied_size d ≤ 256 → Inside d (chosen_feed gva gpa guest d)
 unfolding chosen_feed
@@ -69,11 +70,11 @@ chosen-inside gva gpa guest d long few =
 fed-inside : (f : Facts) (d : List ℕ) → length d ≡ 288 → supplied_size d ≤ 256 → Inside d (feed_of f d)
 unfolding feed_of
 fed-inside f d long few =
-    pick (Inside d) (wants_bytes f.access (action_of d)) _ _ (λ _. chosen-inside f.gva f.gpa f.guest d long few) (λ _ s. absurd (omega arith))
+    pick (Inside d) (wants_bytes f.access (action_of d)) _ _ (λ _. chosen-inside f.gva f.gpa f.guest d long few) (λ _ s. absurd (cc))
 
 form-inside : (form : ReplyForm) (reply : ℕ) (f : Facts) (d : List ℕ) → is_long form reply ≡ true → length d ≡ reply → form_fits form d ≡ true → Inside d (feed_by form f d)
-form-inside Plain reply f d long e fits = λ s. absurd (omega arith)
-form-inside NewValue reply f d long e fits = λ s. absurd (omega arith)
+form-inside Plain reply f d long e fits = λ s. absurd (cc)
+form-inside NewValue reply f d long e fits = λ s. absurd (cc)
 form-inside Context reply f d long e fits = fed-inside f d (e ∙ eqb-true reply 288 long) (context-few d fits)
 
 -- of a reply that is taken

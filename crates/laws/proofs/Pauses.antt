@@ -11,13 +11,12 @@ use lib.ListN.{length, get_or, set, drop}
 use lib.Seq.{get_or-set_same, get_or-set_other, set_out}
 use lib.Dec.{leb, eqb, ltb}
 use borrow.Author.Tests.{leb-true, leb-false, ltb-true, ltb-false, eqb-true, eqb-false, eq-eqb, ne_eqb}
-use Rattle.wire.specs.Header.{header_of}
-use Rattle.wire.specs.declared.Header.{Header}
-use Rattle.wire.specs.declared.Header.TheVariants.{Whole, Broken}
+use Rattle.std.specs.Prelude.{Some, None}
+use Rattle.wire.specs.Header.{HeaderRead, header_of}
 use Rattle.kvmi.specs.declared.Settings.{Settings}
 use Rattle.kvmi.specs.declared.Feed.{Feed}
 use Rattle.kvmi.specs.declared.Signal.{Signal}
-use Rattle.kvmi.specs.declared.Signal.TheVariants.{Quiet, Crash, Resume}
+use Rattle.kvmi.specs.declared.Signal.TheVariants.{Quiet, Crash}
 use Rattle.kvmi.specs.declared.Change.{Change}
 use Rattle.kvmi.specs.declared.Change.TheVariants.{Nothing, SetVmEvent, WritePhysical, QueuePause, SetVcpuEvent, SetCr, SetMsr, SetPages, SetSinglestep, SetReplies, EndWait}
 use Rattle.kvmi.specs.declared.Verdict.{Verdict}
@@ -34,7 +33,7 @@ use Rattle.kvmi.specs.Reply.{event_bytes, pause_event}
 use Rattle.kvmi.specs.Valid.{Valid}
 use Rattle.kvmi.specs.Image.{image}
 use Rattle.kvmi.specs.Call.{Call, message, ready, enter, write_image, Step, answering, judged, headed, unchanged, message_step, ready_step, sending, pausing, dequeuing, entering, enter_step, awaits_any, image_step, step, move, after}
-use Rattle.kvmi.specs.Answer.{plain}
+use Rattle.kvmi.specs.Answer.{plain, resume}
 use Rattle.kvmi.specs.Pauses.{kicks, accepted, sent, queued, accepted_in, sent_in}
 use Rattle.laws.proofs.Bool.{test, clash}
 use Rattle.laws.proofs.Verdicts.{pick, Passed, ending, verdict-cases, sound-of}
@@ -104,7 +103,7 @@ module _ (s : Settings) (vcpu : ℕ) where
   no-kick : (resumes : Bool) (v action value : ℕ) (feed : Feed) → kicks vcpu (reply_signal resumes v action value feed) ≡ 0
   no-kick resumes v action value feed =
       pick (λ (g : Signal). kicks vcpu g ≡ 0) (eqb action 2) _ _ (λ _. refl)
-      (λ _. pick (λ (g : Signal). kicks vcpu g ≡ 0) resumes (Resume v action value feed) Quiet (λ _. refl) (λ _. refl))
+      (λ _. pick (λ (g : Signal). kicks vcpu g ≡ 0) resumes (resume v action value feed) Quiet (λ _. refl) (λ _. refl))
 
   end-even : (m : Model) (guest d : List ℕ) (resumes : Bool) (v action value : ℕ) (feed : Feed) → Even m guest d (EndWait resumes v action value feed)
   unfolding apply queued
@@ -128,12 +127,12 @@ module _ (s : Settings) (vcpu : ℕ) where
       B : Step → Type 0
       B = Balanced vcpu m (message msg out guest)
 
-      by-header : (h : Header) → Balanced vcpu m (message msg out guest) (headed s m (drop 8 msg) out guest h)
-      by-header Broken = λ q. absurd (true≢false q)
-      by-header (Whole id size seq) =
+      by-header : (h : HeaderRead) → Balanced vcpu m (message msg out guest) (headed s m (drop 8 msg) out guest h)
+      by-header None = λ q. absurd (true≢false q)
+      by-header (Some h) =
           let d = drop 8 msg in
-          verdict-cases (λ v. Balanced vcpu m (message msg out guest) (judged s m id seq d out guest v)) s (facts_of m (length guest) (vcpu_of d)) id seq d
-          (λ q. absurd (true≢false q)) (λ code _ _. add-zero _ ∙ sym (zero-add _)) (λ p _. change-even m guest d a id p ∙ sym (zero-add _))
+          verdict-cases (λ v. Balanced vcpu m (message msg out guest) (judged s m h.id h.seq d out guest v)) s (facts_of m (length guest) (vcpu_of d)) h.id h.seq d
+          (λ q. absurd (true≢false q)) (λ code _ _. add-zero _ ∙ sym (zero-add _)) (λ p _. change-even m guest d a h.id p ∙ sym (zero-add _))
           (λ _ _. end-even m guest d _ (vcpu_of d) _ _ _ ∙ sym (zero-add _))
 
   ready-balanced : (m : Model) (v : ℕ) → Balanced vcpu m (ready v) (ready_step s m v)

@@ -10,10 +10,9 @@ use lib.IntN.{ℤ}
 use lib.ListN.{length, get_or, set, take, drop}
 use lib.Dec.{leb, eqb, ltb}
 use borrow.Author.Tests.{leb-true, leb-false, ltb-true, ltb-false, eqb-true, eqb-false, le-leb, lt-ltb, eq-eqb, not-false, not-true}
+use Rattle.std.specs.Prelude.{Some, None}
 use Rattle.wire.specs.Bytes.{load}
-use Rattle.wire.specs.Header.{header_of}
-use Rattle.wire.specs.declared.Header.{Header}
-use Rattle.wire.specs.declared.Header.TheVariants.{Whole, Broken}
+use Rattle.wire.specs.Header.{HeaderRead, header_of}
 use Rattle.msrs.specs.Place.{is_msr}
 use Rattle.kvmi.specs.declared.Settings.{Settings}
 use Rattle.kvmi.specs.declared.Change.{Change}
@@ -248,9 +247,9 @@ module _ (s : Settings) (ok : So (in_range s)) where
           verdict-cases (λ v. Kept (judged s m id seq d out guest v)) s (facts_of m (length guest) (vcpu_of d)) id seq d (empty-valid s ok) (λ _ _. a)
           (λ p. change-fine s ok m a guest d id p) (λ _. a)
 
-      by-header : (h : Header) → Kept (headed s m (drop 8 msg) out guest h)
-      by-header Broken = empty-valid s ok
-      by-header (Whole id size seq) = by-verdict id seq (drop 8 msg)
+      by-header : (h : HeaderRead) → Kept (headed s m (drop 8 msg) out guest h)
+      by-header None = empty-valid s ok
+      by-header (Some h) = by-verdict h.id h.seq (drop 8 msg)
 
   pub ready-kept : (m : Model) (vcpu : ℕ) → Valid s m.tables → Kept (ready_step s m vcpu)
   unfolding ready_step

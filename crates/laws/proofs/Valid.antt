@@ -7,7 +7,7 @@ use mathlib.Core.Bool.{So}
 use lib.ListN.{length}
 use lib.Dec.{leb, eqb, ltb}
 use borrow.Author.Tests.{leb-true, ltb-true}
-use Rattle.msrs.specs.declared.Place.TheVariants.{At}
+use Rattle.std.specs.Prelude.{Some}
 use Rattle.msrs.specs.Place.{msr_place, is_msr}
 use Rattle.msrs.proofs.Ranges.{number_of, at_place, in-places, rising-places, small}
 use Rattle.kvmi.specs.declared.Settings.{Settings}
@@ -58,7 +58,7 @@ vc-numbers v h =
 abbrev rank : Msr → ℕ
 rank m = m.vcpu * 16384 + number_of (msr_place m.msr)
 
-ms-place : (vs : List Vcpu) (m : Msr) → So (ms_form vs m) → msr_place m.msr ≡ At (number_of (msr_place m.msr))
+ms-place : (vs : List Vcpu) (m : Msr) → So (ms_form vs m) → msr_place m.msr ≡ Some (number_of (msr_place m.msr))
 ms-place vs m h = at_place m.msr (ms-msr vs m h)
 
 rank_up : (vs : List Vcpu) (m k : Msr) → So (ms_form vs m) → So (ms_form vs k) → msr_key m < msr_key k → rank m < rank k

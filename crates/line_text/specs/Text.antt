@@ -1,12 +1,7 @@
 -- The text of a line, byte for byte: "Fields: index, id, seq, host answer, bytes written, error in them".
-use Rattle.std.specs.Prelude.{ℕ, zero, suc, ◌+◌, ◌/◌, ◌%◌, ◌≤◌, ◌≡◌, List, [], ◌∷◌, ◌++◌, cond, length, take, ltb, ℤ, pos, negsuc}
+use Rattle.std.specs.Prelude.{Option, Some, None, ℕ, zero, suc, ◌+◌, ◌/◌, ◌%◌, ◌≤◌, ◌≡◌, List, [], ◌∷◌, ◌++◌, cond, length, take, ltb, ℤ, pos, negsuc}
 use Prim.Native.Char.{code}
 use Prim.Native.String.{String, [] as none, ◌∷◌ as ◌then◌}
-use Rattle.wire.specs.Bytes.{store}
-use Rattle.stream.specs.declared.Number.{Number}
-use Rattle.stream.specs.declared.Number.TheVariants.{Missing, Shown}
-use Rattle.stream.specs.declared.Code.{Code}
-use Rattle.stream.specs.declared.Code.TheVariants.{Unwritten, Written}
 use Rattle.stream.specs.declared.Line.{Line}
 use Rattle.stream.specs.declared.End.{End}
 use Rattle.stream.specs.declared.End.TheVariants.{Open, Closed, Long}
@@ -35,14 +30,14 @@ signed_text (negsuc k) = ascii "-" ++ decimal (suc k)
 -- ---- fields
 
 -- "`-` stands for an id or seq that is not whole"
-unfoldable pub number_text : Number → List ℕ
-number_text Missing = ascii "-"
-number_text (Shown n) = decimal n
+unfoldable pub number_text : Option ℕ → List ℕ
+number_text None = ascii "-"
+number_text (Some n) = decimal n
 
 -- "and for the error where 0 bytes are written"
-unfoldable pub code_text : Code → List ℕ
-code_text Unwritten = ascii "-"
-code_text (Written e) = signed_text e
+unfoldable pub code_text : Option ℤ → List ℕ
+code_text None = ascii "-"
+code_text (Some e) = signed_text e
 
 -- ---- lines
 
@@ -62,13 +57,6 @@ unfoldable pub end_text : End → List ℕ
 end_text Open = ascii "end open\n"
 end_text Closed = ascii "end closed\n"
 end_text Long = ascii "end long\n"
-
--- ---- writing
-
--- bytes that were put at a place of a text: the text after it, and the place behind them
-pub record Put (before : List ℕ) (at : ℕ) (bytes after : List ℕ) (r : ℕ) : Type 0 where
-  pub there : after ≡ store before at bytes
-  pub behind : r ≡ at + length bytes
 
 -- so many bytes stand at the front of a text; the second part follows from the first, and serves callers that lend them on
 abbrev pub Counts : ℕ → List ℕ → Type 0

@@ -1,128 +1,127 @@
 // The text of a line, in a buffer that the caller lends.
 #![tactic(auto)]
 
-ghost use Rattle.std.specs.Prelude.{◌≡◌, ◌++◌, ◌+◌, ◌≤◌, nat_abs, length, drop};
+ghost use Rattle.std.specs.Prelude.{◌≡◌, ℕ, List, [], ◌∷◌, ◌++◌, ◌+◌, ◌<◌, ◌≤◌, length, take};
 ghost use Rattle.wire.specs.Bytes.{store};
-ghost use Rattle.line_text.specs.Text.{ascii, decimal, signed_text, number_text, code_text, line_text, end_text, Put, Counts};
+ghost use Rattle.line_text.specs.Text.{ascii, decimal, number_text, code_text, line_text, end_text, Counts};
 
-use stream::{Code, End, Line, Number};
+use std::marker::Model;
+use stream::{End, Line};
 
-// The digits of a number, at the end of 20 bytes; answers where they begin.
-fn spell(space: &mut [u8], n: u64) -> usize
-    requires { length space.old ≡ 20 }
-    ensures upper_bound { result ≤ 20 }
-    ensures space_after { drop result space.new ≡ decimal n }
-{
-    let mut at = 19;
-    let mut rest = n;
-    while 10 <= rest {
-        space[at] = 48 + (rest % 10) as u8;
-        rest /= 10;
-        at -= 1;
+// The text of a line as it grows, of at most 128 bytes. Library crates allocate nothing, so it has fixed memory.
+#[derive(Drop)]
+struct Text {
+    bytes: [u8; 128],
+    len: usize,
+}
+
+impl Model for Text {
+    ghost Value = { List ℕ };
+
+    ghost view = { λ t. take t.len t.bytes };
+
+    ghost invariant = { λ t. t.len ≤ 128 };
+}
+
+impl Text {
+    fn new() -> Self
+        ensures { result ≡ [] }
+    {
+        Text {
+            bytes: [0; 128],
+            len: 0,
+        }
     }
-    space[at] = 48 + rest as u8;
-    at
-}
 
-// A number in decimal at a place; answers the place behind it. So do the functions that follow.
-fn put_decimal(text: &mut [u8], at: usize, n: u64) -> usize
-    requires { at + 20 ≤ length text.old }
-    ensures put { Put text.old at (decimal n) text.new result }
-    ensures upper_bound { result ≤ at + 20 }
-{
-    let mut space = [0u8; 20];
-    let from = spell(&mut space, n);
-    wire::copy(text, at, &space[from..]);
-    at + (20 - from)
-}
-
-// A space, and a `-`.
-fn put_dash(text: &mut [u8], at: usize) -> usize
-    requires { at + 2 ≤ length text.old }
-    ensures put { Put text.old at (ascii " -") text.new result }
-    ensures upper_bound { result ≤ at + 2 }
-{
-    wire::copy(text, at, b" -");
-    at + 2
-}
-
-// A space, and a number.
-fn put_field(text: &mut [u8], at: usize, n: u64) -> usize
-    requires { at + 21 ≤ length text.old }
-    ensures put { Put text.old at (ascii " " ++ decimal n) text.new result }
-    ensures upper_bound { result ≤ at + 21 }
-{
-    wire::store8(text, at, b' ');
-    put_decimal(text, at + 1, n)
-}
-
-// A space, and an id or a seq.
-fn put_number(text: &mut [u8], at: usize, n: Number) -> usize
-    requires { at + 21 ≤ length text.old }
-    ensures put { Put text.old at (ascii " " ++ number_text n) text.new result }
-    ensures upper_bound { result ≤ at + 21 }
-{
-    match n {
-        Number::Missing => put_dash(text, at),
-        Number::Shown(v) => put_field(text, at, v as u64),
+    fn as_bytes(&self) -> &[u8]
+        ensures value { result.now ≡ self.now }
+        ensures short { length self.now ≤ 128 }
+    {
+        &self.bytes[..self.len]
     }
-}
 
-// How far from 0 a number is.
-fn magnitude(e: i32) -> u64
-    ensures { result ≡ nat_abs e }
-{
-    if e < 0 {
-        wire::negate(e) as u64
-    } else {
-        e as u64
+    fn push(&mut self, byte: u8)
+        requires { length self.old < 128 }
+        ensures { self.new ≡ self.old ++ byte ∷ [] }
+    {
+        self.bytes[self.len] = byte;
+        self.len += 1;
     }
-}
 
-// A space, and an error with its sign.
-fn put_signed(text: &mut [u8], at: usize, e: i32) -> usize
-    requires { at + 22 ≤ length text.old }
-    ensures put { Put text.old at (ascii " " ++ signed_text e) text.new result }
-    ensures upper_bound { result ≤ at + 22 }
-{
-    let n = magnitude(e);
-    if e < 0 {
-        let next = put_dash(text, at);
-        put_decimal(text, next, n)
-    } else {
-        put_field(text, at, n)
+    fn push_all(&mut self, bytes: &[u8])
+        requires { length self.old + length bytes.now ≤ 128 }
+        ensures { self.new ≡ self.old ++ bytes.now }
+    {
+        for byte in bytes {
+            self.push(*byte);
+        }
     }
-}
 
-// A space, and the error, where anything was written.
-fn put_error(text: &mut [u8], at: usize, code: Code) -> usize
-    requires { at + 22 ≤ length text.old }
-    ensures put { Put text.old at (ascii " " ++ code_text code) text.new result }
-    ensures upper_bound { result ≤ at + 22 }
-{
-    match code {
-        Code::Unwritten => put_dash(text, at),
-        Code::Written(e) => put_signed(text, at, e),
+    // A number in decimal, its highest digits first.
+    fn push_decimal(&mut self, n: u64)
+        requires { length self.old + length (decimal n) ≤ 128 }
+        ensures { self.new ≡ self.old ++ decimal n }
+    {
+        if n >= 10 {
+            self.push_decimal(n / 10);
+        }
+        self.push(b'0' + (n % 10) as u8);
     }
-}
 
-// Field after field. No line has more than 127 bytes.
-fn write_line(text: &mut [u8], index: u64, line: Line) -> usize
-    requires { 127 ≤ length text.old }
-    ensures put { Put text.old 0 (line_text index line) text.new result }
-    ensures upper_bound { result ≤ 127 }
-{
-    let id = line.id;
-    let seq = line.seq;
-    let error = line.error;
-    let at = put_decimal(text, 0, index);
-    let at = put_number(text, at, id);
-    let at = put_number(text, at, seq);
-    let at = put_field(text, at, line.answer as u64);
-    let at = put_field(text, at, line.count as u64);
-    let at = put_error(text, at, error);
-    wire::store8(text, at, b'\n');
-    at + 1
+    // A space, and a number.
+    fn push_field(&mut self, n: u64)
+        requires { length self.old + 21 ≤ 128 }
+        ensures value { self.new ≡ self.old ++ ascii " " ++ decimal n }
+        ensures upper_bound { length self.new ≤ length self.old + 21 }
+    {
+        self.push(b' ');
+        self.push_decimal(n);
+    }
+
+    // A space, and an id or a seq.
+    #[tactic(auto, unfolding(crate::specs::Text::number_text))]
+    fn push_number(&mut self, n: Option<u32>)
+        requires { length self.old + 21 ≤ 128 }
+        ensures value { self.new ≡ self.old ++ ascii " " ++ number_text n }
+        ensures upper_bound { length self.new ≤ length self.old + 21 }
+    {
+        match n {
+            None => self.push_all(b" -"),
+            Some(n) => self.push_field(n as u64),
+        }
+    }
+
+    // A space, and the error with its sign, where anything was written.
+    #[tactic(auto, using(crate::proofs::Texts::decimal_fits), unfolding(crate::specs::Text::code_text))]
+    fn push_error(&mut self, error: Option<i32>)
+        requires { length self.old + 22 ≤ 128 }
+        ensures value { self.new ≡ self.old ++ ascii " " ++ code_text error }
+        ensures upper_bound { length self.new ≤ length self.old + 22 }
+    {
+        match error {
+            None => self.push_all(b" -"),
+            Some(e) if e < 0 => {
+                self.push_all(b" -");
+                self.push_decimal(e.unsigned_abs() as u64);
+            }
+            Some(e) => self.push_field(e.unsigned_abs() as u64),
+        }
+    }
+
+    // Field after field.
+    #[tactic(auto, using(crate::proofs::Texts::decimal_fits), unfolding(crate::specs::Text::line_text))]
+    fn push_line(&mut self, index: u64, line: Line)
+        requires { self.old ≡ [] }
+        ensures { self.new ≡ line_text index line }
+    {
+        self.push_decimal(index);
+        self.push_number(line.id);
+        self.push_number(line.seq);
+        self.push_field(line.answer as u64);
+        self.push_field(line.count as u64);
+        self.push_error(line.error);
+        self.push(b'\n');
+    }
 }
 
 // A line at the front of a buffer; answers how many bytes it has.
@@ -131,29 +130,11 @@ pub fn put_line(text: &mut [u8; 128], index: u64, line: Line) -> usize
     ensures text_after { text.new ≡ store text.old 0 (line_text index line) }
     ensures counts { Counts result text.new }
 {
-    write_line(text, index, line)
-}
-
-// No last line has more than 11 bytes.
-fn write_end(text: &mut [u8], end: End) -> usize
-    requires { 11 ≤ length text.old }
-    ensures put { Put text.old 0 (end_text end) text.new result }
-    ensures upper_bound { result ≤ 11 }
-{
-    match end {
-        End::Open => {
-            wire::copy(text, 0, b"end open\n");
-            9
-        }
-        End::Closed => {
-            wire::copy(text, 0, b"end closed\n");
-            11
-        }
-        End::Long => {
-            wire::copy(text, 0, b"end long\n");
-            9
-        }
-    }
+    let mut written = Text::new();
+    written.push_line(index, line);
+    let bytes = written.as_bytes();
+    wire::copy(text, 0, bytes);
+    bytes.len()
 }
 
 // The last line, likewise.
@@ -162,5 +143,11 @@ pub fn put_end(text: &mut [u8; 128], end: End) -> usize
     ensures text_after { text.new ≡ store text.old 0 (end_text end) }
     ensures counts { Counts result text.new }
 {
-    write_end(text, end)
+    let bytes: &[u8] = match end {
+        End::Open => b"end open\n",
+        End::Closed => b"end closed\n",
+        End::Long => b"end long\n",
+    };
+    wire::copy(text, 0, bytes);
+    bytes.len()
 }

@@ -9,8 +9,7 @@ use lib.Seq.{set-get_or}
 use lib.Dec.{ltb, leb, eqb}
 use borrow.Author.Tests.{ltb-true, ltb-false, lt-ltb, le-ltb, le-leb, lt-leb}
 use Rattle.wire.specs.Bytes.{le, num, load}
-use Rattle.wire.specs.Header.{is_whole, header_of}
-use Rattle.wire.specs.declared.Header.TheVariants.{Whole}
+use Rattle.wire.specs.Header.{whole as whole_header, is_whole, header_of}
 use Rattle.wire.proofs.Laws.{num-le}
 use Rattle.kvmi.specs.declared.Settings.{Settings}
 use Rattle.kvmi.specs.declared.Facts.{Facts}
@@ -128,9 +127,9 @@ module _ (vcpu cr : ℕ) (on : Bool) (v : vcpu < 2 ^ 16) (c : cr < 2 ^ 32) where
   unfolding reported_padding
   none-reported s mode = rw clean (test (reaches_test6 s mode 11 d) (λ e. rw e) (λ e. rw e))
 
-  cr-header : (seq : ℕ) → seq < 2 ^ 32 → header_of (cr_message seq vcpu cr on) ≡ Whole 11 16 seq
+  cr-header : (seq : ℕ) → seq < 2 ^ 32 → header_of (cr_message seq vcpu cr on) ≡ whole_header 11 16 seq
   unfolding header_of is_whole cr_message message_bytes load le num
-  cr-header seq h = ap (λ (x : ℕ). Whole 11 16 x) (num-le 4 seq [] h)
+  cr-header seq h = ap (λ (x : ℕ). whole_header 11 16 x) (num-le 4 seq [] h)
 
   cr-data : (seq : ℕ) → drop 8 (cr_message seq vcpu cr on) ≡ d
   unfolding cr_message message_bytes le

@@ -1,6 +1,6 @@
 // What stands in a session, looked up one by one: by these a host programs page rights, intercepts and single-stepping. None refuses: what a
 // session has none of is off, 0, or a page at rwx, and whatever bits stand in the lent words, the answer is fixed by them.
-// A switch is given as 1 where it is on, and as 0 where it is off.
+// A switch is given as 1 where it is on, and as 0 where it is off: C reads these numbers (include/semblurick.h).
 #![tactic(auto)]
 
 ghost use Rattle.std.specs.Prelude.{◌≡◌};

@@ -4,9 +4,8 @@ use Prim.Native.Nat.{ℕ}
 use mathlib.Core.List.{List}
 use lib.ListN.{length, drop}
 use lib.Dec.{ltb}
-use Rattle.wire.specs.Header.{header_of}
-use Rattle.wire.specs.declared.Header.{Header}
-use Rattle.wire.specs.declared.Header.TheVariants.{Whole, Broken}
+use Rattle.std.specs.Prelude.{Some, None}
+use Rattle.wire.specs.Header.{HeaderRead, header_of}
 use Rattle.kvmi.specs.declared.Verdict.{Verdict}
 use Rattle.kvmi.specs.declared.Verdict.TheVariants.{Closes, Fails, Does}
 use Rattle.kvmi.specs.Limits.{least_out}
@@ -23,11 +22,11 @@ judged-moves st id seq d out guest Closes = moves refl
 judged-moves st id seq d out guest (Fails code) = moves refl
 judged-moves st id seq d out guest (Does c) = moves (kept (change-keeps st guest d c))
 
-headed-moves : (st : State) (d out guest : List ℕ) (h : Header) → Moves (λ s. with_settings s st.session.settings) (headed_of st d out guest h)
+headed-moves : (st : State) (d out guest : List ℕ) (h : HeaderRead) → Moves (λ s. with_settings s st.session.settings) (headed_of st d out guest h)
 unfolding headed_of
-headed-moves st d out guest Broken = moves refl
-headed-moves st d out guest (Whole id size seq) =
-    moves (judged-moves st id seq d out guest (verdict st.session.settings (facts_in st (length guest) (vcpu_of d)) id seq d)).session
+headed-moves st d out guest None = moves refl
+headed-moves st d out guest (Some h) =
+    moves (judged-moves st h.id h.seq d out guest (verdict st.session.settings (facts_in st (length guest) (vcpu_of d)) h.id h.seq d)).session
 
 pub message-moves : (st : State) (msg out guest : List ℕ) → Moves (λ s. with_settings s st.session.settings) (message_of st msg out guest)
 unfolding message_of

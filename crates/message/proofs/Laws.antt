@@ -2,8 +2,7 @@
 use mathlib.Core.Path.{◌≡◌, sym, ap, subst, ◌∙◌}
 use mathlib.Core.List.{List, []}
 use mathlib.Core.Bool.{true, false≢true}
-use Prim.Native.Nat.{ℕ, ◌≤◌}
-use native.Mathlib.Omega.{arith}
+use Prim.Native.Nat.{ℕ}
 use lib.IntN.{ℤ}
 use lib.ListN.{length}
 use Rattle.kvmi.specs.declared.Change.{Change}
@@ -29,10 +28,12 @@ use Rattle.session.specs.declared.Session.{Session}
 use Rattle.session.specs.State.{State, state, with_tool}
 use Rattle.session.specs.Calls.{Told, told, told_closing}
 use Rattle.change.specs.declared.Effect.{Effect}
+use Rattle.change.specs.declared.Moved.TheVariants.{Nothing}
 use Rattle.change.specs.Effect.{Enacted, enacted_of, tool_after}
 use Rattle.message.specs.Message.{code_by, facts_in, asked_of, reported_of, reporting_of, answering_of, judged_of, failed_of, handled_of}
 use Rattle.message.specs.declared.Received.{Received}
-use Rattle.message.specs.Moves.{move, and_seq, judged_move, handled_move, done_by}
+use Rattle.message.specs.declared.After.TheVariants.{Closed}
+use Rattle.message.specs.Moves.{and_seq, judged_move, handled_move, done_by}
 use Rattle.message.proofs.Silent.{reply-code}
 use Rattle.message.proofs.Served.{serves, same_answer, error-answer, tells-seq, kind-seq, served, verdict-served}
 use Rattle.message.proofs.Moves.{moved_as, seq-stays}
@@ -41,23 +42,23 @@ use Rattle.message.proofs.Moves.{moved_as, seq-stays}
 -- a command that fails: an event may take a seq
 module _ (s : Session) (a : Answered) (v p out written guest : List ℕ) (id seq : ℕ) (code : ℤ) (padding : ℕ) (r : Received) where
   pub failed-as : AnswerWritten out written a (answer_bytes (mode_of_number s.tool.mode) s.tool.seq id seq code []) (tells (mode_of_number s.tool.mode) code)
-      → r.moved ≡ and_seq 0 a.took_seq → paper r.answer ≡ with_padding padding (handled a.count Quiet)
+      → r.after ≡ and_seq Nothing a.took_seq → paper r.answer ≡ with_padding padding (handled a.count Quiet)
       → told (done_by s r) v p written guest ≡ failed_of (state s v p) id seq code padding out guest
   unfolding tool_after
-  failed-as w m y = rw (m, moved_as s 0 r.value a.took_seq (omega arith), y, w.took, tells-seq (mode_of_number s.tool.mode) s.tool.seq code) (simp (w.written.count, w.written.there))
+  failed-as w m y = rw (m, moved_as s Nothing a.took_seq, y, w.took, tells-seq (mode_of_number s.tool.mode) s.tool.seq code) (simp (w.written.count, w.written.there))
 
 -- one that did its change
 module _ (s : Session) (e : Effect) (a : Answered) (v p d out written guest : List ℕ) (id seq : ℕ) (r : Received) where
   pub answered-as : KindWritten e.kind (mode_of_number e.by) s.tool.seq id seq e.code (reply_data s.settings guest id d) out written a
-      → serves (layout_of id).reply e.kind ≡ true → ((layout_of id).reply ≡ Silent → e.code ≡ OK) → e.moved ≤ 3
-      → r.moved ≡ and_seq e.moved a.took_seq → r.value ≡ e.value → paper r.answer ≡ handled a.count e.signal
+      → serves (layout_of id).reply e.kind ≡ true → ((layout_of id).reply ≡ Silent → e.code ≡ OK)
+      → r.after ≡ and_seq e.moved a.took_seq → paper r.answer ≡ handled a.count e.signal
       → told (done_by s r) v p written guest
-      ≡ answering_of (mode_of_number e.by) id seq e.code d e.signal out guest (state (with_tool s (tool_after s.tool e.moved e.value)) v p)
+      ≡ answering_of (mode_of_number e.by) id seq e.code d e.signal out guest (state (with_tool s (tool_after s.tool e.moved)) v p)
   unfolding answering_of
-  answered-as w k ok few m x y =
+  answered-as w k ok m y =
       let b = same_answer (mode_of_number e.by) s.tool.seq id seq e.code (reply_data s.settings guest id d) (layout_of id).reply e.kind k (code-only s.settings guest d id) in
       let n = kind-seq (layout_of id).reply e.kind (mode_of_number e.by) s.tool.seq e.code k ok in
-      rw (m, x, moved_as s e.moved e.value a.took_seq few, y, w.took, seq-stays s.tool e.moved e.value, n, ← b) (simp (w.written.count, w.written.there))
+      rw (m, moved_as s e.moved a.took_seq, y, w.took, seq-stays s.tool e.moved, n, ← b) (simp (w.written.count, w.written.there))
 
 -- ---- a message by its verdict
 
@@ -88,19 +89,19 @@ module _ (st : State) (id seq : ℕ) (d out guest : List ℕ) (m : ReplyMode) (q
     unfolding handled_move
     move-as = ap (λ (x : Verdict). judged_move st d guest x) verdict-is
 
-    pub closes-move : q.verdict ≡ Closes → move 8 0 ≡ handled_move st id seq d guest
+    pub closes-move : q.verdict ≡ Closes → Closed ≡ handled_move st id seq d guest
     unfolding judged_move
     closes-move i = ap (λ (x : Verdict). judged_move st d guest x) (sym i) ∙ move-as
 
-    pub fails-move : (code : ℤ) → q.verdict ≡ Fails code → move (and_seq 0 (tells (mode_of_number st.session.tool.mode) code)) 0 ≡ handled_move st id seq d guest
+    pub fails-move : (code : ℤ) → q.verdict ≡ Fails code → and_seq Nothing (tells (mode_of_number st.session.tool.mode) code) ≡ handled_move st id seq d guest
     unfolding judged_move
     fails-move code i = ap (λ (x : Verdict). judged_move st d guest x) (sym i) ∙ move-as
 
     pub does_move : (c : Change) (x : Enacted) → q.verdict ≡ Does c → x ≡ enacted_of st guest d c
-        → move (and_seq x.moved (kind_tells x.kind x.mode x.changed.code)) x.value ≡ handled_move st id seq d guest
+        → and_seq x.moved (kind_tells x.kind x.mode x.changed.code) ≡ handled_move st id seq d guest
     unfolding judged_move
     does_move c x i k =
-        ap (λ (y : Enacted). move (and_seq y.moved (kind_tells y.kind y.mode y.changed.code)) y.value) k
+        ap (λ (y : Enacted). and_seq y.moved (kind_tells y.kind y.mode y.changed.code)) k
         ∙ ap (λ (y : Verdict). judged_move st d guest y) (sym i)
         ∙ move-as
 

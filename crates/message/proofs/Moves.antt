@@ -1,51 +1,41 @@
--- The session after what a message moved, by the number that says what. Assumes nothing.
+-- The session after what a message moved. Assumes nothing.
 use mathlib.Core.Path.{◌≡◌, refl}
-use mathlib.Core.Bool.{Bool, true, false, cond}
-use Prim.Native.Nat.{ℕ, zero, suc, ◌≤◌}
-use native.Mathlib.Omega.{arith}
-use lib.Dec.{eqb}
-use Rattle.kvmi.specs.declared.Settings.{Settings}
+use mathlib.Core.Bool.{Bool, true, false}
 use Rattle.session.specs.declared.Session.{Session}
 use Rattle.session.specs.declared.Tool.{Tool}
 use Rattle.session.specs.State.{with_settings, with_tool}
+use Rattle.change.specs.declared.Moved.{Moved}
+use Rattle.change.specs.declared.Moved.TheVariants.{Nothing, Events, Pages, Mode}
 use Rattle.change.specs.Effect.{tool_after}
+use Rattle.message.specs.declared.After.{After}
+use Rattle.message.specs.declared.After.TheVariants.{Same, Closed, Changed}
 use Rattle.message.specs.Moves.{and_seq, seq_taken, session_after}
 
 -- where nothing moved the session stays
-pub stays : (s : Session) (value : ℕ) → session_after s 0 value ≡ s
-unfolding session_after tool_after
-stays s value = refl
+pub stays : (s : Session) → session_after s Same ≡ s
+unfolding session_after
+stays s = refl
 
 -- one of the tool's numbers, and a seq where an event took it
-pub moved_as : (s : Session) (moved value : ℕ) (took : Bool) → moved ≤ 3
-    → session_after s (and_seq moved took) value ≡ with_tool s (seq_taken took (tool_after s.tool moved value))
-unfolding session_after
-moved_as s zero value true h = refl
-moved_as s zero value false h = refl
-moved_as s (suc zero) value true h = refl
-moved_as s (suc zero) value false h = refl
-moved_as s (suc (suc zero)) value true h = refl
-moved_as s (suc (suc zero)) value false h = refl
-moved_as s (suc (suc (suc zero))) value true h = refl
-moved_as s (suc (suc (suc zero))) value false h = refl
-moved_as s (suc (suc (suc (suc n)))) value took h = absurd (omega arith)
+pub moved_as : (s : Session) (moved : Moved) (took : Bool) → session_after s (and_seq moved took) ≡ with_tool s (seq_taken took (tool_after s.tool moved))
+unfolding session_after tool_after
+moved_as s moved true = refl
+moved_as s Nothing false = refl
+moved_as s (Events events) false = refl
+moved_as s (Pages pages) false = refl
+moved_as s (Mode number) false = refl
 
 -- the next event's seq is none of the numbers that a change moves
-seq-of : (t x y z : Tool) (a b c : Bool) → x.seq ≡ t.seq → y.seq ≡ t.seq → z.seq ≡ t.seq → (cond a x (cond b y (cond c z t))).seq ≡ t.seq
-seq-of t x y z true b c e f g = e
-seq-of t x y z false true c e f g = f
-seq-of t x y z false false true e f g = g
-seq-of t x y z false false false e f g = refl
-
-pub seq-stays : (t : Tool) (moved value : ℕ) → (tool_after t moved value).seq ≡ t.seq
+pub seq-stays : (t : Tool) (moved : Moved) → (tool_after t moved).seq ≡ t.seq
 unfolding tool_after
-seq-stays t moved value = seq-of t _ _ _ (eqb moved 1) (eqb moved 2) (eqb moved 3) refl refl refl
+seq-stays t Nothing = refl
+seq-stays t (Events events) = refl
+seq-stays t (Pages pages) = refl
+seq-stays t (Mode number) = refl
 
 -- nor are the settings moved
-kept : (t : Settings) (b : Bool) (x y : Session) → x ≡ with_settings x t → y ≡ with_settings y t → cond b x y ≡ with_settings (cond b x y) t
-kept t true x y e f = e
-kept t false x y e f = f
-
-pub settings-stay : (s : Session) (moved value : ℕ) → session_after s moved value ≡ with_settings (session_after s moved value) s.settings
+pub settings-stay : (s : Session) (after : After) → session_after s after ≡ with_settings (session_after s after) s.settings
 unfolding session_after
-settings-stay s moved value = kept s.settings (eqb moved 8) _ _ refl refl
+settings-stay s Same = refl
+settings-stay s Closed = refl
+settings-stay s (Changed took moved) = refl

@@ -1,8 +1,6 @@
 -- A message as code performs it: answer, session, and every lent word and byte after it, for any bits in the session.
-use Rattle.std.specs.Prelude.{ℕ, List, [], cond, ℤ, length, drop, ltb}
-use Rattle.wire.specs.Header.{header_of}
-use Rattle.wire.specs.declared.Header.{Header}
-use Rattle.wire.specs.declared.Header.TheVariants.{Whole, Broken}
+use Rattle.std.specs.Prelude.{ℕ, List, [], cond, ℤ, length, drop, ltb, Some, None}
+use Rattle.wire.specs.Header.{HeaderRead, header_of}
 use Rattle.kvmi.specs.declared.Facts.{Facts}
 use Rattle.kvmi.specs.declared.ReplyMode.{ReplyMode}
 use Rattle.kvmi.specs.declared.Signal.{Signal}
@@ -68,10 +66,10 @@ reported_of st id d = reported_padding st.session.settings (mode_of_number st.se
 abbrev pub reporting_of : ℕ → Told → Told
 reporting_of padding r = record { answer = with_padding padding r.answer; state = r.state; out = r.out; guest = r.guest }
 
-unfoldable pub headed_of : State → List ℕ → List ℕ → List ℕ → Header → Told
-headed_of st d out guest Broken = told_closing st out guest
-headed_of st d out guest (Whole id size seq) =
-    reporting_of (reported_of st id d) (judged_of st id seq d out guest (verdict st.session.settings (facts_in st (length guest) (vcpu_of d)) id seq d))
+unfoldable pub headed_of : State → List ℕ → List ℕ → List ℕ → HeaderRead → Told
+headed_of st d out guest None = told_closing st out guest
+headed_of st d out guest (Some h) =
+    reporting_of (reported_of st h.id d) (judged_of st h.id h.seq d out guest (verdict st.session.settings (facts_in st (length guest) (vcpu_of d)) h.id h.seq d))
 
 unfoldable pub message_of : State → List ℕ → List ℕ → List ℕ → Told
 message_of st msg out guest =

@@ -8,58 +8,66 @@ ghost use Rattle.session.specs.Calls.{told, told_closing};
 ghost use Rattle.kvmi.specs.Mode.{mode_of_number};
 ghost use Rattle.reply.specs.Off.{tells};
 ghost use Rattle.message.specs.Message.{message_of, failed_of, handled_of};
-ghost use Rattle.message.specs.Moves.{move, and_seq, handled_move, message_move, session_after, move_of, done_by};
+ghost use Rattle.message.specs.Moves.{and_seq, handled_move, message_move, session_after, done_by};
+ghost use Rattle.message.specs.declared.After.TheVariants.{Same, Closed};
+ghost use Rattle.change.specs.declared.Moved.TheVariants.{Nothing};
 
-use kvmi::{Answer, Verdict};
+use change::Moved;
+use kvmi::{Answer, ReplyMode, Verdict};
 use page_words::PageWords;
+use reply::Answering;
 use session::{Done, Session};
 use store::words::VcpuWords;
 use verdict::Asked;
 use wire::Header;
 
-// What a message moved of the session, as a number: which number of the tool (`change::Effect`'s, below 4), 4 more where a CMD_ERROR event took a
-// seq; 8 where the session closed. 0: nothing.
-const SEQ: u32 = 4;
+// What a message moved of the session: nothing; all of it, since it closed; or a number of the tool, the next event's seq that a CMD_ERROR event took,
+// or both.
+#[derive(Clone, Copy)]
+pub enum After {
+    Same,
+    Closed,
+    Changed { took_seq: bool, moved: Moved },
+}
 
-const CLOSED: u32 = 8;
-
-// What a message gives: its answer, what it moved, and the moved number of the tool after it (0 for none).
+// What a message gives: its answer, and what it moved.
 #[derive(Clone, Copy)]
 pub struct Received {
     pub answer: Answer,
-    pub moved: u32,
-    pub value: u64,
+    pub after: After,
 }
 
 // The session after what a message moved.
-pub fn session_after(s: Session, moved: u32, value: u64) -> Session
-    ensures { result ≡ session_after s moved value }
+#[tactic(auto, unfolding(crate::specs::Moves::session_after))]
+pub fn session_after(s: Session, after: After) -> Session
+    ensures { result ≡ session_after s after }
 {
-    if moved == CLOSED {
-        let settings = s.settings;
-        return Session::shut(settings);
+    match after {
+        After::Same => s,
+        After::Closed => Session::shut(s.settings),
+        After::Changed { took_seq, moved } => {
+            let mut tool = change::tool_after(s.tool, moved);
+            if took_seq {
+                tool.seq = reply::next_seq(tool.seq);
+            }
+            s.with_tool(tool)
+        }
     }
-    let mut tool = change::tool_after(s.tool, moved % SEQ, value);
-    if SEQ <= moved {
-        tool.seq = reply::next_seq(tool.seq);
-    }
-    s.with_tool(tool)
 }
 
 // An answer, and nothing moved.
 fn unmoved(answer: Answer) -> Received
-    ensures { (result.answer ≡ answer) × (move_of result ≡ move 0 0) }
+    ensures { (result.answer ≡ answer) × (result.after ≡ Same) }
 {
     Received {
         answer,
-        moved: 0,
-        value: 0,
+        after: After::Same,
     }
 }
 
 // The session closes: the words that were lent are cleared.
 fn close(vcpus: &mut [u64], pages: &mut [u64]) -> Received
-    ensures result_value { move_of result ≡ move 8 0 }
+    ensures result_value { result.after ≡ Closed }
     ensures guest_after { (s : Session) (out guest : List ℕ) → told (done_by s result) vcpus.new pages.new out guest
         ≡ told_closing (state s vcpus.old pages.old) out guest }
 {
@@ -67,29 +75,36 @@ fn close(vcpus: &mut [u64], pages: &mut [u64]) -> Received
     store::words::clear(pages);
     Received {
         answer: Answer::Closing,
-        moved: CLOSED,
-        value: 0,
+        after: After::Closed,
     }
 }
 
 // What moved, with the seq that an answer took.
-fn and_seq(moved: u32, took: bool) -> u32
-    requires { moved ≤ 3 }
-    ensures { result ≡ and_seq moved took }
+fn and_seq(moved: Moved, took_seq: bool) -> After
+    ensures { result ≡ and_seq moved took_seq }
 {
-    if took { moved + SEQ } else { moved }
+    if !took_seq && matches!(moved, Moved::Nothing) {
+        return After::Same;
+    }
+    After::Changed { took_seq, moved }
 }
 
 // A command that fails is answered by its code, and changes nothing; its answer says which padding byte was not zero, if one was.
 fn fail(s: Session, out: &mut [u8], id: u16, seq: u32, code: i32, padding: usize) -> Received
-    ensures result_value { move_of result ≡ move (and_seq 0 (tells (mode_of_number s.tool.mode) code)) 0 }
+    ensures result_value { result.after ≡ and_seq Nothing (tells (mode_of_number s.tool.mode) code) }
     ensures by_index { (v p guest : List ℕ) → told (done_by s result) v p out.new guest ≡ failed_of (state s v p) id seq code padding out.old guest }
 {
-    let a = reply::answer_code(out, s.tool.mode, s.tool.seq, id, seq, code);
+    let answering = Answering {
+        mode: s.tool.mode,
+        next: s.tool.seq,
+        id,
+        seq,
+        code,
+    };
+    let a = reply::answer_code(out, answering);
     Received {
         answer: kvmi::answers::failed(a.count, padding),
-        moved: and_seq(0, a.took_seq),
-        value: 0,
+        after: and_seq(Moved::Nothing, a.took_seq),
     }
 }
 
@@ -104,7 +119,7 @@ fn handle(
     out: &mut [u8],
     guest: &mut [u8],
 ) -> Received
-    ensures result_value { move_of result ≡ handled_move (state s vcpus.old pages.old) id seq d.now guest.old }
+    ensures result_value { result.after ≡ handled_move (state s vcpus.old pages.old) id seq d.now guest.old }
     ensures guest_after { told (done_by s result) vcpus.new pages.new out.new guest.new ≡
         handled_of (state s vcpus.old pages.old) id seq d.now out.old guest.old }
 {
@@ -112,7 +127,7 @@ fn handle(
     let tool = s.tool;
     let asked = Asked {
         settings,
-        mode: session::mode_of(tool.mode),
+        mode: ReplyMode::from(tool.mode),
         guest: guest.len(),
         ready: s.shared.ready,
     };
@@ -124,14 +139,18 @@ fn handle(
         Verdict::Does(c) => change::apply(s, vcpus, pages, guest, d, c),
     };
     let kind = e.kind;
-    let a = reply::answer(
-        out, settings, guest, kind, e.by, tool.seq, id, seq, e.code, d,
-    );
+    let answering = Answering {
+        mode: e.by,
+        next: tool.seq,
+        id,
+        seq,
+        code: e.code,
+    };
+    let a = reply::answer(out, settings, guest, kind, answering, d);
     let signal = e.signal;
     Received {
         answer: kvmi::answers::signalled(a.count, signal),
-        moved: and_seq(e.moved, a.took_seq),
-        value: e.value,
+        after: and_seq(e.moved, a.took_seq),
     }
 }
 
@@ -144,7 +163,7 @@ pub fn receive(
     out: &mut [u8],
     guest: &mut [u8],
 ) -> Received
-    ensures result_value { move_of result ≡ message_move (state s vcpus.old pages.old) msg.now out.old guest.old }
+    ensures result_value { result.after ≡ message_move (state s vcpus.old pages.old) msg.now out.old guest.old }
     ensures guest_after { told (done_by s result) vcpus.new pages.new out.new guest.new ≡
         message_of (state s vcpus.old pages.old) msg.now out.old guest.old }
 {
@@ -154,8 +173,7 @@ pub fn receive(
     if Session::is_short(out.len()) {
         return unmoved(Answer::ShortOut);
     }
-    let header = wire::read_header(msg);
-    let Header::Whole { id, size: _, seq } = header else {
+    let Some(Header { id, seq, .. }) = wire::read_header(msg) else {
         return close(vcpus, pages);
     };
     let d = &msg[8..];
@@ -175,10 +193,5 @@ pub fn take(
         message_of (state s vcpus.old pages.old) msg.now out.old guest.old }
 {
     let r = receive(s, vcpus, pages, msg, out, guest);
-    let answer = r.answer;
-    let mut session = s;
-    if r.moved != 0 {
-        session = session_after(s, r.moved, r.value);
-    }
-    Done { session, answer }
+    session_after(s, r.after).answers(r.answer)
 }

@@ -12,38 +12,31 @@ const SECOND: u32 = 0xC0000000;
 // How many places there are: each vCPU has a switch in each.
 pub const PLACES: usize = 16384;
 
-// Where a vCPU's switch for an MSR stands among its 16,384, or that there is none.
-#[derive(Clone, Copy)]
-pub enum Place {
-    At(u16),
-    None,
-}
-
-// The place of an MSR's switch. A u32 is below twice SECOND, so that `range` is 0 or 1.
-pub fn msr_place(msr: u32) -> Place
+// The place of an MSR's switch among a vCPU's 16,384, or None if it has none. A u32 is below twice SECOND, so `range` is 0 or 1.
+#[tactic(auto, unfolding(crate::specs::Place::msr_place))]
+pub fn msr_place(msr: u32) -> Option<u16>
     ensures { result ≡ msr_place msr }
 {
     let range = msr / SECOND;
     let offset = msr % SECOND;
     if offset < RANGE {
         let place = (RANGE * range + offset) as u16;
-        Place::At(place)
+        Some(place)
     } else {
-        Place::None
+        None
     }
 }
 
 // Whether an MSR can be switched.
+#[tactic(auto, unfolding(crate::specs::Place::is_msr))]
 pub fn is_msr(msr: u32) -> bool
     ensures { result ≡ is_msr msr }
 {
-    match msr_place(msr) {
-        Place::At(_) => true,
-        Place::None => false,
-    }
+    msr_place(msr).is_some()
 }
 
 // The MSR of a place.
+#[tactic(auto, unfolding(crate::specs::Place::msr_at))]
 pub fn msr_at(place: u16) -> u32
     ensures { result ≡ msr_at place }
 {

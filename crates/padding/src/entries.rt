@@ -9,7 +9,7 @@ use kvmi::Settings;
 pub fn count_fits(d: &[u8]) -> bool
     ensures { result ≡ count_fits d.now }
 {
-    d.len() == 8 + 16 * (wire::load16(d, 0) as usize)
+    d.len() == 8 + 16 * (wire::load::<u16>(d, 0) as usize)
 }
 
 // The access that an entry sets.
@@ -24,14 +24,11 @@ fn accesses_fit(settings: Settings, d: &[u8], count: usize) -> bool
     requires { 8 + 16 * count ≤ length d.now }
     ensures { result ≡ accesses_fit settings count (drop 8 d.now) }
 {
-    let mut i = 0;
-    while i < count {
+    for i in 0..count {
         let a = 8 + 16 * i;
-        let b = a + 16;
-        if !tests::takes_access(settings, entry_access(&d[a..b])) {
+        if !tests::takes_access(settings, entry_access(&d[a..a + 16])) {
             return false;
         }
-        i += 1;
     }
     true
 }
@@ -40,9 +37,5 @@ fn accesses_fit(settings: Settings, d: &[u8], count: usize) -> bool
 pub fn entries_fit(settings: Settings, d: &[u8]) -> bool
     ensures { result ≡ (count_fits d.now && accesses_fit settings (count_of d.now) (drop 8 d.now)) }
 {
-    if count_fits(d) {
-        accesses_fit(settings, d, wire::load16(d, 0) as usize)
-    } else {
-        false
-    }
+    count_fits(d) && accesses_fit(settings, d, wire::load::<u16>(d, 0) as usize)
 }

@@ -1,5 +1,7 @@
 // Padding: bytes of a layout that are to be zero. Each function finds the first that is not, as its offset in the message, whose
-// header is 8 bytes long; 0 says that there is none. Clean padding is seen by whole loads, with no loop over bytes.
+// header is 8 bytes long; 0 says that there is none. It is a number and no Option, since `first_padding` and the C result's word `padding` say 0 for none.
+// Clean padding is seen by whole loads, with no loop over bytes. Each layout has a function, since its number is in the promise: as a const parameter it
+// would stand beside constants that it does not give.
 #![tactic(auto)]
 
 pub mod entries;
@@ -11,17 +13,10 @@ ghost use Rattle.kvmi.specs.Message.{first_non_zero, first_of_runs, entry_paddin
 pub fn first_nonzero(d: &[u8], at: usize, n: usize) -> usize
     ensures { result ≡ first_non_zero d.now at n 0 }
 {
-    let mut i = at;
-    let mut left = n;
-    while 0 < left {
-        if d.len() <= i {
-            return 0;
-        }
+    for i in at..wire::smaller(at.saturating_add(n), d.len()) {
         if d[i] != 0 {
             return 8 + i;
         }
-        i += 1;
-        left -= 1;
     }
     0
 }
@@ -31,7 +26,7 @@ fn in_word(d: &[u8], at: usize, skip: usize, n: usize) -> usize
     requires { (at ≤ 8) × ((skip + n ≤ 8) × ((1 ≤ skip) × (1 ≤ n))) }
     ensures { result ≡ first_non_zero d.now (at + skip) n 0 }
 {
-    let word = wire::load64(d, at) >> (8 * skip);
+    let word = wire::load::<u64>(d, at) >> (8 * skip);
     let run = word % (1u64 << (8 * n));
     if (at + 8 <= d.len()) & (run == 0) {
         return 0;
@@ -105,15 +100,12 @@ fn of_entries(d: &[u8], count: usize) -> usize
     requires { 8 + 16 * count ≤ length d.now }
     ensures { result ≡ first_of_runs d.now (entry_padding 17 count) }
 {
-    let mut i = 0;
-    while i < count {
+    for i in 0..count {
         let a = 8 + 16 * i;
-        let b = a + 16;
-        let r = of_entry(&d[a..b]);
+        let r = of_entry(&d[a..a + 16]);
         if r != 0 {
             return a + r;
         }
-        i += 1;
     }
     0
 }
@@ -123,14 +115,11 @@ fn entries_clean(d: &[u8], count: usize) -> bool
     requires { 8 + 16 * count ≤ length d.now }
     ensures { result ≡ eqb (first_of_runs d.now (entry_padding 17 count)) 0 }
 {
-    let mut i = 0;
-    while i < count {
+    for i in 0..count {
         let a = 8 + 16 * i;
-        let b = a + 16;
-        if of_entry(&d[a..b]) != 0 {
+        if of_entry(&d[a..a + 16]) != 0 {
             return false;
         }
-        i += 1;
     }
     true
 }
@@ -146,7 +135,7 @@ pub fn of_pages(d: &[u8]) -> usize
     if !entries::count_fits(d) {
         return 0;
     }
-    let count = wire::load16(d, 0) as usize;
+    let count = wire::load::<u16>(d, 0) as usize;
     if entries_clean(d, count) {
         return 0;
     }

@@ -1,15 +1,16 @@
 -- Laws of the page words: bisection, one turn of each loop, and a run of entries. Assumes nothing.
-use mathlib.Core.Path.{◌≡◌, refl, sym, ap, ◌∙◌}
+use mathlib.Core.Path.{◌≡◌, refl, ap, ◌∙◌}
 use mathlib.Core.Bool.{Bool, true, false, cond, ◌&&◌}
 use mathlib.Core.Logic.{⊎_elim}
-use mathlib.Core.List.{List, [], ◌∷◌, append_assoc, append-nil}
+use mathlib.Core.List.{List, [], ◌∷◌, ◌++◌, append_assoc}
 use Prim.Native.Nat.{ℕ, zero, suc, ◌+◌, ◌-◌, ◌*◌, ◌/◌, ◌%◌, ◌^◌, ◌≤◌, ◌<◌, min}
 use native.Mathlib.Numerals.{add-one}
 use native.Mathlib.Omega.{arith}
 use lib.Dec.{leb, ltb, eqb}
 use lib.ListN.{length, get_or, set, take, drop, length-append, length-take, length-drop, length-set, drop_of_length-le}
-use lib.Seq.{take_all, take-suc, take-nil, take-length, drop-length, drop-cons, append_snoc, set_split, take-set-le, drop-set-lt, drop-set-add, take-suc-set, get_or-drop, drop-drop, drop_at, length-take-le}
+use lib.Seq.{paste, take_all, take-nil, take-length, drop-length, drop-cons, drop-drop}
 use borrow.Author.Tests.{lt-ltb, le-ltb, ltb-true, ltb-false, leb-false, lt-leb, eq-eqb, ne_eqb, eqb-false}
+use Rattle.std.proofs.lemmas.List.{set_at}
 use Rattle.wire.proofs.Laws.{le-or-lt}
 use Rattle.kvmi.specs.Bits.{bit}
 use Rattle.kvmi.specs.Message.{Entry, entry_of, entries_of}
@@ -86,8 +87,8 @@ module _ (ws : List ℕ) (key base len : ℕ) (some : 0 < len) where
       go false e = rw e (omega arith)
 
 -- a word's key against another, as the top bit of a difference
-pub below-bit : (w key : ℕ) → w < 2 ^ 64 → key < 2 ^ 61 → 1 - (w / 8 + (2 ^ 63 - key)) / 2 ^ 63 ≡ bit (ltb (w / 8) key)
-below-bit w key h g = go (ltb (w / 8) key) refl
+pub below_bit : (w key : ℕ) → w < 2 ^ 64 → key < 2 ^ 61 → 1 - (w / 8 + (2 ^ 63 - key)) / 2 ^ 63 ≡ bit (ltb (w / 8) key)
+below_bit w key h g = go (ltb (w / 8) key) refl
   where
     go : (t : Bool) → ltb (w / 8) key ≡ t → 1 - (w / 8 + (2 ^ 63 - key)) / 2 ^ 63 ≡ bit t
     go true e = let l : w / 8 < key = ltb-true (w / 8) key e in omega arith
@@ -117,12 +118,12 @@ pub place-le : (ws : List ℕ) (count key : ℕ) → place_of ws count key ≤ c
 unfolding place_of
 place-le ws count key = omega (arith, bisect-le count ws key 0 count)
 
-pub place-whole : (ws : List ℕ) (count key : ℕ) → count ≤ length ws → place_of ws (min count (length ws)) key ≡ place_of ws count key
-place-whole ws count key h = let e : min count (length ws) ≡ count = omega arith in rw e
+pub place_whole : (ws : List ℕ) (count key : ℕ) → count ≤ length ws → place_of ws (min count (length ws)) key ≡ place_of ws count key
+place_whole ws count key h = let e : min count (length ws) ≡ count = omega arith in rw e
 
-pub stands-lt : (ws : List ℕ) (count key at : ℕ) → stands_at ws count key at ≡ true → at < count
+pub stands_lt : (ws : List ℕ) (count key at : ℕ) → stands_at ws count key at ≡ true → at < count
 unfolding stands_at
-stands-lt ws count key at h = go (ltb at count) refl h
+stands_lt ws count key at h = go (ltb at count) refl h
   where
     go : (t : Bool) → ltb at count ≡ t → (t && eqb (word_key (get_or ws at 0)) key) ≡ true → at < count
     go true e f = ltb-true at count e
@@ -133,74 +134,32 @@ unfolding near_place
 near_le ws count key hint = go (stands_at ws count key hint) refl
   where
     go : (t : Bool) → stands_at ws count key hint ≡ t → cond t hint (place_of ws count key) ≤ count
-    go true e = omega (arith, stands-lt ws count key hint e)
+    go true e = omega (arith, stands_lt ws count key hint e)
     go false e = place-le ws count key
 
-pub near-bound : (ws : List ℕ) (count key hint : ℕ) {at : ℕ} → at ≡ near_place ws count key hint → at ≤ count
-near-bound ws count key hint e = rw e (near_le ws count key hint)
+pub near_bound : (ws : List ℕ) (count key hint : ℕ) {at : ℕ} → at ≡ near_place ws count key hint → at ≤ count
+near_bound ws count key hint e = rw e (near_le ws count key hint)
 
--- ---- one turn of the loops that move words
+-- ---- words that move by one, and what is stored in the place that they leave
 
-drop-set-here : (l : List ℕ) (i v : ℕ) → i < length l → drop i (set l i v) ≡ v ∷ drop (suc i) l
-drop-set-here l i v h = rw (set_split l i v h, drop_at (take i l) (v ∷ drop (suc i) l) i (length-take-le i l (omega arith)))
+set-front : (ws rest : List ℕ) (at x : ℕ) → at < length ws → set (take (suc at) ws ++ rest) at x ≡ take at ws ++ x ∷ rest
+set-front [] rest at x h = absurd (omega arith)
+set-front (w ∷ ws) rest zero x h = refl
+set-front (w ∷ ws) rest (suc at) x h = ap (◌∷◌ w) (set-front ws rest at x (omega arith))
 
-part-set : (n a : ℕ) (l : List ℕ) (i v : ℕ) → a + n ≤ i → take n (drop a (set l i v)) ≡ take n (drop a l)
-part-set n a l i v h =
-    let e : a + (i - a) ≡ i = omega arith in
-    ap (λ (j : ℕ). take n (drop a (set l j v))) (sym e) ∙ rw (drop-set-add a l (i - a) v, take-set-le n (drop a l) (i - a) v (omega arith))
-
-insert-turn : (cur : List ℕ) (j at x : ℕ) → at ≤ j → suc j < length cur → insert_word cur (suc j) at x ≡ insert_word (set cur (suc j) (get_or cur j 0)) j at x
+pub insert_moved : (ws : List ℕ) (count at x : ℕ) → at ≤ count → count < length ws → set (paste ws (at + 1) (drop at ws) (count - at)) at x ≡ insert_word ws count at x
 unfolding insert_word
-insert-turn cur j at x h l =
-    let v = get_or cur j 0 in
-    let n : suc j - at ≡ suc (j - at) = omega arith in
-    let s : at + (j - at) ≡ j = omega arith in
-    let inside : j - at < length (drop at cur) = rw length-drop (omega arith) in
-    rw (
-      add-one (suc j),
-      add-one j,
-      n,
-      take-suc (drop at cur) (j - at) 0 inside,
-      get_or-drop,
-      s,
-      take-set-le at cur (suc j) v (omega arith),
-      part-set (j - at) at cur (suc j) v (omega arith),
-      drop-set-here cur (suc j) v l,
-    )
-    (simp append_assoc)
+insert_moved ws count at x h l =
+    let m : at + 1 + (count - at) ≡ count + 1 = omega arith in
+    rw (m, add-one at) (simp append_assoc (set-front ws (take (count - at) (drop at ws) ++ drop (count + 1) ws) at x (omega arith)))
 
-pub insert-step : (cur : List ℕ) (i at x : ℕ) → at < i → i < length cur → insert_word cur i at x ≡ insert_word (set cur i (get_or cur (i - 1) 0)) (i - 1) at x
-insert-step cur i at x h l =
-    let e : suc (i - 1) ≡ i = omega arith in
-    rw e at (insert-turn cur (i - 1) at x (omega arith) (omega arith))
-
-pub insert-last : (cur : List ℕ) (at x : ℕ) → at < length cur → insert_word cur at at x ≡ set cur at x
-unfolding insert_word
-insert-last cur at x l =
-    let n : at - at ≡ 0 = omega arith in
-    rw (n, add-one at, append_snoc) (sym (set_split cur at x l))
-
-pub remove-step : (cur : List ℕ) (count i : ℕ) → i + 1 < count → count ≤ length cur → remove_word cur count i ≡ remove_word (set cur i (get_or cur (i + 1) 0)) count (i + 1)
+pub remove_moved : (ws : List ℕ) (count at : ℕ) → at < count → count ≤ length ws → set (paste ws at (drop (at + 1) ws) (count - (at + 1))) (count - 1) 0 ≡ remove_word ws count at
 unfolding remove_word
-remove-step cur count i h l =
-    let v = get_or cur (suc i) 0 in
-    let n : count - suc i ≡ suc (count - suc (suc i)) = omega arith in
-    rw (
-      add-one i,
-      add-one (suc i),
-      n,
-      drop-cons cur (suc i) 0 (omega arith),
-      take-suc-set cur i v (omega arith),
-      drop-set-lt (suc (suc i)) cur i v (omega arith),
-      drop-set-lt count cur i v (omega arith),
-    )
-    (simp append_assoc)
-
-pub remove-last : (cur : List ℕ) (i : ℕ) → i < length cur → remove_word cur (i + 1) i ≡ set cur i 0
-unfolding remove_word
-remove-last cur i l =
-    let n : i + 1 - (i + 1) ≡ 0 = omega arith in
-    rw (n, add-one i, append-nil) (sym (set_split cur i 0 l))
+remove_moved ws count at h l =
+    let m : at + (count - (at + 1)) ≡ count - 1 = omega arith in
+    let s : suc (count - 1) ≡ count = omega arith in
+    let n : length (take at ws ++ take (count - (at + 1)) (drop (at + 1) ws)) ≡ count - 1 = simp (length-append, length-take, length-drop) (omega arith) in
+    rw (m, drop-cons ws (count - 1) 0 (omega arith), s) (set_at _ _ (drop count ws) 0 (count - 1) n)
 
 -- ---- what an entry keeps: how many words there are, and a bound on those in use that is no less than the room
 
@@ -240,7 +199,7 @@ module _ (limit most key access : ℕ) (t : PageTable) (room : min limit (length
   put-kept at h = go (stands_at t.words t.count key at) refl
     where
       go : (b : Bool) → stands_at t.words t.count key at ≡ b → Kept most t (cond b (change_word t at key access) (add_word limit t at key access))
-      go true e = change-kept at (stands-lt t.words t.count key at e)
+      go true e = change-kept at (stands_lt t.words t.count key at e)
       go false e = add_kept at h
 
   near-kept : (hint : ℕ) → Kept most t (put_near limit key access hint t)
@@ -392,9 +351,9 @@ part-clamped d at a b e f = ⊎_elim inner outer (le-or-lt at (length d))
         let s : a ≡ length d = omega arith in
         rw (s, drop_of_length-le d {i = at} (omega arith), drop-length d, take-nil (b - length d))
 
-pub page-bound : {page : ℕ} (e : List ℕ) → page ≡ (entry_of e).page → page < 2 ^ 52
+pub page_bound : {page : ℕ} (e : List ℕ) → page ≡ (entry_of e).page → page < 2 ^ 52
 unfolding entry_of
-page-bound e h = omega arith
+page_bound e h = omega arith
 
 -- what entry i of n does, and then those behind it
 run_step : (n i limit view hint : ℕ) (d : List ℕ) (t : PageTable) → i < n

@@ -1,5 +1,5 @@
 -- The page words: one for each page below rwx, `view * 2^55 + page * 8 + access`, ascending and dense from 0; 0 after them.
-use Rattle.std.specs.Prelude.{ℕ, zero, suc, ◌+◌, ◌-◌, ◌*◌, ◌/◌, ◌%◌, ◌^◌, min, List, [], ◌∷◌, ◌++◌, Bool, true, false, cond, not, ◌&&◌, length, get_or, set, take, drop, leb, ltb, eqb}
+use Rattle.std.specs.Prelude.{ℕ, zero, suc, ◌+◌, ◌-◌, ◌*◌, ◌/◌, ◌%◌, ◌^◌, min, List, [], ◌∷◌, ◌++◌, Bool, true, false, cond, ◌&&◌, length, get_or, set, take, drop, leb, ltb, eqb}
 use Rattle.kvmi.specs.Message.{Entry}
 
 -- how many words are lent for the pages

@@ -9,9 +9,8 @@ use lib.IntN.{ℤ}
 use lib.ListN.{length, drop}
 use lib.Dec.{leb, ltb, eqb}
 use borrow.Author.Tests.{ltb-false, eqb-true, eqb-false, not-false}
-use Rattle.wire.specs.Header.{header_of}
-use Rattle.wire.specs.declared.Header.{Header}
-use Rattle.wire.specs.declared.Header.TheVariants.{Whole, Broken}
+use Rattle.std.specs.Prelude.{Some, None}
+use Rattle.wire.specs.Header.{HeaderRead, header_of}
 use Rattle.wire.proofs.Laws.{length-store, drop-store}
 use Rattle.kvmi.specs.declared.Settings.{Settings}
 use Rattle.kvmi.specs.declared.Facts.{Facts}
@@ -66,10 +65,10 @@ judged-acts st id seq d out guest Closes = inl (omega arith)
 judged-acts st id seq d out guest (Fails code) = inl (omega arith)
 judged-acts st id seq d out guest (Does c) = handled-acts (lacks_page (signal_of c))
 
-headed-acts : (st : State) (d out guest : List ℕ) (h : Header) → Acts (headed_of st d out guest h).answer.number
+headed-acts : (st : State) (d out guest : List ℕ) (h : HeaderRead) → Acts (headed_of st d out guest h).answer.number
 unfolding headed_of
-headed-acts st d out guest Broken = inl (omega arith)
-headed-acts st d out guest (Whole id size seq) = judged-acts st id seq d out guest (verdict st.session.settings (facts_in st (length guest) (vcpu_of d)) id seq d)
+headed-acts st d out guest None = inl (omega arith)
+headed-acts st d out guest (Some h) = judged-acts st h.id h.seq d out guest (verdict st.session.settings (facts_in st (length guest) (vcpu_of d)) h.id h.seq d)
 
 pub message-refuses : (st : State) (msg out guest : List ℕ) → Refuses st out guest (message_of st msg out guest)
 unfolding message_of
@@ -143,15 +142,15 @@ module _ (st : State) (d out guest : List ℕ) (long : 4112 ≤ length out) wher
   closes-past : Past out (told_closing st out guest)
   closes-past = record { inside = zero-le; long = refl; rest = refl }
 
-  headed-past : (h : Header) → Past out (headed_of st d out guest h)
+  headed-past : (h : HeaderRead) → Past out (headed_of st d out guest h)
   unfolding headed_of judged_of
-  headed-past Broken = closes-past
-  headed-past (Whole id size seq) =
+  headed-past None = closes-past
+  headed-past (Some h) =
       let f = facts_in st (length guest) (vcpu_of d) in
       reporting-past _ out _
-      (verdict-cases (λ v. Past out (judged_of st id seq d out guest v)) st.session.settings f id seq d closes-past (λ code e. fails-past id seq code e)
-      (λ p. does-past id seq (change_of id d) (data-fits st.session.settings f id d p))
-      (λ p. let e = p.reply in does-past id seq (ending f d) (inr (λ q. omega arith))))
+      (verdict-cases (λ v. Past out (judged_of st h.id h.seq d out guest v)) st.session.settings f h.id h.seq d closes-past (λ code e. fails-past h.id h.seq code e)
+      (λ p. does-past h.id h.seq (change_of h.id d) (data-fits st.session.settings f h.id d p))
+      (λ p. let e = p.reply in does-past h.id h.seq (ending f d) (inr (λ q. omega arith))))
 
 pub message-past : (st : State) (msg out guest : List ℕ) → Past out (message_of st msg out guest)
 unfolding message_of

@@ -10,10 +10,9 @@ use lib.ListN.{length, get_or, set, take, drop, replicate, length-set, get_or-re
 use lib.Seq.{get_or-set_same, get_or-set_other, take-set-le, drop-set-lt, drop-set-add, take-take, drop-drop}
 use lib.Dec.{ltb, eqb}
 use borrow.Author.Tests.{ltb-true, ltb-false, leb-false, eqb-true, eqb-false, lt-ltb, le-ltb, lt-leb, eq-eqb, ne_eqb}
-use Rattle.msrs.specs.declared.Place.{Place}
-use Rattle.msrs.specs.declared.Place.TheVariants.{At, None}
-use Rattle.msrs.specs.Place.{msr_place, is_at, is_msr, msr_at}
-use Rattle.msrs.proofs.Ranges.{none≢at, in-places, one, onto, small, at_up, at_small}
+use Rattle.std.specs.Prelude.{Option, Some, None, is_some}
+use Rattle.msrs.specs.Place.{msr_place, is_msr, msr_at}
+use Rattle.msrs.proofs.Ranges.{none≢some, in-places, one, onto, small, at_up, at_small}
 use Rattle.kvmi.specs.Bits.{every, is_on, put_bit}
 use Rattle.kvmi.specs.Ascending.{rising, put, forget}
 use Rattle.kvmi.specs.Tables.{Msr, msr_key, msr_in}
@@ -128,17 +127,17 @@ module _ (w : List ℕ) where
   unfolding msr_bit_on
   msrs-look n v m = test (ltb v n) (λ a. rw a (step (msr_place m) refl (ltb-true v n a))) (λ a. rw a (msrs-none 0 n v m (λ s p q r e. absurd (omega (arith, ltb-false v n a)))))
     where
-      step : (p : Place) → msr_place m ≡ p → v < n → msr_in (msrs_of w 0 n) v m ≡ read_switch w v p
-      step (At place) e a = rw (one m place e) at (msrs-here 0 n v place zero-le (omega arith) (in-places m place e))
-      step None e a = msrs-none 0 n v m (λ s p q r f. absurd (none≢at (sym e ∙ ap msr_place (sym f) ∙ onto s r)))
+      step : (p : Option ℕ) → msr_place m ≡ p → v < n → msr_in (msrs_of w 0 n) v m ≡ read_switch w v p
+      step (Some place) e a = rw (one m place e) at (msrs-here 0 n v place zero-le (omega arith) (in-places m place e))
+      step None e a = msrs-none 0 n v m (λ s p q r f. absurd (none≢some (sym e ∙ ap msr_place (sym f) ∙ onto s r)))
 
 -- one that is on has a place
 pub bit-placed : (w : List ℕ) (v m : ℕ) → (is_msr m && msr_bit_on w v m) ≡ msr_bit_on w v m
 unfolding is_msr msr_bit_on
 bit-placed w v m = step (msr_place m)
   where
-    step : (p : Place) → (is_at p && read_switch w v p) ≡ read_switch w v p
-    step (At place) = refl
+    step : (p : Option ℕ) → (is_some p && read_switch w v p) ≡ read_switch w v p
+    step (Some place) = refl
     step None = refl
 
 -- ---- places in blocks of 272 words
@@ -180,8 +179,8 @@ module _ (w : List ℕ) (v : ℕ) where
   unfolding set_msr_bit switched_field
   bit-cases P m on f g = step (msr_place m) refl
     where
-      step : (p : Place) → msr_place m ≡ p → P (set_switch w v p on)
-      step (At place) e = let b = in-places m place e in f (16 + place / 64) _ (omega arith) (omega arith)
+      step : (p : Option ℕ) → msr_place m ≡ p → P (set_switch w v p on)
+      step (Some place) e = let b = in-places m place e in f (16 + place / 64) _ (omega arith) (omega arith)
       step None e = g
 
   module _ (m : ℕ) (on : Bool) where
@@ -221,13 +220,13 @@ bit-looks : (w : List ℕ) (v m : ℕ) (on : Bool) (u k : ℕ) → v * 272 + 272
 unfolding msr_bit_on set_msr_bit is_msr
 bit-looks w v m on u k l = step (msr_place m) refl
   where
-    other : (place : ℕ) → msr_place m ≡ At place → (v ≡ u → m ≡ k → ⊥) → (p : Place) → msr_place k ≡ p → read_switch (set_switch w v (At place) on) u p ≡ read_switch w u p
-    other place h d (At q) e = place_other w v place on (in-places m place h) l u q (in-places k q e) (λ f g. d f (sym (one m place h) ∙ ap msr_at g ∙ one k q e))
+    other : (place : ℕ) → msr_place m ≡ Some place → (v ≡ u → m ≡ k → ⊥) → (p : Option ℕ) → msr_place k ≡ p → read_switch (set_switch w v (Some place) on) u p ≡ read_switch w u p
+    other place h d (Some q) e = place_other w v place on (in-places m place h) l u q (in-places k q e) (λ f g. d f (sym (one m place h) ∙ ap msr_at g ∙ one k q e))
     other place h d None e = refl
 
-    step : (p : Place) → msr_place m ≡ p → read_switch (set_switch w v p on) u (msr_place k) ≡ cond (is_at p && (eqb v u && eqb m k)) on (read_switch w u (msr_place k))
-    step (At place) h =
-        by_place v m u k (λ x y. read_switch (set_switch w v (At place) on) x (msr_place y)) (λ x y. read_switch w x (msr_place y)) on
+    step : (p : Option ℕ) → msr_place m ≡ p → read_switch (set_switch w v p on) u (msr_place k) ≡ cond (is_some p && (eqb v u && eqb m k)) on (read_switch w u (msr_place k))
+    step (Some place) h =
+        by_place v m u k (λ x y. read_switch (set_switch w v (Some place) on) x (msr_place y)) (λ x y. read_switch w x (msr_place y)) on
         (rw h (place_set w v place on (in-places m place h) l)) (λ d. other place h d (msr_place k) refl)
     step None h = refl
 
@@ -271,9 +270,9 @@ pub zeros-field : (k i j : ℕ) → field (replicate k 0) i j ≡ 0
 unfolding field
 zeros-field k i j = zeros-at k (i * 272 + j)
 
-zeros-off : (k v : ℕ) (p : Place) → read_switch (replicate k 0) v p ≡ false
+zeros-off : (k v : ℕ) (p : Option ℕ) → read_switch (replicate k 0) v p ≡ false
 unfolding switch_on
-zeros-off k v (At place) = rw (zeros-field k v (16 + place / 64)) (on_none (place % 64))
+zeros-off k v (Some place) = rw (zeros-field k v (16 + place / 64)) (on_none (place % 64))
 zeros-off k v None = refl
 
 pub zeros-msrs : (k n : ℕ) → msrs_of (replicate k 0) 0 n ≡ []

@@ -11,10 +11,9 @@ use lib.Seq.{take-nil}
 use lib.Pow.{pow_pos}
 use lib.Dec.{ltb, leb, eqb}
 use borrow.Author.Tests.{ltb-false, leb-true, leb-false, lt-ltb, eqb-true, eqb-false, not-false}
+use Rattle.std.specs.Prelude.{Some, None}
 use Rattle.wire.specs.Bytes.{store}
-use Rattle.wire.specs.Header.{header_of}
-use Rattle.wire.specs.declared.Header.{Header}
-use Rattle.wire.specs.declared.Header.TheVariants.{Whole, Broken}
+use Rattle.wire.specs.Header.{HeaderRead, header_of}
 use Rattle.wire.proofs.Laws.{store-start}
 use Rattle.kvmi.specs.declared.Settings.{Settings}
 use Rattle.kvmi.specs.declared.Signal.{Signal}
@@ -276,13 +275,13 @@ module _ (st : State) (f : WellFormed st) (out guest : List ℕ) where
       does-simulates id seq d long (ending (facts_of (model_of st) (length guest) (vcpu_of d)) d) (inr (λ q. omega arith))
       (end-meant st f.words (few-vcpus cfg f.settings) guest d _ (vcpu_of d) _ _ _))
 
-  headed-simulates : (d : List ℕ) → 4112 ≤ length out → (h : Header) → S (headed_of st d out guest h) (model.headed cfg (model_of st) d out guest h)
+  headed-simulates : (d : List ℕ) → 4112 ≤ length out → (h : HeaderRead) → S (headed_of st d out guest h) (model.headed cfg (model_of st) d out guest h)
   unfolding headed_of model.headed
-  headed-simulates d long Broken = closing-simulates st out guest f.words
-  headed-simulates d long (Whole id size seq) =
-      let v = verdict cfg (facts_in st (length guest) (vcpu_of d)) id seq d in
-      let w = verdict cfg (facts_of (model_of st) (length guest) (vcpu_of d)) id seq d in
-      let here : S (judged_of st id seq d out guest v) (model.judged cfg (model_of st) id seq d out guest w) = rw (facts-mean st f.words (length guest) (vcpu_of d)) (judged-simulates id seq d long) in
+  headed-simulates d long None = closing-simulates st out guest f.words
+  headed-simulates d long (Some h) =
+      let v = verdict cfg (facts_in st (length guest) (vcpu_of d)) h.id h.seq d in
+      let w = verdict cfg (facts_of (model_of st) (length guest) (vcpu_of d)) h.id h.seq d in
+      let here : S (judged_of st h.id h.seq d out guest v) (model.judged cfg (model_of st) h.id h.seq d out guest w) = rw (facts-mean st f.words (length guest) (vcpu_of d)) (judged-simulates h.id h.seq d long) in
       reporting-simulates st _ _ _ here
 
   pub message-simulates : (msg : List ℕ) → S (message_of st msg out guest) (model.message_step cfg (model_of st) msg out guest)

@@ -10,9 +10,8 @@ use mathlib.Core.Option.{Option, none, some}
 use lib.ListN.{length, take, drop, replicate, length-replicate}
 use lib.Dec.{ltb, leb, eqb}
 use borrow.Author.Tests.{eqb-true}
-use Rattle.wire.specs.Header.{header_of}
-use Rattle.wire.specs.declared.Header.{Header}
-use Rattle.wire.specs.declared.Header.TheVariants.{Whole, Broken}
+use Rattle.std.specs.Prelude.{Some, None}
+use Rattle.wire.specs.Header.{whole, HeaderRead, header_of}
 use Rattle.kvmi.specs.declared.Settings.{Settings}
 use Rattle.kvmi.specs.declared.Facts.{Facts}
 use Rattle.kvmi.specs.declared.Signal.TheVariants.{Quiet}
@@ -158,9 +157,9 @@ message-apart st msg out guest i other =
     pick (Spares st guest (drop 8 msg) i other) (is_closed st) _ _ (λ _ _. (refl, refl))
     (λ _. pick (Spares st guest (drop 8 msg) i other) (ltb (length out) 4112) _ _ (λ _ _. (refl, refl)) (λ _. by-header (header_of msg)))
   where
-    by-header : (h : Header) → Spares st guest (drop 8 msg) i other (headed_of st (drop 8 msg) out guest h)
-    by-header Broken = λ h. absurd (h refl)
-    by-header (Whole id size seq) = judged-apart st guest (drop 8 msg) i other id seq out (facts_in st (length guest) (vcpu_of (drop 8 msg)))
+    by-header : (h : HeaderRead) → Spares st guest (drop 8 msg) i other (headed_of st (drop 8 msg) out guest h)
+    by-header None = λ h. absurd (h refl)
+    by-header (Some h) = judged-apart st guest (drop 8 msg) i other h.id h.seq out (facts_in st (length guest) (vcpu_of (drop 8 msg)))
 
 -- ---- an error changes no tables and no guest memory, message 13 with -12 in revision 1 excepted
 -- pages and the next event's seq can be changed in either order
@@ -208,13 +207,13 @@ module _ (st : State) (guest d : List ℕ) where
   abbrev Spared-by : List ℕ → ℕ → ℕ → ℕ → List ℕ → Verdict → Type 0
   Spared-by msg id size seq out v = is_error (code_by st guest d v) ≡ true → ErrorSpares st msg guest (code_by st guest d v) (judged_of st id seq d out guest v)
 
-  spared-by : (msg : List ℕ) (id size seq : ℕ) (out : List ℕ) (f : Facts) → header_of msg ≡ Whole id size seq → Spared-by msg id size seq out (verdict st.session.settings f id seq d)
+  spared-by : (msg : List ℕ) (id size seq : ℕ) (out : List ℕ) (f : Facts) → header_of msg ≡ whole id size seq → Spared-by msg id size seq out (verdict st.session.settings f id seq d)
   unfolding judged_of answering_of change
   spared-by msg id size seq out f w =
       verdict-cases (Spared-by msg id size seq out) st.session.settings f id seq d (λ e. absurd (false≢true e)) (λ code _ _. inl (refl, refl))
       (λ _ e. let o = only-13 id e in
       ⊎_elim (λ q. inl (o.2, same-seq st _ _ q))
-      (λ q. inr ((size, seq, w ∙ ap (λ (n : ℕ). Whole n size seq) o.0), o.1, q.0, (o.2, pages-seq st _ _ q.1))) o.3)
+      (λ q. inr ((size, seq, w ∙ ap (λ (n : ℕ). whole n size seq) o.0), o.1, q.0, (o.2, pages-seq st _ _ q.1))) o.3)
       (λ _ e. absurd (false≢true e))
 
 -- a message that is answered with an error
@@ -225,9 +224,9 @@ error-spares st msg out guest = by-refusal (is_closed st) (ltb (length out) 4112
     d : List ℕ
     d = drop 8 msg
 
-    by-header : (h : Header) → header_of msg ≡ h → is_error (code_headed st guest d h) ≡ true → ErrorSpares st msg guest (code_headed st guest d h) (headed_of st d out guest h)
-    by-header Broken w e = absurd (false≢true e)
-    by-header (Whole id size seq) w e = spared-by st guest d msg id size seq out (facts_in st (length guest) (vcpu_of d)) w e
+    by-header : (h : HeaderRead) → header_of msg ≡ h → is_error (code_headed st guest d h) ≡ true → ErrorSpares st msg guest (code_headed st guest d h) (headed_of st d out guest h)
+    by-header None w e = absurd (false≢true e)
+    by-header (Some h) w e = spared-by st guest d msg h.id h.size h.seq out (facts_in st (length guest) (vcpu_of d)) w e
 
     by-refusal : (closed short : Bool) → is_error (cond closed OK (cond short OK (code_headed st guest d (header_of msg)))) ≡ true
         → ErrorSpares st msg guest (cond closed OK (cond short OK (code_headed st guest d (header_of msg))))

@@ -5,13 +5,12 @@ use Prim.Native.Nat.{ℕ, zero, suc, ◌+◌, ◌-◌, ◌*◌, ◌/◌, ◌%◌
 use native.Mathlib.Omega.{arith}
 use mathlib.Core.List.{List, [], ◌∷◌}
 use mathlib.Core.Bool.{Bool, true, false, cond, not, ◌&&◌, So, and-false}
-use mathlib.Core.Option.{Option, none, some}
+use mathlib.Core.Option.{none, some}
 use lib.ListN.{length, get_or, set, get_or-eq_default}
 use lib.Seq.{get_or-set_same, get_or-set_other}
 use lib.Dec.{ltb, leb, eqb}
 use borrow.Author.Tests.{ltb-true, ltb-false, lt-ltb, leb-true, eqb-true, eqb-false}
-use Rattle.msrs.specs.declared.Place.{Place}
-use Rattle.msrs.specs.declared.Place.TheVariants.{At, None}
+use Rattle.std.specs.Prelude.{Option, Some, None}
 use Rattle.msrs.specs.Place.{msr_place, is_msr}
 use Rattle.kvmi.specs.declared.Settings.{Settings}
 use Rattle.kvmi.specs.declared.EventSwitch.{EventSwitch}
@@ -160,8 +159,8 @@ module _ (st : State) (g : WordsGood st) where
   unfolding msr_bit_on switch_on
   msr-past v msr h = step (msr_place msr)
     where
-      step : (p : Place) → read_switch w v p ≡ false
-      step (At place) = rw (field_past v (16 + place / 64) h) (on_none (place % 64))
+      step : (p : Option ℕ) → read_switch w v p ≡ false
+      step (Some place) = rw (field_past v (16 + place / 64) h) (on_none (place % 64))
       step None = refl
 
   pub msr-means : (v msr : ℕ) → msr_on (tables_of st) v msr ≡ msr_bit_on w v msr

@@ -1,8 +1,6 @@
 -- The error of a message, and what it leaves as it was.
-use Rattle.std.specs.Prelude.{◌≡◌, ◌⊎◌, ℕ, List, false, cond, not, ℤ, length, drop, ltb, eqb}
-use Rattle.wire.specs.Header.{header_of}
-use Rattle.wire.specs.declared.Header.{Header}
-use Rattle.wire.specs.declared.Header.TheVariants.{Whole, Broken}
+use Rattle.std.specs.Prelude.{◌≡◌, ◌⊎◌, ℕ, List, false, cond, not, ℤ, length, drop, ltb, eqb, Some, None}
+use Rattle.wire.specs.Header.{whole, HeaderRead, header_of}
 use Rattle.kvmi.specs.declared.Verdict.{Verdict}
 use Rattle.kvmi.specs.declared.Verdict.TheVariants.{Closes, Fails, Does}
 use Rattle.kvmi.specs.Limits.{least_out}
@@ -17,12 +15,12 @@ use Rattle.message.specs.Message.{facts_in, code_by}
 
 -- a whole message with an id
 abbrev pub HasId : List ℕ → ℕ → Type 0
-HasId msg id = (size : ℕ) × (seq : ℕ) × (header_of msg ≡ Whole id size seq)
+HasId msg id = (size : ℕ) × (seq : ℕ) × (header_of msg ≡ whole id size seq)
 
 -- ---- the code with which a message is answered, where it is: that of its verdict, or of its change
-abbrev pub code_headed : State → List ℕ → List ℕ → Header → ℤ
-code_headed st guest d Broken = OK
-code_headed st guest d (Whole id size seq) = code_by st guest d (verdict st.session.settings (facts_in st (length guest) (vcpu_of d)) id seq d)
+abbrev pub code_headed : State → List ℕ → List ℕ → HeaderRead → ℤ
+code_headed st guest d None = OK
+code_headed st guest d (Some h) = code_by st guest d (verdict st.session.settings (facts_in st (length guest) (vcpu_of d)) h.id h.seq d)
 
 -- of a message; one that is refused is not answered
 abbrev pub code_of : State → List ℕ → List ℕ → List ℕ → ℤ

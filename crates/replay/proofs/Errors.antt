@@ -10,6 +10,7 @@ use lib.ListN.{length, replicate, length-replicate}
 use mir.Syntax.{w32}
 use mir.Val.{SFits}
 use borrow.Author.Tests.{ne_eqb}
+use Rattle.std.specs.Prelude.{Option, Some, None}
 use Rattle.wire.specs.Bytes.{le, load}
 use Rattle.wire.specs.Code.{twos, code_bytes}
 use Rattle.wire.proofs.Laws.{length-le, load-behind, load-le}
@@ -19,8 +20,6 @@ use Rattle.kvmi.specs.declared.ReplyMode.TheVariants.{On, Off, ErrorsOnly}
 use Rattle.kvmi.specs.Codes.{is_error}
 use Rattle.kvmi.specs.Reply.{message_bytes, reply_bytes, event_bytes, command_error_event, answer_bytes}
 use Rattle.reply.proofs.Lengths.{length-reply, length-command-error}
-use Rattle.stream.specs.declared.Code.{Code}
-use Rattle.stream.specs.declared.Code.TheVariants.{Unwritten, Written}
 use Rattle.stream.specs.Signed.{signed_of}
 use Rattle.stream.specs.Line.{is_command_error, error_at, error_of}
 use Rattle.stream.proofs.Codes.{signed-twos}
@@ -71,7 +70,7 @@ in-event seq vcpu event state own rest h =
 -- ---- what a line tells of a reply, and of a CMD_ERROR
 
 told : (out : List ℕ) (count : ℕ) (b : Bool) → is_command_error out count ≡ b → (count ≡ 0 → ⊥)
-    → error_of out count ≡ Written (signed_of (load 4 out (cond b 552 8)))
+    → error_of out count ≡ Some (signed_of (load 4 out (cond b 552 8)))
 unfolding error_of error_at
 told out count b e h = simp (ne_eqb count 0 h, e)
 
@@ -90,9 +89,9 @@ no-event id seq (pos k) d rest h g =
     simp (read-id id seq (code_bytes (pos k) ++ le 4 0 ++ d) rest h, ne_eqb id 17 other, neither)
 
 pub reply-error : (id seq : ℕ) (code : ℤ) (d rest : List ℕ) → SFits w32 code → id < 65536 → (id ≡ 17 → is_error code ≡ true)
-    → error_of (reply_bytes id seq code d ++ rest) (length (reply_bytes id seq code d)) ≡ Written code
+    → error_of (reply_bytes id seq code d ++ rest) (length (reply_bytes id seq code d)) ≡ Some code
 reply-error id seq code d rest f h g =
-    told _ _ false (no-event id seq code d rest h g) (λ e. omega (arith, length-reply id seq code d)) ∙ ap Written (in-reply id seq code d rest f)
+    told _ _ false (no-event id seq code d rest h g) (λ e. omega (arith, length-reply id seq code d)) ∙ ap Some (in-reply id seq code d rest f)
 
 is-event : (seq : ℕ) (code : ℤ) (n id : ℕ) (rest : List ℕ) → is_command_error (command_error_event seq code n id ++ rest) 568 ≡ true
 unfolding is_command_error command_error_event event_bytes
@@ -105,17 +104,17 @@ in-command-error seq code n id rest f =
     ap signed_of (in-event seq 0 13 (replicate 536 0) _ rest (length-replicate {A = ℕ} 536 0)) ∙ simp append_assoc (read-code code _ f)
 
 pub event-error : (seq : ℕ) (code : ℤ) (n id : ℕ) (rest : List ℕ) → SFits w32 code
-    → error_of (command_error_event seq code n id ++ rest) (length (command_error_event seq code n id)) ≡ Written code
+    → error_of (command_error_event seq code n id ++ rest) (length (command_error_event seq code n id)) ≡ Some code
 event-error seq code n id rest f =
     ap (error_of (command_error_event seq code n id ++ rest)) (length-command-error seq code n id)
     ∙ told _ _ true (is-event seq code n id rest) (λ e. omega arith)
-    ∙ ap Written (in-command-error seq code n id rest f)
+    ∙ ap Some (in-command-error seq code n id rest f)
 
 -- ---- what a line tells of any command: its code where a reply carries it or a CMD_ERROR does, and else nothing
-abbrev code_told : ReplyMode → ℤ → Code
-code_told On code = Written code
-code_told Off code = Unwritten
-code_told ErrorsOnly code = cond (is_error code) (Written code) Unwritten
+abbrev code_told : ReplyMode → ℤ → Option ℤ
+code_told On code = Some code
+code_told Off code = None
+code_told ErrorsOnly code = cond (is_error code) (Some code) None
 
 pub answer-error : (mode : ReplyMode) (seq id n : ℕ) (code : ℤ) (d rest : List ℕ) → SFits w32 code → id < 65536 → (id ≡ 17 → is_error code ≡ true)
     → error_of (answer_bytes mode seq id n code d ++ rest) (length (answer_bytes mode seq id n code d)) ≡ code_told mode code

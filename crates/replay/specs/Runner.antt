@@ -1,5 +1,6 @@
 -- Document 01's runner: the session it starts with, what becomes of one message, and what is printed.
-use Rattle.std.specs.Prelude.{ℕ, zero, suc, ◌+◌, List, [], ◌++◌, Bool, cond, length, take, drop, replicate, eqb}
+use Rattle.std.specs.Prelude.{ℕ, zero, suc, ◌+◌, List, [], ◌++◌, Bool, Option, Some, None, length, take, drop, replicate, eqb}
+use Rattle.std.specs.Bool.{then_some}
 use Rattle.kvmi.specs.declared.Settings.{Settings}
 use Rattle.session.specs.State.{State, state}
 use Rattle.session.specs.Calls.{Told, fresh_of, ready_of}
@@ -16,8 +17,6 @@ use Rattle.stream.specs.Cut.{cut_of, extent_of}
 use Rattle.stream.specs.Line.{line_of}
 use Rattle.line_text.specs.Text.{line_text, end_text}
 use Rattle.replay.specs.declared.Passed.{Passed}
-use Rattle.replay.specs.declared.Next.{Next}
-use Rattle.replay.specs.declared.Next.TheVariants.{On, Over}
 use Rattle.replay.specs.declared.Turned.{Turned}
 
 -- ---- the start
@@ -77,19 +76,19 @@ passed_of st msg out guest = left_by msg (message_of st msg out guest)
 
 -- ---- one turn: the bytes of the next message, as far as the input has them, are looked at, passed on and told of
 
--- what a turn leaves: session and words, output, guest memory, the text that is printed with its count, and what follows
+-- what a turn leaves: session and words, output, guest memory, the text that is printed with its count, and the end, where the run is over
 pub record After : Type 0 where
   pub state : State
   pub out : List ℕ
   pub guest : List ℕ
   pub text : List ℕ
   pub count : ℕ
-  pub next : Next
+  pub end : Option End
 
 -- of a result, and the lent words and bytes at exit
 abbrev pub turn_left : Turned → List ℕ → List ℕ → List ℕ → List ℕ → List ℕ → After
 turn_left r vcpus pages out guest text =
-    record { state = state r.session vcpus pages; out = out; guest = guest; text = text; count = r.count; next = r.next }
+    record { state = state r.session vcpus pages; out = out; guest = guest; text = text; count = r.count; end = r.end }
 
 -- a message that is passed on has its line, at the front of the text; "After closing it prints `end closed` and stops"
 abbrev pub tell_by : ℕ → List ℕ → Left → After
@@ -100,7 +99,7 @@ tell_by index text l =
       guest = l.guest;
       text = store text 0 (line_text index l.line);
       count = length (line_text index l.line);
-      next = cond l.closes (Over Closed) On;
+      end = then_some l.closes Closed;
     }
 
 unfoldable pub told_of : ℕ → State → List ℕ → List ℕ → List ℕ → List ℕ → After
@@ -108,7 +107,7 @@ told_of index st msg out guest text = tell_by index text (passed_of st msg out g
 
 -- nothing more is passed on
 abbrev pub over_at : End → State → List ℕ → List ℕ → List ℕ → After
-over_at end st out guest text = record { state = st; out = out; guest = guest; text = text; count = 0; next = Over end }
+over_at end st out guest text = record { state = st; out = out; guest = guest; text = text; count = 0; end = Some end }
 
 unfoldable pub turn_by : Cut → ℕ → State → List ℕ → List ℕ → List ℕ → List ℕ → After
 turn_by cut-end index st msg out guest text = over_at Open st out guest text
@@ -122,16 +121,16 @@ turn_of index st msg out guest text = turn_by (cut_of msg) index st msg out gues
 -- ---- a run: what turn after turn prints, at most k of them. The programs print it as they read, and no promise can say so.
 
 -- what follows what a turn prints
-abbrev pub followed : Next → List ℕ → List ℕ
-followed On rest = rest
-followed (Over end) rest = end_text end
+abbrev pub followed : Option End → List ℕ → List ℕ
+followed None rest = rest
+followed (Some end) rest = end_text end
 
 unfoldable pub run_of : ℕ → ℕ → State → List ℕ → List ℕ → List ℕ → List ℕ
 run_of zero index st out guest input = []
 run_of (suc k) index st out guest input =
     let n = extent_of (take 8 input) in
     let a = turn_of index st (take n input) out guest (replicate 128 0) in
-    take a.count a.text ++ followed a.next (run_of k (index + 1) a.state a.out a.guest (drop n input))
+    take a.count a.text ++ followed a.end (run_of k (index + 1) a.state a.out a.guest (drop n input))
 
 -- of a whole input, of which each turn but the last takes a byte at least; the output has room for every answer, and there are "4 zero pages"
 unfoldable pub printed_of : List ℕ → List ℕ

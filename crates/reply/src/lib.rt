@@ -29,18 +29,30 @@ enum Contents {
     Memory { from: usize, count: usize },
 }
 
-// How many bytes an answer has, and whether it is a CMD_ERROR event, which takes a seq.
+// How many bytes an answer has, and whether it is a CMD_ERROR event, which takes a seq. The mark stands beside the count and not in its place: every answer
+// has a count, 0 too.
 #[derive(Clone, Copy)]
 pub struct Answered {
     pub count: usize,
     pub took_seq: bool,
 }
 
+// What is answered, and how: the id, the seq and the code of a command, the reply mode (0: on; 1: off; any other: off, and errors told), and the next
+// event's seq. The mode is the number that the session has for it, since C lends the session (`mode` of semblurick_session).
+#[derive(Clone, Copy)]
+pub struct Answering {
+    pub mode: u32,
+    pub next: u32,
+    pub id: u16,
+    pub seq: u32,
+    pub code: i32,
+}
+
 // The seq after a seq: it wraps to 0.
 pub fn next_seq(seq: u32) -> u32
     ensures { result ≡ next_seq seq }
 {
-    if seq == 4294967295 { 0 } else { seq + 1 }
+    seq.wrapping_add(1)
 }
 
 fn is_error(code: i32) -> bool
@@ -54,8 +66,8 @@ fn memory(guest: &[u8], d: &[u8]) -> Contents
     ensures { Picked guest.now d.now result }
 {
     let n = guest.len();
-    let from = wire::smaller(wire::load64(d, 0) as usize, n);
-    let count = wire::smaller(wire::load64(d, 8) as usize, n - from);
+    let from = wire::smaller(wire::load::<u64>(d, 0) as usize, n);
+    let count = wire::smaller(wire::load::<u64>(d, 8) as usize, n - from);
     Contents::Memory { from, count }
 }
 
@@ -86,7 +98,7 @@ fn count_of(contents: Contents) -> usize
         Contents::Version => 16,
         Contents::VmInfo => 16,
         Contents::VcpuInfo => 8,
-        Contents::Memory { from: _, count } => count,
+        Contents::Memory { count, .. } => count,
     }
 }
 
@@ -95,9 +107,9 @@ fn put_header(out: &mut [u8], id: u16, size: usize, seq: u32)
     requires { 8 ≤ length out.old }
     ensures { out.new ≡ store out.old 0 (le 2 id ++ le 2 size ++ le 4 seq) }
 {
-    wire::store16(out, 0, id);
-    wire::store16(out, 2, (size % 65536) as u16);
-    wire::store32(out, 4, seq);
+    wire::store(out, 0, id);
+    wire::store(out, 2, (size % 65536) as u16);
+    wire::store(out, 4, seq);
 }
 
 // GET_VERSION's data: the revision, and the features.
@@ -105,12 +117,12 @@ fn put_version(out: &mut [u8], settings: Settings)
     requires { 32 ≤ length out.old }
     ensures { out.new ≡ store out.old 16 (reply_data settings [] 1 []) }
 {
-    wire::store64(out, 16, settings.revision as u64);
-    wire::store8(out, 24, settings.singlestep);
-    wire::store8(out, 25, settings.vmfunc);
-    wire::store8(out, 26, settings.eptp);
-    wire::store8(out, 27, settings.ve);
-    wire::store32(out, 28, settings.spp as u32);
+    wire::store(out, 16, settings.revision as u64);
+    wire::store(out, 24, settings.singlestep);
+    wire::store(out, 25, settings.vmfunc);
+    wire::store(out, 26, settings.eptp);
+    wire::store(out, 27, settings.ve);
+    wire::store(out, 28, settings.spp as u32);
 }
 
 // VM_GET_INFO's data: the vCPU count.
@@ -118,8 +130,8 @@ fn put_vm_info(out: &mut [u8], settings: Settings)
     requires { 32 ≤ length out.old }
     ensures { out.new ≡ store out.old 16 (reply_data settings [] 4 []) }
 {
-    wire::store64(out, 16, settings.vcpus as u64);
-    wire::store64(out, 24, 0);
+    wire::store(out, 16, settings.vcpus as u64);
+    wire::store(out, 24, 0u64);
 }
 
 // A reply's data, behind the code.
@@ -132,7 +144,7 @@ fn put_contents(out: &mut [u8], settings: Settings, guest: &[u8], contents: Cont
         Contents::Nothing => {}
         Contents::Version => put_version(out, settings),
         Contents::VmInfo => put_vm_info(out, settings),
-        Contents::VcpuInfo => wire::store64(out, 16, settings.tsc),
+        Contents::VcpuInfo => wire::store(out, 16, settings.tsc),
         Contents::Memory { from, count } => wire::copy(out, 16, &guest[from..from + count]),
     }
 }
@@ -144,7 +156,7 @@ fn put_code(out: &mut [u8], id: u16, seq: u32, code: i32) -> usize
     if 16 <= out.len() {
         put_header(out, id, 8, seq);
         wire::store_code(out, 8, code);
-        wire::store32(out, 12, 0);
+        wire::store(out, 12, 0u32);
     }
     16
 }
@@ -167,7 +179,7 @@ fn put_reply(
     if total <= out.len() {
         put_header(out, id, count + 8, seq);
         wire::store_code(out, 8, code);
-        wire::store32(out, 12, 0);
+        wire::store(out, 12, 0u32);
         put_contents(out, settings, guest, contents);
     }
     total
@@ -179,9 +191,9 @@ fn put_event(out: &mut [u8], size: usize, seq: u32, vcpu: u32, event: u8)
     ensures { out.new ≡ store out.old 0 (event_front size seq vcpu event) }
 {
     put_header(out, 17, size, seq);
-    wire::store16(out, 8, 544);
-    wire::store16(out, 10, (vcpu % 65536) as u16);
-    wire::store32(out, 12, event as u32);
+    wire::store(out, 8, 544u16);
+    wire::store(out, 10, (vcpu % 65536) as u16);
+    wire::store(out, 12, event as u32);
 }
 
 // An event of a vCPU, with a state block and the event's own bytes behind it.
@@ -190,12 +202,10 @@ pub fn event(out: &mut [u8], seq: u32, vcpu: u32, event: u8, state: &[u8], own: 
 {
     let n = state.len();
     let more = own.len();
-    if more <= out.len() {
-        if n + 16 <= out.len() - more {
-            put_event(out, n + more + 8, seq, vcpu, event);
-            wire::copy(out, 16, state);
-            wire::copy(out, 16 + n, own);
-        }
+    if more <= out.len() && n + 16 <= out.len() - more {
+        put_event(out, n + more + 8, seq, vcpu, event);
+        wire::copy(out, 16, state);
+        wire::copy(out, 16 + n, own);
     }
 }
 
@@ -220,19 +230,19 @@ fn put_command_error(out: &mut [u8], next: u32, code: i32, seq: u32, id: u16) ->
         put_event(out, 560, next, 0, 13);
         wire::fill(out, 16, STATE_BYTES, 0);
         wire::store_code(out, 552, code);
-        wire::store32(out, 556, seq);
-        wire::store64(out, 560, id as u64);
+        wire::store(out, 556, seq);
+        wire::store(out, 560, id as u64);
     }
     568
 }
 
 // The answer while replies are off: where errors are told and this is one, the event that tells it.
-fn answer_off(out: &mut [u8], mode: u32, next: u32, id: u16, seq: u32, code: i32) -> Answered
-    ensures { AnswerWritten out.old out.new result (off_bytes mode next id seq code) (is_told mode code) }
+fn answer_off(out: &mut [u8], a: Answering) -> Answered
+    ensures { AnswerWritten out.old out.new result (off_bytes a.mode a.next a.id a.seq a.code) (is_told a.mode a.code) }
 {
-    if (mode != 1) & is_error(code) {
+    if (a.mode != 1) & is_error(a.code) {
         return Answered {
-            count: put_command_error(out, next, code, seq, id),
+            count: put_command_error(out, a.next, a.code, a.seq, a.id),
             took_seq: true,
         };
     }
@@ -242,40 +252,29 @@ fn answer_off(out: &mut [u8], mode: u32, next: u32, id: u16, seq: u32, code: i32
     }
 }
 
-// What is written in answer to a command, a code alone, by the number of the reply mode (0: on; 1: off; any other: off, and errors
-// told); `next` is the next event's seq.
-pub fn answer_code(out: &mut [u8], mode: u32, next: u32, id: u16, seq: u32, code: i32) -> Answered
-    ensures { AnswerWritten out.old out.new result (answer_bytes (mode_of_number mode) next id seq code []) (tells (mode_of_number mode) code) }
+// What is written in answer to a command, a code alone.
+pub fn answer_code(out: &mut [u8], a: Answering) -> Answered
+    ensures { AnswerWritten out.old out.new result (answer_bytes (mode_of_number a.mode) a.next a.id a.seq a.code []) (tells (mode_of_number a.mode) a.code) }
 {
-    if mode != 0 {
-        return answer_off(out, mode, next, id, seq, code);
+    if a.mode != 0 {
+        return answer_off(out, a);
     }
     Answered {
-        count: put_code(out, id, seq, code),
+        count: put_code(out, a.id, a.seq, a.code),
         took_seq: false,
     }
 }
 
 // The same with the data of the command's reply.
-fn answer_data(
-    out: &mut [u8],
-    settings: Settings,
-    guest: &[u8],
-    mode: u32,
-    next: u32,
-    id: u16,
-    seq: u32,
-    code: i32,
-    d: &[u8],
-) -> Answered
+fn answer_data(out: &mut [u8], settings: Settings, guest: &[u8], a: Answering, d: &[u8]) -> Answered
     ensures { AnswerWritten out.old out.new result
-        (answer_bytes (mode_of_number mode) next id seq code (reply_data settings guest.now id d.now)) (tells (mode_of_number mode) code) }
+        (answer_bytes (mode_of_number a.mode) a.next a.id a.seq a.code (reply_data settings guest.now a.id d.now)) (tells (mode_of_number a.mode) a.code) }
 {
-    if mode != 0 {
-        return answer_off(out, mode, next, id, seq, code);
+    if a.mode != 0 {
+        return answer_off(out, a);
     }
     Answered {
-        count: put_reply(out, settings, guest, id, seq, code, d),
+        count: put_reply(out, settings, guest, a.id, a.seq, a.code, d),
         took_seq: false,
     }
 }
@@ -286,19 +285,15 @@ pub fn answer(
     settings: Settings,
     guest: &[u8],
     kind: ReplyKind,
-    mode: u32,
-    next: u32,
-    id: u16,
-    seq: u32,
-    code: i32,
+    a: Answering,
     d: &[u8],
 ) -> Answered
-    ensures { KindWritten kind (mode_of_number mode) next id seq code
-        (reply_data settings guest.now id d.now) out.old out.new result }
+    ensures { KindWritten kind (mode_of_number a.mode) a.next a.id a.seq a.code
+        (reply_data settings guest.now a.id d.now) out.old out.new result }
 {
     match kind {
-        ReplyKind::CodeOnly => answer_code(out, mode, next, id, seq, code),
-        ReplyKind::WithData => { answer_data(out, settings, guest, mode, next, id, seq, code, d) }
+        ReplyKind::CodeOnly => answer_code(out, a),
+        ReplyKind::WithData => answer_data(out, settings, guest, a, d),
         ReplyKind::Silent => Answered {
             count: 0,
             took_seq: false,

@@ -3,151 +3,78 @@
 #![tactic(auto)]
 
 ghost use Rattle.std.specs.Prelude.{◌≤◌, length};
-ghost use Rattle.line_text.specs.Text.{Counts};
+ghost use Rattle.files.specs.Counts.{IsPrefixLen};
 
-use page_words::{PAGE_WORDS, PageWords};
-use replay::Next;
-use session::Session;
+use replay::Run;
+use std::io;
 use std::io::Read;
-use store::words::{VCPU_WORDS, VcpuWords};
 use stream::End;
 
-// What one turn leaves: the session for the next one, or the end of the run. Mute: a line could not be written.
+// Standard input. A read that fails is told of; the input then ends there.
 #[derive(Clone, Copy)]
-enum Turn {
-    Next(Session),
-    Over(End),
-    Mute,
+struct Messages<'a> {
+    rt: &'a HostRuntime,
 }
 
-// Reads once, and answers how many bytes came: 0 at the end of the input, and where the read fails, which is told.
-fn read_some(rt: &HostRuntime, buf: &mut [u8]) -> usize
-    ensures { result ≤ length buf.new }
-{
-    match rt.stdin().read(buf) {
-        Ok(got) => got,
-        Err(_) => {
-            let _ = rt.eprint("read error\n");
-            0
+impl Read for Messages<'_> {
+    fn read(&mut self, buf: &mut [u8]) -> io::Result<usize> {
+        let count = self.rt.stdin().read(buf);
+        if count.is_err() {
+            let _ = self.rt.eprintln("read error");
         }
+        count
     }
-}
-
-// Reads the bytes of `buf` from one place to another, and answers up to where they came: short of it only where the input ends.
-fn read_part(rt: &HostRuntime, buf: &mut [u8], from: usize, to: usize) -> usize
-    requires from_le_to { from ≤ to }
-    requires to_in_bounds { to ≤ length buf.old }
-    ensures prefix_len { Counts result buf.new }
-    ensures upper_bound { result ≤ to }
-{
-    let mut at = from;
-    while at < to {
-        let got = read_some(rt, &mut buf[at..to]);
-        if got == 0 {
-            return at;
-        }
-        at += got;
-    }
-    at
 }
 
 // Reads the next message: its header first, and then as many bytes more as that asks for.
-fn read_message(rt: &HostRuntime, msg: &mut [u8]) -> usize
+fn read_message(from: &mut Messages<'_>, msg: &mut [u8]) -> usize
     requires { 65536 ≤ length msg.old }
-    ensures { Counts result msg.new }
+    ensures { IsPrefixLen result msg.new }
 {
-    let head = read_part(rt, msg, 0, 8);
+    let head = files::read_full(from, &mut msg[..8]);
     let whole = stream::extent(&msg[..head]);
-    read_part(rt, msg, head, whole)
-}
-
-// Writes a line, and answers whether it could be written: where not, that is told.
-fn print(rt: &HostRuntime, text: &[u8]) -> bool {
-    if Print::write_all(rt, text).is_ok() {
-        return true;
-    }
-    let _ = rt.eprint("write error\n");
-    false
+    head + files::read_full(from, &mut msg[head..whole])
 }
 
 // The last line.
-fn print_end(rt: &HostRuntime, end: End) {
+fn print_end(rt: &HostRuntime, end: End) -> io::Result<()> {
     let mut text = [0u8; 128];
     let n = line_text::put_end(&mut text, end);
-    print(rt, &text[..n]);
+    files::write_all(&mut rt.stdout(), &text[..n])
 }
 
-// Reads the next message, passes it on and prints its line.
-fn take_turn(
-    rt: &HostRuntime,
-    index: u64,
-    s: Session,
-    vcpus: &mut VcpuWords,
-    pages: &mut PageWords,
-    msg: &mut [u8],
-    out: &mut [u8],
-    guest: &mut [u8],
-) -> Turn
+// Reads the next message, passes it on and prints its line. Answers the end of the run, where it is over.
+fn take_turn(rt: &HostRuntime, index: u64, run: &mut Run, msg: &mut [u8]) -> io::Result<Option<End>>
     requires { 65536 ≤ length msg.old }
 {
     let mut text = [0u8; 128];
-    let n = read_message(rt, msg);
-    let turned = replay::turn(index, s, vcpus, pages, &msg[..n], out, guest, &mut text);
-    let count = turned.count;
-    let session = turned.session;
-    let next = turned.next;
-    if !print(rt, &text[..count]) {
-        return Turn::Mute;
-    }
-    match next {
-        Next::On => Turn::Next(session),
-        Next::Over(end) => Turn::Over(end),
-    }
+    let n = read_message(&mut Messages { rt }, msg);
+    let turned = run.turn(index, &msg[..n], &mut text);
+    files::write_all(&mut rt.stdout(), &text[..turned.count])?;
+    Ok(turned.end)
 }
 
-// Turn after turn. A proved loop has to end, and nothing says that an input does: this one ends after as many messages as
-// an index can count.
-fn serve(
-    rt: &HostRuntime,
-    fresh: Session,
-    vcpus: &mut VcpuWords,
-    pages: &mut PageWords,
-    msg: &mut [u8],
-    out: &mut [u8],
-    guest: &mut [u8],
-)
-    requires { 65536 ≤ length msg.old }
-{
-    let mut s = fresh;
-    let mut index: u64 = 0;
-    while index < u64::MAX {
-        let left = take_turn(rt, index, s, vcpus, pages, msg, out, guest);
-        match left {
-            Turn::Next(next) => {
-                s = next;
-            }
-            Turn::Over(end) => {
-                print_end(rt, end);
-                return;
-            }
-            Turn::Mute => {
-                return;
-            }
-        }
-        index += 1;
-    }
-    print_end(rt, End::Open);
-}
-
-// A message of 65,536 bytes at most, the least output that a message is given, and four zero pages of guest memory.
-fn main(rt: HostRuntime) {
-    let mut vcpus = [0u64; VCPU_WORDS];
-    let mut pages = [0u64; PAGE_WORDS];
+// Turn after turn, over messages of 65,536 bytes at most. A proved loop has to end, and nothing says that an input does: this one ends after as many
+// messages as an index can count.
+fn serve(rt: &HostRuntime) -> io::Result<End> {
     let mut msg = [0u8; 65536];
-    let mut out = [0u8; 4112];
-    let mut guest = [0u8; 16384];
-    let s = replay::start(&mut vcpus, &mut pages);
-    serve(
-        &rt, s, &mut vcpus, &mut pages, &mut msg, &mut out, &mut guest,
-    );
+    let mut run = Run::new();
+    for index in 0..u64::MAX {
+        if let Some(end) = take_turn(rt, index, &mut run, &mut msg)? {
+            return Ok(end);
+        }
+    }
+    Ok(End::Open)
+}
+
+fn serve_all(rt: &HostRuntime) -> io::Result<()> {
+    let end = serve(rt)?;
+    print_end(rt, end)
+}
+
+// A line that can't be written ends the run, and is told of.
+fn main(rt: HostRuntime) {
+    if serve_all(&rt).is_err() {
+        let _ = rt.eprintln("write error");
+    }
 }

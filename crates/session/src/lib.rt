@@ -5,11 +5,10 @@
 ghost use Rattle.std.specs.Prelude.{◌≡◌, List, [], ℕ, leb, ltb};
 ghost use Rattle.kvmi.specs.Settings.{in_range};
 ghost use Rattle.kvmi.specs.Limits.{page_limit, pause_limit, least_out};
-ghost use Rattle.kvmi.specs.Mode.{mode_of_number, number_of_mode};
 ghost use Rattle.session.specs.State.{state, blank_session, closed_session, with_tool, with_tool_seq};
 ghost use Rattle.session.specs.Calls.{told, fresh_of, ready_of};
 
-use kvmi::{Answer, ReplyMode, Settings};
+use kvmi::{Answer, Settings};
 use page_words::PageWords;
 use store::words::VcpuWords;
 
@@ -111,21 +110,16 @@ impl Session {
 
     // A session begins fresh, on whatever words are lent. Settings out of range are refused: no word changes, and the
     // session that is handed back is closed.
+    #[tactic(auto, unfolding(crate::specs::Calls::fresh_of))]
     pub fn fresh(settings: Settings, vcpus: &mut VcpuWords, pages: &mut PageWords) -> Done
         ensures { told result vcpus.new pages.new [] [] ≡ fresh_of settings vcpus.old pages.old }
     {
         if !in_range(settings) {
-            return Done {
-                answer: Answer::BadSettings,
-                session: Session::shut(settings),
-            };
+            return Session::shut(settings).answers(Answer::BadSettings);
         }
         store::words::clear(vcpus);
         store::words::clear(pages);
-        Done {
-            answer: kvmi::answers::done(),
-            session: Session::blank(settings, 1),
-        }
+        Session::blank(settings, 1).answers(kvmi::answers::done())
     }
 
     // Fresh, but closed.
@@ -139,88 +133,49 @@ impl Session {
     pub fn with_tool(self, tool: Tool) -> Self
         ensures { result ≡ with_tool self tool }
     {
-        let mut s = self;
-        s.tool = tool;
-        s
+        Session { tool, ..self }
     }
 
     // The same with the next event's seq.
     pub fn with_seq(self, seq: u32) -> Self
         ensures { result ≡ with_tool self (with_tool_seq self.tool seq) }
     {
-        let mut s = self;
-        s.tool.seq = seq;
-        s
+        self.with_tool(Tool { seq, ..self.tool })
+    }
+
+    // What a call gives that answers so, and leaves this session.
+    pub fn answers(self, answer: Answer) -> Done
+        ensures { (result.session ≡ self) × (result.answer ≡ answer) }
+    {
+        Done {
+            session: self,
+            answer,
+        }
     }
 
     // A vCPU can be introspected from now on.
+    #[tactic(auto, unfolding(crate::specs::Calls::ready_of))]
     pub fn ready(self, vcpu: u16) -> Done
         ensures { (v p : List ℕ) → told result v p [] [] ≡ ready_of (state self v p) vcpu }
     {
         if self.tool.opened == 0 {
-            return Done {
-                answer: Answer::Closed,
-                session: self,
-            };
+            return self.answers(Answer::Closed);
         }
         if self.settings.vcpus <= vcpu as u32 {
-            return Done {
-                answer: Answer::BadVcpu,
-                session: self,
-            };
+            return self.answers(Answer::BadVcpu);
         }
-        let mut s = self;
         let ready = store::bits::put_bit(self.shared.ready, vcpu as u32, true);
-        s.shared.ready = ready;
-        Done {
-            answer: kvmi::answers::done(),
-            session: s,
-        }
-    }
-}
-
-// The reply mode that a number stands for.
-pub fn mode_of(n: u32) -> ReplyMode
-    ensures { result ≡ mode_of_number n }
-{
-    if n == 0 {
-        return ReplyMode::On;
-    }
-    if n == 1 {
-        return ReplyMode::Off;
-    }
-    ReplyMode::ErrorsOnly
-}
-
-// The number of a reply mode.
-pub fn mode_number(mode: ReplyMode) -> u32
-    ensures { result ≡ number_of_mode mode }
-{
-    match mode {
-        ReplyMode::On => 0,
-        ReplyMode::Off => 1,
-        ReplyMode::ErrorsOnly => 2,
+        let shared = Shared { ready };
+        Session { shared, ..self }.answers(kvmi::answers::done())
     }
 }
 
 // Whether the settings' counts and their revision are in their ranges.
+#[tactic(auto, unfolding(kvmi::specs::Settings::in_range))]
 pub fn in_range(settings: Settings) -> bool
     ensures { result ≡ in_range settings }
 {
-    if settings.vcpus < 1 {
-        return false;
-    }
-    if 16 < settings.vcpus {
-        return false;
-    }
-    if settings.views < 1 {
-        return false;
-    }
-    if 8 < settings.views {
-        return false;
-    }
-    if settings.revision < 1 {
-        return false;
-    }
-    settings.revision <= 2
+    (1..=16).contains(&settings.vcpus)
+        && (1..=8).contains(&settings.views)
+        && (1..=2).contains(&settings.revision)
 }

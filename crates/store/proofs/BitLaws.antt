@@ -1,11 +1,10 @@
 -- Laws of the bits of a word of 64. Assumes nothing.
-use Rattle.std.proofs.Common.{◌≡◌, ℕ, suc, ◌+◌, ◌-◌, ◌*◌, ◌/◌, ◌%◌, ◌^◌, ◌<◌, ◌≤◌, Bool, true, false, cond, eqb, ltb, sym, refl, ap, ◌∙◌, le_trans, mul-le-mul_right, mod-lt, add-mul, pow-suc, div-mul-le_self, arith, pow-add, shl_exact, shr_lt}
-use native.Mathlib.Nat.{mod-le, one-le-pow}
+use Rattle.std.proofs.Common.{◌≡◌, ℕ, suc, ◌+◌, ◌-◌, ◌*◌, ◌/◌, ◌%◌, ◌^◌, ◌<◌, Bool, true, false, sym, refl, ap, ◌∙◌, mod-lt, add-mul, pow-suc, arith, pow-add, shl_exact, shr_lt}
+use native.Mathlib.Nat.{one-le-pow}
 use lib.Arith.{digits_lt}
 use lib.Pow.{split}
 use mir.Val.{bool_byte}
-use Rattle.kvmi.specs.Bits.{bit, bit_of, is_on}
-use Rattle.kvmi.specs.Tables.{cr_bit}
+use Rattle.kvmi.specs.Bits.{bit}
 
 pub bit-small : (on : Bool) → bit on < 2
 bit-small true = omega arith
@@ -15,10 +14,6 @@ bit-small false = omega arith
 pub bool-bit : (on : Bool) → bool_byte on ≡ bit on
 bool-bit true = refl
 bool-bit false = refl
-
--- a bit's share of a word
-pub bit_le : (w k : ℕ) → w / 2 ^ k % 2 * 2 ^ k ≤ w
-bit_le w k = le_trans (mul-le-mul_right (2 ^ k) (mod-le (w / 2 ^ k) 2)) (div-mul-le_self w (2 ^ k))
 
 -- a bit that is shifted up stays inside the word
 pub shifted : (b k : ℕ) → b < 2 → k < 64 → b * 2 ^ k % 2 ^ 64 ≡ b * 2 ^ k
@@ -45,13 +40,3 @@ put-fits w k o s h g =
     let low : w % 2 ^ k < 2 ^ k = mod-lt w (one-le-pow k 2 two) in
     let full : 2 ^ (64 - k) * 2 ^ k ≡ 2 ^ 64 = sym (pow-add 2 (64 - k) k) ∙ ap (λ (x : ℕ). 2 ^ x) whole in
     rw (put-parts, ← full) (digits_lt high low)
-
--- a word has the bits of all CR switches
-pub cr-fits : (cr : ℕ) → ltb (cr_bit cr) 64 ≡ true
-unfolding cr_bit
-cr-fits cr = step (eqb cr 0) (eqb cr 3)
-  where
-    step : (a b : Bool) → ltb (cond a 0 (cond b 1 2)) 64 ≡ true
-    step true b = refl
-    step false true = refl
-    step false false = refl

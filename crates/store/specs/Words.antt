@@ -1,8 +1,6 @@
 -- The vCPU words: 272 for each vCPU, 16 plain fields and then 256 words of MSR switches, a bit each. A word past the end reads as 0, and a
 -- store there changes nothing.
-use Rattle.std.specs.Prelude.{ℕ, ◌+◌, ◌*◌, ◌/◌, ◌%◌, ◌^◌, Bool, false, cond, List, length, set, replicate, nat_lt, slice_index, slice_set}
-use Rattle.msrs.specs.declared.Place.{Place}
-use Rattle.msrs.specs.declared.Place.TheVariants.{At, None}
+use Rattle.std.specs.Prelude.{ℕ, ◌+◌, ◌*◌, ◌/◌, ◌%◌, ◌^◌, Bool, false, cond, List, length, replicate, nat_lt, slice_index, slice_set, Option, Some, None}
 use Rattle.msrs.specs.Place.{msr_place}
 use Rattle.kvmi.specs.Bits.{is_on, put_bit}
 use Rattle.kvmi.specs.Tables.{cr_bit}
@@ -102,12 +100,12 @@ unfoldable pub switch_on : List ℕ → ℕ → ℕ → Bool
 switch_on w vcpu place = is_on (field w vcpu (MSRS + place / 64)) (place % 64)
 
 -- of a place, or of none: then it is off, and setting it changes nothing
-abbrev pub read_switch : List ℕ → ℕ → Place → Bool
-read_switch w vcpu (At place) = switch_on w vcpu place
+abbrev pub read_switch : List ℕ → ℕ → Option ℕ → Bool
+read_switch w vcpu (Some place) = switch_on w vcpu place
 read_switch w vcpu None = false
 
-abbrev pub set_switch : List ℕ → ℕ → Place → Bool → List ℕ
-set_switch w vcpu (At place) on = switched_field w vcpu (MSRS + place / 64) (place % 64) on
+abbrev pub set_switch : List ℕ → ℕ → Option ℕ → Bool → List ℕ
+set_switch w vcpu (Some place) on = switched_field w vcpu (MSRS + place / 64) (place % 64) on
 set_switch w vcpu None on = w
 
 -- a vCPU's switch for an MSR

@@ -16,19 +16,19 @@ pub fn put_bit(w: u64, k: u32, on: bool) -> u64
 }
 
 // The bit of a control register's switch.
+#[tactic(auto, unfolding(kvmi::specs::Tables::cr_bit))]
 pub fn cr_bit(cr: u32) -> u32
     ensures { result ≡ cr_bit cr }
 {
-    if cr == 0 {
-        return 0;
+    match cr {
+        0 => 0,
+        3 => 1,
+        _ => 2,
     }
-    if cr == 3 {
-        return 1;
-    }
-    2
 }
 
 // CR switches with that of one register as given.
+#[tactic(auto, unfolding(kvmi::specs::Tables::cr_bit))]
 pub fn put_cr(crs: u64, cr: u32, on: bool) -> u64
     ensures { result ≡ put_bit crs (cr_bit cr) on }
 {

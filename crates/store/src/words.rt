@@ -3,7 +3,6 @@ ghost use Rattle.std.specs.Prelude.{◌≡◌, set, slice_index, slice_set};
 ghost use Rattle.store.specs.Words.{field, set_field, pending, msr_bit_on, set_msr_bit, queued_pause, switched_field, switched_cr, set_fault, ended_wait, cleared};
 
 use crate::bits::{put_bit, put_cr};
-use msrs::Place;
 
 // How many words a vCPU has.
 pub const BLOCK_WORDS: usize = 272;
@@ -14,6 +13,7 @@ pub const VCPU_WORDS: usize = 4352;
 pub type VcpuWords = [u64; VCPU_WORDS];
 
 // The plain fields: the switches and queues of a vCPU, and the event whose reply is awaited with its seq and, of a page fault, its addresses and access.
+// Numbers and no enum: `read_field` promises `field words vcpu k` for every k.
 pub const SINGLESTEP: usize = 0;
 
 pub const CRS: usize = 1;
@@ -51,10 +51,11 @@ pub struct Pending {
 pub fn word(words: &[u64], at: usize) -> u64
     ensures { result ≡ slice_index words.now at }
 {
-    if at < words.len() { words[at] } else { 0 }
+    words.get(at).copied().unwrap_or(0)
 }
 
-// A word stored at a place; past the end nothing changes.
+// A word stored at a place; past the end nothing changes. By a test and an index: after a write through `get_mut` the check does not find
+// what the whole slice holds.
 fn set_word(words: &mut [u64], at: usize, x: u64)
     ensures { words.new ≡ slice_set words.old at x }
 {
@@ -64,6 +65,7 @@ fn set_word(words: &mut [u64], at: usize, x: u64)
 }
 
 // Field k of a vCPU.
+#[tactic(auto, unfolding(crate::specs::Words::field))]
 pub fn read_field(words: &[u64], vcpu: u16, k: usize) -> u64
     ensures { result ≡ field words.now vcpu k }
 {
@@ -74,7 +76,8 @@ pub fn read_field(words: &[u64], vcpu: u16, k: usize) -> u64
     }
 }
 
-// What is pending of a vCPU. One test finds that all of it is there.
+// What is pending of a vCPU. One test finds that all of it is there; the second form alone would test each of the six fields.
+#[tactic(auto, unfolding(crate::specs::Words::field))]
 pub fn read_pending(words: &[u64], vcpu: u16) -> Pending
     ensures { result ≡ pending words.now vcpu }
 {
@@ -100,6 +103,7 @@ pub fn read_pending(words: &[u64], vcpu: u16) -> Pending
 }
 
 // Field k of a vCPU set.
+#[tactic(auto, unfolding(crate::specs::Words::set_field))]
 pub fn write_field(words: &mut [u64], vcpu: u16, k: usize, x: u64)
     ensures { words.new ≡ set_field words.old vcpu k x }
 {
@@ -109,41 +113,42 @@ pub fn write_field(words: &mut [u64], vcpu: u16, k: usize, x: u64)
 }
 
 // Whether a vCPU's switch for an MSR is on; one of no place is off.
+#[tactic(auto, unfolding(crate::specs::Words::msr_bit_on, crate::specs::Words::switch_on))]
 pub fn read_msr(words: &[u64], vcpu: u16, msr: u32) -> bool
     ensures { result ≡ msr_bit_on words.now vcpu msr }
 {
     match msrs::msr_place(msr) {
-        Place::At(place) => {
+        Some(place) => {
             let k = MSRS + (place as usize) / 64;
             kvmi::bits::is_on(read_field(words, vcpu, k), (place as u32) % 64)
         }
-        Place::None => false,
+        None => false,
     }
 }
 
 // A vCPU's switch for an MSR set; one of no place stays as it is.
+#[tactic(auto, unfolding(crate::specs::Words::set_msr_bit))]
 pub fn write_msr(words: &mut [u64], vcpu: u16, msr: u32, on: bool)
     ensures { words.new ≡ set_msr_bit words.old vcpu msr on }
 {
-    match msrs::msr_place(msr) {
-        Place::At(place) => {
-            let k = MSRS + (place as usize) / 64;
-            switch_field(words, vcpu, k, (place as u32) % 64, on);
-        }
-        Place::None => {}
+    if let Some(place) = msrs::msr_place(msr) {
+        let k = MSRS + (place as usize) / 64;
+        switch_field(words, vcpu, k, (place as u32) % 64, on);
     }
 }
 
 // One pause more in a vCPU's queue.
+#[tactic(auto, unfolding(crate::specs::Words::queued_pause))]
 pub fn queue_pause(words: &mut [u64], vcpu: u16)
     ensures { words.new ≡ queued_pause words.old vcpu }
 {
     let queued = read_field(words, vcpu, PAUSES);
-    let more = std::num::wrapping_add_u64(queued, 1);
+    let more = queued.wrapping_add(1);
     write_field(words, vcpu, PAUSES, more);
 }
 
 // One bit of a vCPU's field.
+#[tactic(auto, unfolding(crate::specs::Words::switched_field, crate::specs::Words::put_bit64))]
 pub fn switch_field(words: &mut [u64], vcpu: u16, k: usize, bit: u32, on: bool)
     ensures { words.new ≡ switched_field words.old vcpu k bit on }
 {
@@ -153,6 +158,7 @@ pub fn switch_field(words: &mut [u64], vcpu: u16, k: usize, bit: u32, on: bool)
 }
 
 // One control register's switch of a vCPU.
+#[tactic(auto, unfolding(crate::specs::Words::switched_cr))]
 pub fn switch_cr(words: &mut [u64], vcpu: u16, cr: u32, on: bool)
     ensures { words.new ≡ switched_cr words.old vcpu cr on }
 {
@@ -162,6 +168,7 @@ pub fn switch_cr(words: &mut [u64], vcpu: u16, cr: u32, on: bool)
 }
 
 // What is kept of a page fault.
+#[tactic(auto, unfolding(crate::specs::Words::set_fault))]
 pub fn write_fault(words: &mut [u64], vcpu: u16, gva: u64, gpa: u64, access: u64)
     ensures { words.new ≡ set_fault words.old vcpu (record { gva = gva; gpa = gpa; access = access }) }
 {
@@ -171,6 +178,7 @@ pub fn write_fault(words: &mut [u64], vcpu: u16, gva: u64, gpa: u64, access: u64
 }
 
 // No reply awaited any more.
+#[tactic(auto, unfolding(crate::specs::Words::ended_wait))]
 pub fn end_wait(words: &mut [u64], vcpu: u16)
     ensures { words.new ≡ ended_wait words.old vcpu }
 {
@@ -180,13 +188,9 @@ pub fn end_wait(words: &mut [u64], vcpu: u16)
 }
 
 // Every word set to 0.
+#[tactic(auto, unfolding(crate::specs::Words::cleared))]
 pub fn clear(words: &mut [u64])
     ensures { words.new ≡ cleared words.old }
 {
-    let n = words.len();
-    let mut i = 0;
-    while i < n {
-        words[i] = 0;
-        i += 1;
-    }
+    words.fill(0);
 }

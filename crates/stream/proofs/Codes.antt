@@ -1,14 +1,13 @@
 -- Reading a code from its bits, and that it undoes two's complement, both ways. Assumes nothing.
 use mathlib.Core.Path.{◌≡◌, refl, ap, ◌∙◌}
 use mathlib.Core.Bool.{Bool, true, false, cond}
-use Prim.Native.Nat.{ℕ, ◌≤◌, ◌<◌}
+use Prim.Native.Nat.{ℕ}
 use native.Mathlib.Omega.{arith}
 use lib.Dec.{ltb}
-use lib.IntN.{ℤ, pos, negsuc, ◌-ℤ◌}
-use mir.Facts.{to_z-of_z, of_z-to_z, sfits_to_z, to_z_pos}
-use mir.Syntax.{w32, w64}
+use lib.IntN.{ℤ, pos, negsuc}
+use mir.Facts.{to_z-of_z, of_z-to_z, sfits_to_z}
+use mir.Syntax.{w32}
 use mir.Val.{Fits, SFits, of_z, to_z, sel}
-use borrow.Author.Tests.{lt-ltb, le-ltb}
 use Rattle.wire.specs.Code.{twos}
 use Rattle.wire.proofs.Codes.{twos-bits}
 use Rattle.stream.specs.Signed.{signed_of}
@@ -32,10 +31,3 @@ twos-signed n f = twos-bits (signed_of n) ∙ ap (of_z w32) (signed-bits n) ∙ 
 
 pub signed-fits : (n : ℕ) → Fits w32 n → SFits w32 (signed_of n)
 signed-fits n f = rw signed-bits (sfits_to_z f)
-
--- the upper half lies 2 ^ 32 below the bits
-pub signed_high : (n : ℕ) → Fits w32 n → 2147483648 ≤ n → to_z w64 n -ℤ pos 4294967296 ≡ signed_of n
-unfolding signed_of
-signed_high n f h =
-    let small : n < 4294967296 = omega (arith, f.fits) in
-    simp (to_z_pos w64 {n = n} (omega arith), lt-ltb n 4294967296 small, le-ltb n 2147483648 h) (ap negsuc (omega arith))

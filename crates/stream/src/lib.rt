@@ -20,28 +20,15 @@ pub enum Cut {
     Message { total: usize },
 }
 
-// An id or a seq, where all of it is there.
-#[derive(Clone, Copy)]
-pub enum Number {
-    Missing,
-    Shown(u32),
-}
-
-// The error in what was written, where anything was.
-#[derive(Clone, Copy)]
-pub enum Code {
-    Unwritten,
-    Written(i32),
-}
-
-// What is told of a message: its id and seq, the host answer's number, how many bytes were written, and the error in them.
+// What is told of a message: its id and seq, each where all of it is there, the host answer's number, how many bytes were written, and the error
+// in them, where there are any.
 #[derive(Clone, Copy)]
 pub struct Line {
-    pub id: Number,
-    pub seq: Number,
+    pub id: Option<u32>,
+    pub seq: Option<u32>,
     pub answer: u8,
     pub count: usize,
-    pub error: Code,
+    pub error: Option<i32>,
 }
 
 // How a run ends: the input is over, a message closed the session, or the next one is too long to be taken.
@@ -53,6 +40,7 @@ pub enum End {
 }
 
 // What the first bytes of a message say of it.
+#[tactic(auto, unfolding(crate::specs::Cut::cut_of, crate::specs::Cut::total_of))]
 pub fn cut_next(head: &[u8]) -> Cut
     ensures { result ≡ cut_of head.now }
 {
@@ -63,7 +51,7 @@ pub fn cut_next(head: &[u8]) -> Cut
     if n < 8 {
         return Cut::Tail;
     }
-    let total = 8 + wire::load16(head, 2) as usize;
+    let total = 8 + wire::load::<u16>(head, 2) as usize;
     if 65536 < total {
         return Cut::Long;
     }
@@ -72,14 +60,12 @@ pub fn cut_next(head: &[u8]) -> Cut
 
 // How many bytes a message has in all of which these are the first, at most 8: no more than these, where they are all of it
 // or it is not taken.
+#[tactic(auto, unfolding(crate::specs::Cut::extent_of))]
 pub fn extent(head: &[u8]) -> usize
     ensures { result ≡ extent_of head.now }
 {
-    let cut = cut_next(head);
-    match cut {
-        Cut::End => head.len(),
-        Cut::Tail => head.len(),
-        Cut::Long => head.len(),
+    match cut_next(head) {
+        Cut::End | Cut::Tail | Cut::Long => head.len(),
         Cut::Message { total } => total,
     }
 }
@@ -88,11 +74,7 @@ pub fn extent(head: &[u8]) -> usize
 pub fn signed(n: u32) -> i32
     ensures { result ≡ signed_of n }
 {
-    if n < 2147483648 {
-        n as i32
-    } else {
-        ((n as i64) - 4294967296) as i32
-    }
+    n.cast_signed()
 }
 
 // The number of an answer: document 01's, or W5's 12.
@@ -100,14 +82,8 @@ pub fn answer_number(a: Answer) -> u8
     ensures { result ≡ (paper a).number }
 {
     match a {
-        Answer::Handled(values) => {
-            let signal = values.signal;
-            if kvmi::answers::lacks_page(signal) {
-                12
-            } else {
-                0
-            }
-        }
+        Answer::Handled(values) if kvmi::answers::lacks_page(values.signal) => 12,
+        Answer::Handled(_) => 0,
         Answer::Closing => 1,
         Answer::Closed => 2,
         Answer::ShortOut => 3,
@@ -115,8 +91,8 @@ pub fn answer_number(a: Answer) -> u8
         Answer::BadState => 5,
         Answer::Waiting => 6,
         Answer::BadSettings => 7,
-        Answer::BadForm { offset: _ } => 8,
-        Answer::Forbidden { offset: _ } => 9,
+        Answer::BadForm { .. } => 8,
+        Answer::Forbidden { .. } => 9,
         Answer::Busy => 10,
         Answer::NotApplicable => 14,
     }
@@ -126,70 +102,60 @@ pub fn answer_number(a: Answer) -> u8
 pub fn answer_count(a: Answer) -> usize
     ensures { result ≡ (paper a).count }
 {
-    match a {
-        Answer::Handled(values) => values.count,
-        Answer::Closing => 0,
-        Answer::Closed => 0,
-        Answer::ShortOut => 0,
-        Answer::BadVcpu => 0,
-        Answer::BadState => 0,
-        Answer::Waiting => 0,
-        Answer::BadSettings => 0,
-        Answer::BadForm { offset: _ } => 0,
-        Answer::Forbidden { offset: _ } => 0,
-        Answer::Busy => 0,
-        Answer::NotApplicable => 0,
-    }
+    kvmi::answers::values(a).count
 }
 
 // Whether the message that got this answer closed its session.
 pub fn closes(a: Answer) -> bool
     ensures { result ≡ eqb (paper a).number 1 }
 {
-    answer_number(a) == 1
+    matches!(a, Answer::Closing)
 }
 
-fn id_of(msg: &[u8]) -> Number
+#[tactic(auto, unfolding(crate::specs::Line::line_id))]
+fn id_of(msg: &[u8]) -> Option<u32>
     ensures { result ≡ line_id msg.now }
 {
     if msg.len() < 2 {
-        return Number::Missing;
+        return None;
     }
-    Number::Shown(wire::load16(msg, 0) as u32)
+    Some(wire::load::<u16>(msg, 0) as u32)
 }
 
-fn seq_of(msg: &[u8]) -> Number
+#[tactic(auto, unfolding(crate::specs::Line::seq_of))]
+fn seq_of(msg: &[u8]) -> Option<u32>
     ensures { result ≡ seq_of msg.now }
 {
     if msg.len() < 8 {
-        return Number::Missing;
+        return None;
     }
-    Number::Shown(wire::load32(msg, 4))
+    Some(wire::load::<u32>(msg, 4))
 }
 
 // Where the error stands in what was written: a CMD_ERROR has it at another place than a reply.
+#[tactic(auto, unfolding(crate::specs::Line::error_at, crate::specs::Line::is_command_error))]
 fn error_at(out: &[u8], count: usize) -> usize
     ensures { result ≡ error_at out.now count }
 {
-    if count != 568 {
-        return 8;
+    if count == 568 && wire::load::<u16>(out, 0) == 17 {
+        552
+    } else {
+        8
     }
-    if wire::load16(out, 0) != 17 {
-        return 8;
-    }
-    552
 }
 
-fn error_of(out: &[u8], count: usize) -> Code
+#[tactic(auto, unfolding(crate::specs::Line::error_of))]
+fn error_of(out: &[u8], count: usize) -> Option<i32>
     ensures { result ≡ error_of out.now count }
 {
     if count == 0 {
-        return Code::Unwritten;
+        return None;
     }
-    Code::Written(signed(wire::load32(out, error_at(out, count))))
+    Some(signed(wire::load::<u32>(out, error_at(out, count))))
 }
 
 // What is told of a message, by the output after it and its answer.
+#[tactic(auto, unfolding(crate::specs::Line::line_of))]
 pub fn describe(msg: &[u8], out: &[u8], answer: Answer) -> Line
     ensures { result ≡ line_of msg.now out.now (paper answer) }
 {

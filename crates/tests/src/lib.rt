@@ -12,7 +12,7 @@ ghost use Rattle.tests.specs.Known.{is_known};
 
 use kvmi::{Handler, ReplyKind, ReplyMode, Settings, SizeRule};
 
-// ---- numbers
+// ---- numbers; sets of them by `|`: a `matches!` of numbers is proved by answers to goals whose names may change
 
 // Whether a flag of the settings is set.
 pub fn is_set(flag: u8) -> bool
@@ -47,25 +47,21 @@ pub fn allows_command(commands: u32, id: u16) -> bool
 pub fn allows_event(events: u32, event: u16) -> bool
     ensures { result ≡ is_on events event }
 {
-    if event < 32 {
-        (events >> event) % 2 == 1
-    } else {
-        false
-    }
+    event < 32 && (events >> event) % 2 == 1
 }
 
 // Whether VM_CHECK_COMMAND takes a command.
 pub fn is_command(id: u16) -> bool
     ensures { result ≡ (leb 1 id && leb id 15) }
 {
-    (1 <= id) & (id <= 15)
+    matches!(id, 1..=15)
 }
 
 // Whether VM_CHECK_EVENT takes an event.
 pub fn is_event(e: u16) -> bool
     ensures { result ≡ (leb 1 e && leb e 14) }
 {
-    (1 <= e) & (e <= 14)
+    matches!(e, 1..=14)
 }
 
 // Whether VM_CONTROL_EVENTS takes an event.
@@ -95,19 +91,17 @@ fn accesses(settings: Settings) -> u32
     ensures { result ≡ cond (has_execute_only settings) 0xBB 0xAB }
 {
     if is_set(settings.execute_only) {
-        return 0xBB;
+        0xBB
+    } else {
+        0xAB
     }
-    0xAB
 }
 
 // Whether a page can have an access under settings.
 pub fn takes_access(settings: Settings, a: u8) -> bool
     ensures { result ≡ takes_access settings a }
 {
-    if 7 < a {
-        return false;
-    }
-    (accesses(settings) >> a) % 2 == 1
+    a <= 7 && (accesses(settings) >> a) % 2 == 1
 }
 
 // ---- guest memory
@@ -116,11 +110,7 @@ pub fn takes_access(settings: Settings, a: u8) -> bool
 pub fn in_one_page(gpa: u64, size: u64) -> bool
     ensures { result ≡ in_one_page gpa size }
 {
-    if 4096 < size {
-        false
-    } else {
-        (1 <= size) & (gpa % 4096 + size <= 4096)
-    }
+    size <= 4096 && (1 <= size) & (gpa % 4096 + size <= 4096)
 }
 
 // Whether an address's page lies wholly inside the guest memory that is lent.
@@ -135,24 +125,18 @@ pub fn page_exists(guest: usize, gpa: u64) -> bool
 pub fn replies_on(mode: ReplyMode) -> bool
     ensures { result ≡ replies_on mode }
 {
-    match mode {
-        ReplyMode::On => true,
-        ReplyMode::Off => false,
-        ReplyMode::ErrorsOnly => false,
-    }
+    matches!(mode, ReplyMode::On)
 }
 
 // The mode that VM_CONTROL_CMD_RESPONSE sets. Its flag counts only where replies go off.
 pub fn mode_from(enable: bool, flag: bool) -> ReplyMode
     ensures { result ≡ mode_of enable flag }
 {
-    if enable {
-        return ReplyMode::On;
+    match (enable, flag) {
+        (true, _) => ReplyMode::On,
+        (false, true) => ReplyMode::ErrorsOnly,
+        (false, false) => ReplyMode::Off,
     }
-    if flag {
-        return ReplyMode::ErrorsOnly;
-    }
-    ReplyMode::Off
 }
 
 // ---- the table's row of a message
@@ -160,20 +144,13 @@ pub fn mode_from(enable: bool, flag: bool) -> ReplyMode
 pub fn is_known(handler: Handler) -> bool
     ensures { result ≡ is_known handler }
 {
-    match handler {
-        Handler::Unknown => false,
-        _ => true,
-    }
+    !matches!(handler, Handler::Unknown)
 }
 
 pub fn carries_data(reply: ReplyKind) -> bool
     ensures { result ≡ carries_data reply }
 {
-    match reply {
-        ReplyKind::WithData => true,
-        ReplyKind::CodeOnly => false,
-        ReplyKind::Silent => false,
-    }
+    matches!(reply, ReplyKind::WithData)
 }
 
 // Whether a message has as many data bytes as its row says. Its size field may be any number: nothing here wraps.
@@ -183,12 +160,7 @@ pub fn size_fits(rule: SizeRule, d: &[u8]) -> bool
     let n = d.len();
     match rule {
         SizeRule::Exactly { bytes } => n == bytes as usize,
-        SizeRule::SizeField => {
-            if n < 16 {
-                return false;
-            }
-            (n - 16) as u64 == wire::load64(d, 8)
-        }
+        SizeRule::SizeField => 16 <= n && (n - 16) as u64 == wire::load::<u64>(d, 8),
         SizeRule::Entries => 8 <= n,
         SizeRule::ByEvent => 16 <= n,
         SizeRule::Unruled => true,

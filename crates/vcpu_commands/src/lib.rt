@@ -16,7 +16,7 @@ use session::Session;
 pub fn get_vcpu_info(settings: Settings, facts: Facts, padding: usize, d: &[u8]) -> Verdict
     ensures { result ≡ command_verdict_by padding settings facts 8 d.now }
 {
-    let vcpu = wire::load16(d, 0);
+    let vcpu = wire::load::<u16>(d, 0);
     let invalid = (padding != 0) | (settings.vcpus <= vcpu as u32);
     Causes::new(invalid, !facts.ready).decide(Change::Nothing)
 }
@@ -25,7 +25,7 @@ pub fn get_vcpu_info(settings: Settings, facts: Facts, padding: usize, d: &[u8])
 fn pause_vcpu(settings: Settings, facts: Facts, padding: usize, d: &[u8]) -> Verdict
     ensures { result ≡ command_verdict_by padding settings facts 9 d.now }
 {
-    let vcpu = wire::load16(d, 0);
+    let vcpu = wire::load::<u16>(d, 0);
     let wait = wire::byte(d, 8);
     let malformed = tests::is_malformed(padding, settings.vcpus, vcpu, wait);
     if !facts.ready {
@@ -62,8 +62,8 @@ pub fn pause(settings: Settings, facts: Facts, d: &[u8]) -> Judgement
 pub fn control_vcpu_events(settings: Settings, facts: Facts, padding: usize, d: &[u8]) -> Verdict
     ensures { result ≡ command_verdict_by padding settings facts 10 d.now }
 {
-    let vcpu = wire::load16(d, 0);
-    let event = wire::load16(d, 8);
+    let vcpu = wire::load::<u16>(d, 0);
+    let event = wire::load::<u16>(d, 8);
     let enable = wire::byte(d, 10);
     let on = enable == 1;
     let malformed = tests::is_malformed(padding, settings.vcpus, vcpu, enable);
@@ -94,9 +94,9 @@ pub fn control_vcpu_events(settings: Settings, facts: Facts, padding: usize, d: 
 pub fn control_cr(settings: Settings, facts: Facts, padding: usize, d: &[u8]) -> Verdict
     ensures { result ≡ command_verdict_by padding settings facts 11 d.now }
 {
-    let vcpu = wire::load16(d, 0);
+    let vcpu = wire::load::<u16>(d, 0);
     let enable = wire::byte(d, 8);
-    let cr = wire::load32(d, 12);
+    let cr = wire::load::<u32>(d, 12);
     let malformed = tests::is_malformed(padding, settings.vcpus, vcpu, enable);
     let invalid = malformed | !tests::is_cr(cr);
     if !facts.ready {
@@ -116,9 +116,9 @@ pub fn control_cr(settings: Settings, facts: Facts, padding: usize, d: &[u8]) ->
 pub fn control_msr(settings: Settings, facts: Facts, padding: usize, d: &[u8]) -> Verdict
     ensures { result ≡ command_verdict_by padding settings facts 12 d.now }
 {
-    let vcpu = wire::load16(d, 0);
+    let vcpu = wire::load::<u16>(d, 0);
     let enable = wire::byte(d, 8);
-    let msr = wire::load32(d, 12);
+    let msr = wire::load::<u32>(d, 12);
     let malformed = tests::is_malformed(padding, settings.vcpus, vcpu, enable);
     let invalid = malformed | !msrs::is_msr(msr);
     if !facts.ready {
@@ -138,11 +138,13 @@ pub fn control_msr(settings: Settings, facts: Facts, padding: usize, d: &[u8]) -
 pub fn control_singlestep(settings: Settings, facts: Facts, padding: usize, d: &[u8]) -> Verdict
     ensures { result ≡ command_verdict_by padding settings facts 14 d.now }
 {
-    let vcpu = wire::load16(d, 0);
+    let vcpu = wire::load::<u16>(d, 0);
     let enable = wire::byte(d, 8);
     let malformed = tests::is_malformed(padding, settings.vcpus, vcpu, enable);
-    let mut c = Causes::new(malformed, !facts.ready);
-    c.unsupported = !tests::is_set(settings.singlestep);
+    let c = Causes {
+        unsupported: !tests::is_set(settings.singlestep),
+        ..Causes::new(malformed, !facts.ready)
+    };
     c.decide(Change::SetSinglestep {
         vcpu,
         on: enable == 1,

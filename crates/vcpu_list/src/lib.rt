@@ -1,9 +1,10 @@
 // vCPU records as a list that the host lends, for a host that keeps them itself: marking one ready, and one CR switch.
-// What is done to a record is a function on the record by value; the two over the list reach the record and store it back.
+// What is done to a record is a function on the record by value; `at_record` reaches the record and stores it back.
 #![tactic(auto)]
 
-ghost use Rattle.std.specs.Prelude.{◌≡◌};
-ghost use Rattle.vcpu_list.specs.List.{one, listed, acknowledged, one_ready, one_cr, marked_ready, cr_set};
+ghost use Rattle.std.specs.Prelude.{◌≡◌, ◌<◌, ◌≤◌, length, slice_index_or};
+ghost use Rattle.vcpu_list.specs.declared.Changed.{Changed};
+ghost use Rattle.vcpu_list.specs.List.{one, listed, blank, stored, acknowledged, one_ready, one_cr, marked_ready, cr_set};
 
 use kvmi::Answer;
 
@@ -42,6 +43,7 @@ fn handled(vcpu: Vcpu) -> Changed
 }
 
 // Ready from now on.
+#[tactic(auto, unfolding(crate::specs::List::one_ready))]
 pub fn readied(mut v: Vcpu) -> Changed
     ensures { one result ≡ one_ready v }
 {
@@ -50,43 +52,50 @@ pub fn readied(mut v: Vcpu) -> Changed
 }
 
 // The switch of one control register, where there is one for it and the record is ready.
+#[tactic(auto, unfolding(crate::specs::List::one_cr))]
 pub fn with_cr(mut v: Vcpu, cr: u32, on: bool) -> Changed
     ensures { one result ≡ one_cr v cr on }
 {
     if tests::is_cr(cr) & (v.ready != 0) {
         v.crs = store::bits::put_cr(v.crs, cr, on);
-        return handled(v);
+        handled(v)
+    } else {
+        Changed {
+            vcpu: v,
+            answer: Answer::NotApplicable,
+        }
     }
-    Changed {
-        vcpu: v,
-        answer: Answer::NotApplicable,
+}
+
+// Record i as `change` leaves it, if there is one. All other records are as they were.
+#[tactic(auto, using(std::proofs::lemmas::List::get_or_default))]
+fn at_record<F: FnOnce(Vcpu) -> Changed>(vcpus: &mut [Vcpu], i: usize, change: F) -> Answer
+    requires { F.IsAlwaysCallable change }
+    ensures inside { i < length vcpus.old → (c : Changed) × F.post change (slice_index_or vcpus.old i blank) c × (listed result vcpus.new ≡ stored vcpus.old i (one c)) }
+    ensures outside { length vcpus.old ≤ i → listed result vcpus.new ≡ listed Answer.BadVcpu vcpus.old }
+{
+    if i < vcpus.len() {
+        let vcpu = &mut vcpus[i];
+        let changed = change(*vcpu);
+        *vcpu = changed.vcpu;
+        changed.answer
+    } else {
+        Answer::BadVcpu
     }
 }
 
 // Record i can be introspected from now on. Its other fields and all other records are as they were.
+#[tactic(auto, unfolding(crate::specs::List::marked_ready, crate::specs::List::on_record))]
 pub fn mark_ready(vcpus: &mut [Vcpu], i: usize) -> Answer
     ensures { listed result vcpus.new ≡ marked_ready vcpus.old i }
 {
-    if i < vcpus.len() {
-        let p = &mut vcpus[i];
-        let c = readied(*p);
-        *p = c.vcpu;
-        return c.answer;
-    } else {
-        return Answer::BadVcpu;
-    }
+    at_record(vcpus, i, readied)
 }
 
 // One CR switch of record i. Its other fields and all other records are as they were.
+#[tactic(auto, unfolding(crate::specs::List::cr_set, crate::specs::List::on_record))]
 pub fn set_cr(vcpus: &mut [Vcpu], i: usize, cr: u32, on: bool) -> Answer
     ensures { listed result vcpus.new ≡ cr_set vcpus.old i cr on }
 {
-    if i < vcpus.len() {
-        let p = &mut vcpus[i];
-        let c = with_cr(*p, cr, on);
-        *p = c.vcpu;
-        return c.answer;
-    } else {
-        return Answer::BadVcpu;
-    }
+    at_record(vcpus, i, |v| with_cr(v, cr, on))
 }

@@ -13,10 +13,12 @@ use kvmi::{Change, Facts, Settings, Verdict};
 pub fn check_command(settings: Settings, facts: Facts, padding: usize, d: &[u8]) -> Verdict
     ensures { result ≡ command_verdict_by padding settings facts 2 d.now }
 {
-    let id = wire::load16(d, 0);
+    let id = wire::load::<u16>(d, 0);
     let invalid = (padding != 0) | !tests::is_command(id);
-    let mut c = Causes::new(invalid, false);
-    c.denied = !tests::allows_command(settings.commands, id);
+    let c = Causes {
+        denied: !tests::allows_command(settings.commands, id),
+        ..Causes::new(invalid, false)
+    };
     c.decide(Change::Nothing)
 }
 
@@ -24,10 +26,12 @@ pub fn check_command(settings: Settings, facts: Facts, padding: usize, d: &[u8])
 pub fn check_event(settings: Settings, facts: Facts, padding: usize, d: &[u8]) -> Verdict
     ensures { result ≡ command_verdict_by padding settings facts 3 d.now }
 {
-    let event = wire::load16(d, 0);
+    let event = wire::load::<u16>(d, 0);
     let invalid = (padding != 0) | !tests::is_event(event);
-    let mut c = Causes::new(invalid, false);
-    c.denied = !tests::allows_event(settings.events, event);
+    let c = Causes {
+        denied: !tests::allows_event(settings.events, event),
+        ..Causes::new(invalid, false)
+    };
     c.decide(Change::Nothing)
 }
 
@@ -35,11 +39,13 @@ pub fn check_event(settings: Settings, facts: Facts, padding: usize, d: &[u8]) -
 pub fn control_vm_events(settings: Settings, facts: Facts, padding: usize, d: &[u8]) -> Verdict
     ensures { result ≡ command_verdict_by padding settings facts 5 d.now }
 {
-    let event = wire::load16(d, 0);
+    let event = wire::load::<u16>(d, 0);
     let enable = wire::byte(d, 2);
     let malformed = (padding != 0) | !tests::is_switch(enable);
-    let mut c = Causes::new(malformed | !tests::is_vm_event(event), false);
-    c.denied = !tests::allows_event(settings.events, event);
+    let c = Causes {
+        denied: !tests::allows_event(settings.events, event),
+        ..Causes::new(malformed | !tests::is_vm_event(event), false)
+    };
     c.decide(Change::SetVmEvent {
         event,
         on: enable == 1,
@@ -50,16 +56,17 @@ pub fn control_vm_events(settings: Settings, facts: Facts, padding: usize, d: &[
 fn physical(guest: usize, gpa: u64, size: u64) -> Causes
     ensures { result ≡ physical_causes guest gpa size }
 {
-    let mut c = Causes::new(!tests::in_one_page(gpa, size), false);
-    c.absent = !tests::page_exists(guest, gpa);
-    c
+    Causes {
+        absent: !tests::page_exists(guest, gpa),
+        ..Causes::new(!tests::in_one_page(gpa, size), false)
+    }
 }
 
 // VM_READ_PHYSICAL.
 pub fn read_physical(settings: Settings, facts: Facts, d: &[u8]) -> Verdict
     ensures { result ≡ command_verdict settings facts 6 d.now }
 {
-    let c = physical(facts.guest, wire::load64(d, 0), wire::load64(d, 8));
+    let c = physical(facts.guest, wire::load(d, 0), wire::load(d, 8));
     c.decide(Change::Nothing)
 }
 
@@ -67,8 +74,8 @@ pub fn read_physical(settings: Settings, facts: Facts, d: &[u8]) -> Verdict
 pub fn write_physical(settings: Settings, facts: Facts, d: &[u8]) -> Verdict
     ensures { result ≡ command_verdict settings facts 7 d.now }
 {
-    let gpa = wire::load64(d, 0);
-    let c = physical(facts.guest, gpa, wire::load64(d, 8));
+    let gpa = wire::load::<u64>(d, 0);
+    let c = physical(facts.guest, gpa, wire::load(d, 8));
     c.decide(Change::WritePhysical { gpa })
 }
 
@@ -76,8 +83,8 @@ pub fn write_physical(settings: Settings, facts: Facts, d: &[u8]) -> Verdict
 pub fn set_page_access(settings: Settings, facts: Facts, padding: usize, d: &[u8]) -> Verdict
     ensures { result ≡ command_verdict_by padding settings facts 13 d.now }
 {
-    let count = wire::load16(d, 0);
-    let view = wire::load16(d, 2);
+    let count = wire::load::<u16>(d, 0);
+    let view = wire::load::<u16>(d, 2);
     let malformed = (padding != 0) | (settings.views <= view as u32);
     let c = Causes::new(
         malformed | !padding::entries::entries_fit(settings, d),
@@ -94,8 +101,10 @@ pub fn control_replies(settings: Settings, facts: Facts, padding: usize, d: &[u8
     let now = wire::byte(d, 1);
     let flag = wire::byte(d, 2);
     let switches = tests::is_switch(enable) & (tests::is_switch(now) & tests::is_switch(flag));
-    let mut c = Causes::new((padding != 0) | !switches, false);
-    c.closing = (enable != 1) & (flag == 1) & !tests::allows_event(settings.events, 13);
+    let c = Causes {
+        closing: (enable != 1) & (flag == 1) & !tests::allows_event(settings.events, 13),
+        ..Causes::new((padding != 0) | !switches, false)
+    };
     let mode = tests::mode_from(enable == 1, flag == 1);
     c.decide(Change::SetReplies {
         mode,

@@ -9,15 +9,18 @@ use native.Mathlib.Numerals.{add-one}
 use native.Mathlib.Omega.{arith}
 use lib.Arith.{digits_div, digits_mod, mod-mul}
 use lib.Dec.{leb, ltb, eqb}
-use lib.ListN.{length, get_or, set, take, drop, length-append, length-take, length-drop, length-set, take-append-drop, get_or-eq_default}
+use lib.ListN.{length, get_or, set, take, drop, length-append, length-take, length-drop, take-append-drop, get_or-eq_default, length-set}
 use lib.Pow.{are_bytes}
-use lib.Seq.{drop_at, drop-cons, drop-drop, take_at, take-append_seam, take-length, paste, paste-zero, paste-suc, take-add, drop-append-le, drop-append_seam, append_snoc, set_split, set_out, take-append-le, take-take}
-use mir.Syntax.{w8}
+use lib.Seq.{drop_at, drop-cons, drop-drop, take_at, take-append_seam, take-add, drop-append-le, drop-append_seam, append_snoc, set_split, set_out, take-append-le, take-take, paste, paste-zero, paste-suc, take-length}
+use borrow.Rule.Slice.PartMut.{put_mid}
+use mir.Syntax.{Width, w8}
 use mir.Val.{Fits}
 use borrow.Author.Tests.{ltb-true, lt-ltb, le-leb, lt-leb, leb-true, leb-false, eqb-true, eq-eqb, ne_eqb}
+use Rattle.std.specs.Int.{byte_at, byte_len, bytes_low_first, to_le_bytes}
 use Rattle.wire.specs.Bytes.{le, num, load, store}
-use Rattle.wire.specs.Header.{is_whole, header_of}
-use Rattle.wire.specs.declared.Header.TheVariants.{Whole, Broken}
+use Rattle.wire.specs.Header.{is_whole, whole, header_of}
+use Rattle.wire.specs.declared.Header.{Header}
+use Rattle.std.specs.Prelude.{None}
 
 -- ---- tests
 
@@ -123,6 +126,19 @@ le-append (suc j) k n =
 pub le_join : (j k n : ℕ) → le j (n % 256 ^ j) ++ le k (n / 256 ^ j) ≡ le (j + k) n
 le_join j k n = rw (low-digits, le-append)
 
+-- the library's `to_le_bytes`
+byte_at-digit : (i n : ℕ) → byte_at i n ≡ n / 256 ^ i % 256
+byte_at-digit zero n = rw div-one
+byte_at-digit (suc i) n = refl
+
+bytes_low_first-le : (i k n : ℕ) → bytes_low_first i k n ≡ le k (n / 256 ^ i)
+unfolding le
+bytes_low_first-le i zero n = refl
+bytes_low_first-le i (suc k) n = rw (byte_at-digit i n, bytes_low_first-le (suc i) k n, pow-suc, div-div-eq-div-mul)
+
+pub to_le_bytes-le : (w : Width) (n : ℕ) → to_le_bytes w n ≡ le (byte_len w) n
+to_le_bytes-le w n = rw (bytes_low_first-le 0 (byte_len w) n, div-one)
+
 -- what stands behind the bytes of a number does not count
 pub num-front : (k : ℕ) (s t : List ℕ) → k ≤ length s → num k (s ++ t) ≡ num k s
 unfolding num
@@ -164,6 +180,16 @@ load-join j k s at h =
       num-join,
       drop-drop,
     )
+
+-- as the library's `from_le_bytes` adds it up
+pub load_two : (s : List ℕ) (at next : ℕ) → next ≡ at + 1 → at + 2 ≤ length s → load 2 s at ≡ get_or s at 0 + 256 * get_or s next 0
+load_two s at next e h = rw e (omega (arith, load-join 1 1 s at h, load_byte s at, load_byte s (at + 1)))
+
+pub load_four : (s : List ℕ) (at third : ℕ) → third ≡ at + 2 → at + 4 ≤ length s → load 4 s at ≡ load 2 s at + 65536 * load 2 s third
+load_four s at third e h = rw e (load-join 2 2 s at h)
+
+pub load_eight : (s : List ℕ) (at : ℕ) → at + 8 ≤ length s → load 8 s at ≡ load 4 s at + 4294967296 * load 4 s (at + 4)
+load_eight s at h = load-join 4 4 s at h
 
 pub load-bound : (k : ℕ) (s : List ℕ) (at : ℕ) → So (are_bytes s) → load k s at < 256 ^ k
 load-bound k s at b = ⊎_elim
@@ -356,7 +382,9 @@ load_after k s at v place h =
     let e : at + length v + (place - (at + length v)) ≡ place = omega arith in
     rw (← e, ← load-drop k (at + length v) (store s at v) (place - (at + length v)), drop-store (at + length v) s at v (omega arith), load-drop)
 
--- ---- a loop that stores byte after byte
+-- what a part of a slice holds when it comes back is stored at its place
+pub put_mid-store : (s v : List ℕ) (at k : ℕ) → at + length v ≤ length s → k ≡ length v → put_mid at k s v ≡ store s at v
+put_mid-store s v at k h e = rw (e, store-whole s at v h, append_assoc, drop-drop)
 
 -- the first i of the bytes v are at their place in what was s
 pub record Copied (s : List ℕ) (at : ℕ) (v out : List ℕ) (i : ℕ) : Type 0 where
@@ -393,31 +421,32 @@ pub record HasHeader (s : List ℕ) (id size seq : ℕ) : Type 0 where
   pub size-there : size ≡ load 2 s 2
   pub seq-there : seq ≡ load 4 s 4
 
-pub has-header : (s : List ℕ) (id size seq : ℕ) → header_of s ≡ Whole id size seq → HasHeader s id size seq
+pub has-header : (s : List ℕ) (id size seq : ℕ) → header_of s ≡ whole id size seq → HasHeader s id size seq
 unfolding header_of is_whole
 has-header s id size seq h = go (is_whole s) refl
   where
     go : (t : Bool) → is_whole s ≡ t → HasHeader s id size seq
     go true p =
-        let e : Whole (load 2 s 0) (load 2 s 2) (load 4 s 4) ≡ Whole id size seq = simp p at h in
+        let e : whole (load 2 s 0) (load 2 s 2) (load 4 s 4) ≡ whole id size seq = simp p at h in
+        let same : ◌≡◌ {A = Header} (record { id = load 2 s 0; size = load 2 s 2; seq = load 4 s 4 }) (record { id = id; size = size; seq = seq }) = cc in
         let both = (and-eq-true_iff (leb 8 (length s)) (eqb (length s) (8 + load 2 s 2))).0 p in
         record {
           long = leb-true 8 (length s) both.0;
-          whole = eqb-true (length s) (8 + load 2 s 2) both.1 ∙ ap (λ (n : ℕ). 8 + n) (cc);
-          id-there = cc;
-          size-there = cc;
-          seq-there = cc;
+          whole = eqb-true (length s) (8 + load 2 s 2) both.1 ∙ ap (λ (h : Header). 8 + h.size) same;
+          id-there = sym (ap (λ (h : Header). h.id) same);
+          size-there = sym (ap (λ (h : Header). h.size) same);
+          seq-there = sym (ap (λ (h : Header). h.seq) same);
         }
     go false p =
-        let e : Broken ≡ Whole id size seq = simp p at h in
+        let e : None ≡ whole id size seq = simp p at h in
         let z : ◌≡◌ {A = ℕ} 0 1 = cc in
         absurd (omega arith)
 
-pub header-whole : (s : List ℕ) → 8 ≤ length s → length s ≡ 8 + load 2 s 2 → header_of s ≡ Whole (load 2 s 0) (load 2 s 2) (load 4 s 4)
+pub header-whole : (s : List ℕ) → 8 ≤ length s → length s ≡ 8 + load 2 s 2 → header_of s ≡ whole (load 2 s 0) (load 2 s 2) (load 4 s 4)
 unfolding header_of is_whole
 header-whole s h g = simp (le-leb 8 (length s) h, eq-eqb (length s) (8 + load 2 s 2) g)
 
-pub header-broken : (s : List ℕ) → (8 ≤ length s → length s ≡ 8 + load 2 s 2 → ⊥) → header_of s ≡ Broken
+pub header-broken : (s : List ℕ) → (8 ≤ length s → length s ≡ 8 + load 2 s 2 → ⊥) → header_of s ≡ None
 unfolding header_of is_whole
 header-broken s no_Header = ⊎_elim
     (λ h. simp (le-leb 8 (length s) h, ne_eqb (length s) (8 + load 2 s 2) (no_Header h)))

@@ -3,23 +3,24 @@
 // not all inside changes nothing.
 #![tactic(auto)]
 
-ghost use Rattle.std.specs.Prelude.{◌≡◌, ◌+◌, ◌*◌, ◌≤◌, min, leb, length, get_or, replicate};
+ghost use Rattle.std.specs.Prelude.{◌≡◌, ℕ, ◌+◌, ◌≤◌, refl, min, leb, length, get_or, replicate};
 ghost use Rattle.wire.specs.Bytes.{le, load, store};
 ghost use Rattle.wire.specs.Header.{header_of};
 ghost use Rattle.wire.specs.Code.{negated, twos, code_bytes};
 
-// What stands at the start of a message: a header with all of its data behind it, or none.
+// What stands at the start of a message.
 #[derive(Clone, Copy)]
-pub enum Header {
-    Whole { id: u16, size: u16, seq: u32 },
-    Broken,
+pub struct Header {
+    pub id: u16,
+    pub size: u16,
+    pub seq: u32,
 }
 
 // The smaller of two numbers.
 pub fn smaller(a: usize, b: usize) -> usize
     ensures { result ≡ min a b }
 {
-    if a < b { a } else { b }
+    a.min(b)
 }
 
 // Whether k bytes at a place lie inside n. Nothing here can wrap, whatever the place.
@@ -33,182 +34,161 @@ fn inside(n: usize, at: usize, k: usize) -> bool
 pub fn byte(s: &[u8], at: usize) -> u8
     ensures { result ≡ get_or s.now at 0 }
 {
-    if at < s.len() { s[at] } else { 0 }
+    s.get(at).copied().unwrap_or(0)
 }
 
-// Two bytes as one number, the low one first.
-fn join16(low: u8, high: u8) -> u16
-    ensures { result ≡ low + 256 * high }
-{
-    (low as u16) + 256 * (high as u16)
+// A number that stands in bytes, the lowest first.
+pub trait Number: Copy {
+    // How many bytes it takes.
+    ghost WIDTH: { ℕ };
+
+    ghost ZERO: { Self };
+
+    // The number of a value.
+    ghost number: { Self → ℕ };
+
+    const WIDTH: usize;
+
+    const ZERO: Self;
+
+    // The number in the bytes at a place inside.
+    fn get(s: &[u8], at: usize) -> Self
+        requires { at + WIDTH ≤ length s.now }
+        ensures { number result ≡ load WIDTH s.now at };
+
+    // The number into the bytes at a place inside.
+    fn put(self, out: &mut [u8], at: usize)
+        requires { at + WIDTH ≤ length out.old }
+        ensures { out.new ≡ store out.old at (le WIDTH (number self)) };
+
+    ghost zero: { number ZERO ≡ 0 };
 }
 
-// Two numbers of 16 bits as one.
-fn join32(low: u16, high: u16) -> u32
-    ensures { result ≡ low + 65536 * high }
-{
-    (low as u32) + 65536 * (high as u32)
+impl Number for u8 {
+    ghost WIDTH = { 1 };
+
+    ghost ZERO = { 0 };
+
+    ghost number = { λ n. n };
+
+    ghost zero = { refl };
+
+    const WIDTH: usize = 1;
+
+    const ZERO: u8 = 0;
+
+    fn get(s: &[u8], at: usize) -> u8 {
+        s[at]
+    }
+
+    fn put(self, out: &mut [u8], at: usize) {
+        out[at] = self;
+    }
 }
 
-// Two numbers of 32 bits as one.
-fn join64(low: u32, high: u32) -> u64
-    ensures { result ≡ low + 4294967296 * high }
-{
-    (low as u64) + 4294967296 * (high as u64)
+impl Number for u16 {
+    ghost WIDTH = { 2 };
+
+    ghost ZERO = { 0 };
+
+    ghost number = { λ n. n };
+
+    ghost zero = { refl };
+
+    const WIDTH: usize = 2;
+
+    const ZERO: u16 = 0;
+
+    fn get(s: &[u8], at: usize) -> u16 {
+        u16::from_le_bytes([s[at], s[at + 1]])
+    }
+
+    fn put(self, out: &mut [u8], at: usize) {
+        out[at..at + 2].copy_from_slice(&self.to_le_bytes());
+    }
 }
 
-// The number in the 2 bytes at a place inside.
-fn get16(s: &[u8], at: usize) -> u16
-    requires { at + 2 ≤ length s.now }
-    ensures { result ≡ load 2 s.now at }
-{
-    let low = s[at];
-    let high = s[at + 1];
-    join16(low, high)
+impl Number for u32 {
+    ghost WIDTH = { 4 };
+
+    ghost ZERO = { 0 };
+
+    ghost number = { λ n. n };
+
+    ghost zero = { refl };
+
+    const WIDTH: usize = 4;
+
+    const ZERO: u32 = 0;
+
+    fn get(s: &[u8], at: usize) -> u32 {
+        u32::from_le_bytes([s[at], s[at + 1], s[at + 2], s[at + 3]])
+    }
+
+    fn put(self, out: &mut [u8], at: usize) {
+        out[at..at + 4].copy_from_slice(&self.to_le_bytes());
+    }
 }
 
-// The number in the 4 bytes at a place inside.
-fn get32(s: &[u8], at: usize) -> u32
-    requires { at + 4 ≤ length s.now }
-    ensures { result ≡ load 4 s.now at }
-{
-    join32(get16(s, at), get16(s, at + 2))
+impl Number for u64 {
+    ghost WIDTH = { 8 };
+
+    ghost ZERO = { 0 };
+
+    ghost number = { λ n. n };
+
+    ghost zero = { refl };
+
+    const WIDTH: usize = 8;
+
+    const ZERO: u64 = 0;
+
+    fn get(s: &[u8], at: usize) -> u64 {
+        u64::from_le_bytes([
+            s[at],
+            s[at + 1],
+            s[at + 2],
+            s[at + 3],
+            s[at + 4],
+            s[at + 5],
+            s[at + 6],
+            s[at + 7],
+        ])
+    }
+
+    fn put(self, out: &mut [u8], at: usize) {
+        out[at..at + 8].copy_from_slice(&self.to_le_bytes());
+    }
 }
 
-// The number in the 8 bytes at a place inside.
-fn get64(s: &[u8], at: usize) -> u64
-    requires { at + 8 ≤ length s.now }
-    ensures { result ≡ load 8 s.now at }
+// The number in the bytes at a place.
+pub fn load<N: Number>(s: &[u8], at: usize) -> N
+    ensures { N.number result ≡ load N.WIDTH s.now at }
 {
-    join64(get32(s, at), get32(s, at + 4))
-}
-
-// The number in the 2 bytes at a place.
-pub fn load16(s: &[u8], at: usize) -> u16
-    ensures { result ≡ load 2 s.now at }
-{
-    if inside(s.len(), at, 2) {
-        get16(s, at)
+    if inside(s.len(), at, N::WIDTH) {
+        N::get(s, at)
     } else {
-        0
+        N::ZERO
     }
 }
 
-// The number in the 4 bytes at a place.
-pub fn load32(s: &[u8], at: usize) -> u32
-    ensures { result ≡ load 4 s.now at }
+// A number into the bytes at a place.
+pub fn store<N: Number>(out: &mut [u8], at: usize, v: N)
+    ensures { out.new ≡ store out.old at (le N.WIDTH (N.number v)) }
 {
-    if inside(s.len(), at, 4) {
-        get32(s, at)
-    } else {
-        0
+    if inside(out.len(), at, N::WIDTH) {
+        v.put(out, at);
     }
 }
 
-// The number in the 8 bytes at a place.
-pub fn load64(s: &[u8], at: usize) -> u64
-    ensures { result ≡ load 8 s.now at }
-{
-    if inside(s.len(), at, 8) {
-        get64(s, at)
-    } else {
-        0
-    }
-}
-
-// A number into the 2 bytes at a place inside.
-fn put16(out: &mut [u8], at: usize, v: u16)
-    requires { at + 2 ≤ length out.old }
-    ensures { out.new ≡ store out.old at (le 2 v) }
-{
-    out[at] = (v % 256) as u8;
-    out[at + 1] = (v / 256) as u8;
-}
-
-// A number into the 4 bytes at a place inside.
-fn put32(out: &mut [u8], at: usize, v: u32)
-    requires { at + 4 ≤ length out.old }
-    ensures { out.new ≡ store out.old at (le 4 v) }
-{
-    put16(out, at, (v % 65536) as u16);
-    put16(out, at + 2, (v / 65536) as u16);
-}
-
-// A number into the 8 bytes at a place inside.
-fn put64(out: &mut [u8], at: usize, v: u64)
-    requires { at + 8 ≤ length out.old }
-    ensures { out.new ≡ store out.old at (le 8 v) }
-{
-    put32(out, at, (v % 4294967296) as u32);
-    put32(out, at + 4, (v / 4294967296) as u32);
-}
-
-// A byte at a place.
-pub fn store8(out: &mut [u8], at: usize, v: u8)
-    ensures { out.new ≡ store out.old at (le 1 v) }
-{
-    if at < out.len() {
-        out[at] = v;
-    }
-}
-
-// A number into the 2 bytes at a place.
-pub fn store16(out: &mut [u8], at: usize, v: u16)
-    ensures { out.new ≡ store out.old at (le 2 v) }
-{
-    if inside(out.len(), at, 2) {
-        put16(out, at, v);
-    }
-}
-
-// A number into the 4 bytes at a place.
-pub fn store32(out: &mut [u8], at: usize, v: u32)
-    ensures { out.new ≡ store out.old at (le 4 v) }
-{
-    if inside(out.len(), at, 4) {
-        put32(out, at, v);
-    }
-}
-
-// A number into the 8 bytes at a place.
-pub fn store64(out: &mut [u8], at: usize, v: u64)
-    ensures { out.new ≡ store out.old at (le 8 v) }
-{
-    if inside(out.len(), at, 8) {
-        put64(out, at, v);
-    }
-}
-
-// The bytes of `src` at a place where all of them lie inside.
-fn put_all(out: &mut [u8], at: usize, src: &[u8])
+// The bytes of `src` at a place where all of them lie inside, by a loop of its own: a state block, of 536 bytes, takes some 30 instructions fewer so
+// than by `copy_from_slice`, which calls the C library.
+fn copy_short(out: &mut [u8], at: usize, src: &[u8])
     requires { at + length src.now ≤ length out.old }
     ensures { out.new ≡ store out.old at src.now }
 {
-    let n = src.len();
-    let mut i = 0;
-    while i < n {
+    for i in 0..src.len() {
         out[at + i] = src[i];
-        i += 1;
-    }
-}
-
-// The same. A page or less, but not a short run, goes by way of an array that nothing else can reach: LLVM makes one memmove of both
-// copies, where a copy from slice to slice, which might overlap for all it knows, goes 16 bytes at a time.
-fn copy_inside(out: &mut [u8], at: usize, src: &[u8])
-    requires { at + length src.now ≤ length out.old }
-    ensures { out.new ≡ store out.old at src.now }
-{
-    let n = src.len();
-    if n <= 1024 {
-        put_all(out, at, src);
-    } else {
-        if n <= 4096 {
-            let mut held = [0u8; 4096];
-            put_all(&mut held, 0, src);
-            put_all(out, at, &held[..n]);
-        } else {
-            put_all(out, at, src);
-        }
     }
 }
 
@@ -218,7 +198,11 @@ pub fn copy(out: &mut [u8], at: usize, src: &[u8])
 {
     let n = src.len();
     if inside(out.len(), at, n) {
-        copy_inside(out, at, src);
+        if n <= 1024 {
+            copy_short(out, at, src);
+        } else {
+            out[at..at + n].copy_from_slice(src);
+        }
     }
 }
 
@@ -227,31 +211,27 @@ pub fn fill(out: &mut [u8], at: usize, n: usize, v: u8)
     ensures { out.new ≡ store out.old at (replicate n v) }
 {
     if inside(out.len(), at, n) {
-        let mut i = 0;
-        while i < n {
-            out[at + i] = v;
-            i += 1;
-        }
+        out[at..at + n].fill(v);
     }
 }
 
 // The header of a message whose bytes are all there, none missing and none left over.
-pub fn read_header(s: &[u8]) -> Header
+pub fn read_header(s: &[u8]) -> Option<Header>
     ensures { result ≡ header_of s.now }
 {
     let n = s.len();
     if n < 8 {
-        return Header::Broken;
+        return None;
     }
-    let size = get16(s, 2);
+    let size = u16::get(s, 2);
     if n - 8 == size as usize {
-        Header::Whole {
-            id: get16(s, 0),
+        Some(Header {
+            id: u16::get(s, 0),
             size,
-            seq: get32(s, 4),
-        }
+            seq: u32::get(s, 4),
+        })
     } else {
-        Header::Broken
+        None
     }
 }
 
@@ -266,16 +246,12 @@ pub fn negate(e: i32) -> i64
 pub fn twos_complement(e: i32) -> u32
     ensures { result ≡ twos e }
 {
-    if e < 0 {
-        ((e as i64) + 4294967296) as u32
-    } else {
-        e as u32
-    }
+    e.cast_unsigned()
 }
 
 // A code's two's complement into the 4 bytes at a place.
 pub fn store_code(out: &mut [u8], at: usize, e: i32)
     ensures { out.new ≡ store out.old at (code_bytes e) }
 {
-    store32(out, at, twos_complement(e));
+    store(out, at, twos_complement(e));
 }

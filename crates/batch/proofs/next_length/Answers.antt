@@ -4,4 +4,4 @@ use Rattle.batch.proofs.next_length.Goals as goal
 
 pub returns : goal.returns
 unfolding next_length
-returns c = rw (← c.load16.ensures) c.smaller.ensures
+returns c = rw (← c.load.ensures) c.smaller.ensures

@@ -1,7 +1,6 @@
 -- What is said of a message, as a host has it. Assumes nothing.
 use mathlib.Core.Path.{◌∙◌, ap}
 use Rattle.session.specs.Calls.{Told}
-use Rattle.message.specs.Moves.{Move}
 use Rattle.calls.specs.Given.{given, message_given}
 use Rattle.calls.proofs.message.Goals as goal
 
@@ -16,6 +15,5 @@ returns c =
       ap (λ (x : Told). x.out) t,
       ap (λ (x : Told). x.guest) t,
       c.put_result-code.ensures.1 ∙ ap (λ (x : Told). (given x).result) t,
-      ap (λ (m : Move). m.moved) c.receive-r.ensures.result_value,
-      ap (λ (m : Move). m.value) c.receive-r.ensures.result_value,
+      c.receive-r.ensures.result_value,
     )

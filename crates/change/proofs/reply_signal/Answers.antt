@@ -8,5 +8,5 @@ returns-then-action-eq2 c = rw (eq-eqb _ _ c.if-action-eq2.true)
 pub returns-then-resumes : goal.returns-then-resumes
 returns-then-resumes c = rw (ne_eqb _ _ c.if-action-eq2.false, c.if-resumes.true)
 
-pub returns : goal.returns
-returns c = rw (ne_eqb _ _ c.if-action-eq2.false, c.if-resumes.false)
+pub returns-else-resumes : goal.returns-else-resumes
+returns-else-resumes c = rw (ne_eqb _ _ c.if-action-eq2.false, c.if-resumes.false)

@@ -18,4 +18,4 @@ returns-then-not-reply_fits c = rw (← c.row-row.ensures, ← c.of_event_reply.
 
 pub returns : goal.returns
 unfolding event_reply_verdict vcpu_of
-returns c = rw (← c.row-row.ensures, ← c.of_event_reply.ensures, eq-eqb _ _ c.if-of_event_reply-ne0.false, ← c.byte.ensures, ← c.is_awaited.ensures, c.if-not-is_awaited.false, ← c.reply_fits.ensures, c.if-not-reply_fits.false, ← c.load16.ensures, ← c.byte-2.ensures, ← c.value_of.ensures, ← c.feed_by.ensures)
+returns c = rw (← c.row-row.ensures, ← c.of_event_reply.ensures, eq-eqb _ _ c.if-of_event_reply-ne0.false, ← c.byte.ensures, ← c.is_awaited.ensures, c.if-not-is_awaited.false, ← c.reply_fits.ensures, c.if-not-reply_fits.false, ← c.load.ensures, ← c.byte-2.ensures, ← c.value_of.ensures, ← c.feed_by.ensures)

@@ -1,23 +1,14 @@
--- The part that the gva chooses. Assumes nothing.
+-- The part that the context supplies, or guest memory's. Assumes nothing.
 use mathlib.Core.Path.{sym, ◌∙◌}
-use native.Mathlib.Omega.{arith}
-use Rattle.feed.specs.Fed.{fed_bytes}
-use Rattle.laws.proofs.Feeds.{in-from, in-to}
+use Rattle.kvmi.specs.declared.Feed.{Feed}
+use Rattle.feed.specs.Fed.{part_of, fed_bytes}
+use Rattle.feed.proofs.Laws.{some-of, none-of}
 use Rattle.feed.proofs.fed.Goals as goal
 
-pub overflow_sub-skipped : goal.overflow_sub-skipped
-overflow_sub-skipped c = omega (arith, in-from _ _ _ (sym c.in_context.ensures ∙ c.if-in_context.true), in-to _ _ _ (sym c.in_context.ensures ∙ c.if-in_context.true))
-
-pub overflow_add-skipped : goal.overflow_add-skipped
-overflow_add-skipped c = omega (arith, in-from _ _ _ (sym c.in_context.ensures ∙ c.if-in_context.true), in-to _ _ _ (sym c.in_context.ensures ∙ c.if-in_context.true))
-
-pub overflow_sub-size : goal.overflow_sub-size
-overflow_sub-size c = omega (arith, in-from _ _ _ (sym c.in_context.ensures ∙ c.if-in_context.true), in-to _ _ _ (sym c.in_context.ensures ∙ c.if-in_context.true))
-
-pub returns-then-in_context : goal.returns-then-in_context
+pub returns-in-Some : goal.returns-in-Some
 unfolding fed_bytes
-returns-then-in_context c = rw (← c.load64-address.ensures, ← c.load32-size.ensures, sym c.in_context.ensures ∙ c.if-in_context.true) c.part.ensures
+returns-in-Some c = rw (c.part.ensures, ← c.load.ensures, ← c.load-2.ensures) (some-of (λ (f : Feed). part_of c.args.msg.now f.at f.length) _ _ _ _ (sym c.in-Some.is ∙ c.supplied.ensures))
 
-pub returns : goal.returns
+pub returns-in-None : goal.returns-in-None
 unfolding fed_bytes
-returns c = rw (← c.load64-address.ensures, ← c.load32-size.ensures, sym c.in_context.ensures ∙ c.if-in_context.false) c.part-2.ensures
+returns-in-None c = rw (c.part-in-None.ensures, ← c.load.ensures, ← c.load-2.ensures) (none-of (λ (f : Feed). part_of c.args.msg.now f.at f.length) _ _ _ (sym c.in-None.is ∙ c.supplied.ensures))

@@ -7,6 +7,6 @@ pub returns-then-page_exists : goal.returns-then-page_exists
 unfolding page_feed
 returns-then-page_exists c = rw (sym c.page_exists.ensures ∙ c.if-page_exists.true)
 
-pub returns : goal.returns
+pub returns-else-page_exists : goal.returns-else-page_exists
 unfolding page_feed
-returns c = rw (sym c.page_exists.ensures ∙ c.if-page_exists.false)
+returns-else-page_exists c = rw (sym c.page_exists.ensures ∙ c.if-page_exists.false)

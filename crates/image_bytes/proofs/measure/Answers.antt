@@ -10,4 +10,4 @@ size_of-requires c = let b = msrs-bound c.args.vcpus.now c.stated_count-n.result
 pub returns : goal.returns
 returns c = λ events ready.
     let a = c.args in
-    stated-size events ready a.count a.used a.vcpus.now a.pages.now _ _ c.stated_count-n.ensures c.smaller-held.ensures _ _ c.count-on.ensures c.size_of.ensures
+    stated-size events ready a.count a.used a.vcpus.now a.pages.now _ _ c.stated_count-n.ensures c.min-held.ensures _ _ c.count-on.ensures c.size_of.ensures

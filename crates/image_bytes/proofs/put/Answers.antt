@@ -19,10 +19,10 @@ pub returns-then-size-out : goal.returns-then-size-out
 returns-then-size-out c =
     let a = c.args in
     let n = c.stated_count-n.ensures in
-    let held = c.smaller-held.ensures in
+    let held = c.min-held.ensures in
     let on = c.put-on.ensures in
     let size = c.size_of-size.ensures in
-    let room = c.less-room.ensures in record {
+    let room = c.saturating_sub-room.ensures in record {
       value = stated-size a.events a.ready a.count a.used a.vcpus.now a.pages.now _ _ n held _ _ on.value size;
       out_after = stated-written a.events a.ready a.count a.used a.vcpus.now a.pages.now _ _ n held _ _ on.value size a.out.now _ _ room on.out_after _ (omega arith) c.put_frame.ensures;
     }
@@ -31,10 +31,10 @@ pub returns-else-size-out : goal.returns-else-size-out
 returns-else-size-out c =
     let a = c.args in
     let n = c.stated_count-n.ensures in
-    let held = c.smaller-held.ensures in
+    let held = c.min-held.ensures in
     let on = c.put-on.ensures in
     let size = c.size_of-size.ensures in
-    let room = c.less-room.ensures in record {
+    let room = c.saturating_sub-room.ensures in record {
       value = stated-size a.events a.ready a.count a.used a.vcpus.now a.pages.now _ _ n held _ _ on.value size;
       out_after = stated-short a.events a.ready a.count a.used a.vcpus.now a.pages.now _ _ n held _ _ on.value size a.out.now _ _ room on.out_after (omega arith);
     }

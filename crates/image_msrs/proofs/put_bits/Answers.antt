@@ -1,67 +1,32 @@
--- The loop's invariant: what is left of the bytes, behind what is written, gives all of them. The measure is what is left of the bits. Assumes nothing.
-use mathlib.Core.Path.{◌≡◌, ap, ◌∙◌}
-use Prim.Native.Nat.{◌+◌, ◌-◌}
-use native.Mathlib.Omega.{arith}
-use lib.Count.{count_trailing_zeros, trailing_le}
+-- The loop's invariant: what is left of the bytes, behind what is written, gives all of them. Assumes nothing.
+use Rattle.std.proofs.Common.{◌≡◌, ◌+◌, refl, ap, ◌∙◌, arith}
 use Rattle.kvmi.specs.Record.{MS}
 use Rattle.laws.proofs.Record.{length-write}
 use Rattle.image_msrs.specs.Switches.{ms_bytes, one_at}
-use Rattle.image_msrs.proofs.Stores.{going_start, going_step}
-use Rattle.image_msrs.proofs.Switches.{going-put, lowest, bits_none, ms-first, ms-nil, ms-room, length-ms}
+use Rattle.image_msrs.proofs.Stores.{going_start, going-same, going_step}
+use Rattle.image_msrs.proofs.Switches.{going-put, bits-begin, bits_none, ms-first, ms-nil, length-ms}
 use Rattle.image_msrs.proofs.put_bits.Goals as goal
 
-pub loop-x-init : goal.loop-x-init
-loop-x-init c =
-    let all : c.args.g + 64 - c.args.g ≡ 64 = omega arith in
-    (omega arith, omega arith, rw all (omega arith), rw all (going_start _ _ _ (rw length-ms (omega arith))))
-
-pub overflow_cast-k : goal.overflow_cast-k
-overflow_cast-k c = omega (arith, trailing_le 64 c.loop-x.x)
-
-pub overflow_add-p : goal.overflow_add-p
-overflow_add-p c = omega (arith, trailing_le 64 c.loop-x.x)
+pub loop-p-init : goal.loop-p-init
+loop-p-init c =
+    let left : c.into_iter-p-iterator.result.left ≡ c.args.w = cc in
+    let at : c.into_iter-p-iterator.result.at ≡ c.args.g = cc in
+    let end : c.into_iter-p-iterator.result.end ≡ c.args.g + 64 = cc in
+    (end, going-same (going_start _ _ _ (rw length-ms (omega arith))) (ap ms_bytes (bits-begin one_at c.args.w c.args.g left at end)) refl)
 
 pub put_ms-requires : goal.put_ms-requires
 put_ms-requires c =
-    let low = lowest one_at c.loop-x.x c.loop-x.p (c.args.g + 64 - c.loop-x.p) 64 c.loop-x-test.true c.loop-x.invariant.2 (omega arith) in
-    let room = ms-room low in
-    let g = c.loop-x.invariant.3 in
-    omega (arith, low.inside, room, g.room, g.kept)
+    let step = c.in-Some.ensures.steps in
+    let g = c.loop-p.invariant.1 in
+    let room = rw (step.2 one_at, length-ms) at g.room in
+    (omega (arith, room, g.kept), omega (arith, step.0, c.loop-p.invariant.0))
 
-pub overflow_add-to : goal.overflow_add-to
-overflow_add-to c =
-    let low = lowest one_at c.loop-x.x c.loop-x.p (c.args.g + 64 - c.loop-x.p) 64 c.loop-x-test.true c.loop-x.invariant.2 (omega arith) in
-    let room = ms-room low in
-    let g = c.loop-x.invariant.3 in
-    omega (arith, room, g.room, g.kept, c.well_formed.0.0)
-
-pub overflow_add-p-in-loop-x : goal.overflow_add-p-in-loop-x
-overflow_add-p-in-loop-x c = omega (arith, trailing_le 64 c.loop-x.x)
-
-pub overflow_add-p-in-loop-x-2 : goal.overflow_add-p-in-loop-x-2
-overflow_add-p-in-loop-x-2 c = omega (arith, trailing_le 64 c.loop-x.x)
-
-pub overflow_shr-x : goal.overflow_shr-x
-overflow_shr-x c =
-    let low = lowest one_at c.loop-x.x c.loop-x.p (c.args.g + 64 - c.loop-x.p) 64 c.loop-x-test.true c.loop-x.invariant.2 (omega arith) in
-    omega (arith, low.inside)
-
-pub loop-x-smaller : goal.loop-x-smaller
-loop-x-smaller c =
-    let low = lowest one_at c.loop-x.x c.loop-x.p (c.args.g + 64 - c.loop-x.p) 64 c.loop-x-test.true c.loop-x.invariant.2 (omega arith) in
-    omega (arith, low.inside)
-
-pub loop-x-preserved : goal.loop-x-preserved
-loop-x-preserved c =
-    let low = lowest one_at c.loop-x.x c.loop-x.p (c.args.g + 64 - c.loop-x.p) 64 c.loop-x-test.true c.loop-x.invariant.2 (omega arith) in
-    let k = count_trailing_zeros 64 c.loop-x.x in
-    let left : c.args.g + 64 - c.loop-x.p - (k + 1) ≡ c.args.g + 64 - (c.loop-x.p + (k + 1)) = omega (arith, low.inside) in
-    let next = ap ms_bytes low.first ∙ ms-first _ _ in
-    let step = going_step _ _ {q = c.loop-x.to + 8} c.loop-x.invariant.3 next c.put_ms.ensures (rw (length-write MS)) in
-    (omega arith, omega (arith, low.inside), rw left at low.less, rw left at step)
-
-pub shape_of-out : goal.shape_of-out
-shape_of-out c = c.loop-x.invariant.3.kept
+pub loop-p-preserved : goal.loop-p-preserved
+loop-p-preserved c =
+    let step = c.in-Some.ensures.steps in
+    let next = ap ms_bytes (step.2 one_at) ∙ ms-first _ _ in
+    let more = going_step _ _ {q = c.loop-p.to + 8} c.loop-p.invariant.1 next c.put_ms.ensures (rw (length-write MS)) in
+    (step.1 ∙ c.loop-p.invariant.0, rw step.1 more)
 
 pub returns : goal.returns
-returns c = going-put c.loop-x.invariant.3 (rw (c.loop-x-test.false, bits_none) ms-nil)
+returns c = going-put c.loop-p.invariant.1 (rw (c.in-None.ensures.steps, bits_none) ms-nil)

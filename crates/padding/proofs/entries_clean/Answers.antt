@@ -1,4 +1,4 @@
--- The loop's invariant is that of `of_entries`. The measure is how many entries are left. Assumes nothing.
+-- The loop's invariant is that of `of_entries`. Assumes nothing.
 use mathlib.Core.Path.{sym, ap, ◌∙◌}
 use Prim.Native.Nat.{◌+◌, ◌*◌}
 use native.Mathlib.Omega.{arith}
@@ -8,33 +8,15 @@ use Rattle.padding.proofs.Parts.{padding-start, padding-clean, padding-found, pa
 use Rattle.padding.proofs.entries_clean.Goals as goal
 
 pub loop-i-init : goal.loop-i-init
-loop-i-init c = (omega arith, padding-start c.args.d.now c.args.count)
-
-pub overflow_mul-a : goal.overflow_mul-a
-overflow_mul-a c = omega arith
-
-pub overflow_add-a : goal.overflow_add-a
-overflow_add-a c = omega arith
-
-pub overflow_add-b : goal.overflow_add-b
-overflow_add-b c = omega arith
-
-pub slice_bounds-of_entry-count : goal.slice_bounds-of_entry-count
-slice_bounds-of_entry-count c = omega arith
+loop-i-init c = padding-start c.args.d.now c.args.count
 
 pub returns-then-of_entry-ne0 : goal.returns-then-of_entry-ne0
 returns-then-of_entry-ne0 c =
     let found = padding-found c.args.d.now c.args.count c.loop-i.i (omega arith) _ c.of_entry.ensures c.if-of_entry-ne0.true in
-    sym (ap (λ n. eqb n 0) (sym c.loop-i.invariant.1 ∙ found) ∙ ne_eqb (8 + 16 * c.loop-i.i + c.of_entry.result) 0 (λ z. omega (arith, z)))
-
-pub overflow_add-i : goal.overflow_add-i
-overflow_add-i c = omega arith
-
-pub loop-i-smaller : goal.loop-i-smaller
-loop-i-smaller c = omega arith
+    sym (ap (λ n. eqb n 0) (sym c.loop-i.invariant ∙ found) ∙ ne_eqb (8 + 16 * c.loop-i.i + c.of_entry.result) 0 (λ z. omega (arith, z)))
 
 pub loop-i-preserved : goal.loop-i-preserved
-loop-i-preserved c = (omega arith, padding-clean _ _ _ (omega arith) _ c.of_entry.ensures c.if-of_entry-ne0.false ∙ c.loop-i.invariant.1)
+loop-i-preserved c = padding-clean _ _ _ (omega arith) _ c.of_entry.ensures c.if-of_entry-ne0.false ∙ c.loop-i.invariant
 
 pub returns : goal.returns
-returns c = sym (eq-eqb _ 0 (sym c.loop-i.invariant.1 ∙ padding-end _ _ _ (omega arith)))
+returns c = sym (eq-eqb _ 0 (sym c.loop-i.invariant ∙ padding-end _ _ _ (omega arith)))

@@ -1,39 +1,34 @@
--- The loop's invariant: the bytes that are left say what all of them do. The measure is how many are left. Assumes nothing.
-use mathlib.Core.Path.{◌≡◌, refl, sym, ap, ◌∙◌}
-use Prim.Native.Nat.{ℕ}
+-- The loop's invariant: the bytes that are left say what all of them do. Assumes nothing.
+use mathlib.Core.Path.{◌≡◌, sym, ap, ◌∙◌}
+use mathlib.Core.Logic.{⊎_elim}
+use Prim.Native.Nat.{ℕ, ◌+◌, ◌-◌}
 use native.Mathlib.Omega.{arith}
+use lib.ListN.{length}
+use Rattle.wire.proofs.Laws.{le-or-lt}
 use Rattle.kvmi.specs.Message.{first_non_zero}
 use Rattle.padding.proofs.Runs.{run_past, run-found, run_step, run_none}
 use Rattle.padding.proofs.first_nonzero.Goals as goal
 
-pub loop-left-init : goal.loop-left-init
-loop-left-init c = refl
-
-pub returns-then-d-i : goal.returns-then-d-i
-returns-then-d-i c = sym (run_past _ _ c.loop-left.left 0 c.if-d-i.true) ∙ c.loop-left.invariant
-
-pub bounds-d-i : goal.bounds-d-i
-bounds-d-i c = omega arith
-
-pub overflow_add-result : goal.overflow_add-result
-overflow_add-result c = omega arith
-
 pub returns-then-d-i-ne0 : goal.returns-then-d-i-ne0
-returns-then-d-i-ne0 c = sym (run-found _ _ c.loop-left.left 0 (omega arith) c.if-d-i-ne0.true) ∙ c.loop-left.invariant
+returns-then-d-i-ne0 c =
+    let a = c.args in
+    sym (run-found a.d.now c.loop-i.i (a.at + a.n - c.loop-i.i) 0 (omega arith) c.if-d-i-ne0.true) ∙ c.loop-i.invariant
 
-pub overflow_add-i : goal.overflow_add-i
-overflow_add-i c = omega arith
+pub loop-i-preserved : goal.loop-i-preserved
+loop-i-preserved c =
+    let a = c.args in
+    let i = c.loop-i.i in
+    let one_less : a.at + a.n - (i + 1) ≡ a.at + a.n - i - 1 = omega arith in
+    ap (λ (m : ℕ). first_non_zero a.d.now (i + 1) m 0) one_less ∙ run_step a.d.now i (a.at + a.n - i) 0 (omega arith) c.if-d-i-ne0.false ∙ c.loop-i.invariant
 
-pub overflow_sub-left : goal.overflow_sub-left
-overflow_sub-left c = omega arith
-
-pub loop-left-smaller : goal.loop-left-smaller
-loop-left-smaller c = omega arith
-
-pub loop-left-preserved : goal.loop-left-preserved
-loop-left-preserved c = run_step _ _ c.loop-left.left 0 (omega arith) c.if-d-i-ne0.false ∙ c.loop-left.invariant
-
+-- the loop ends past the data, or past the last of the n bytes
 pub returns : goal.returns
 returns c =
-    let none_left : 0 ≡ c.loop-left.left = omega arith in
-    sym (run_none _ c.loop-left.i 0) ∙ ap (λ (m : ℕ). first_non_zero c.args.d.now c.loop-left.i m 0) none_left ∙ c.loop-left.invariant
+    let a = c.args in
+    let i = c.loop-i.i in
+    ⊎_elim
+    (λ past. sym (run_past a.d.now i (a.at + a.n - i) 0 past) ∙ c.loop-i.invariant)
+    (λ more.
+    let none_left : 0 ≡ a.at + a.n - i = omega arith in
+    sym (run_none a.d.now i 0) ∙ ap (λ (m : ℕ). first_non_zero a.d.now i m 0) none_left ∙ c.loop-i.invariant)
+    (le-or-lt (length a.d.now) i)

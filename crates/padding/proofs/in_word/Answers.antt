@@ -5,4 +5,4 @@ use Rattle.padding.proofs.Runs.{run-in-word}
 use Rattle.padding.proofs.in_word.Goals as goal
 
 pub returns-then-at-d : goal.returns-then-at-d
-returns-then-at-d c = sym (run-in-word c.args.d.now _ _ _ 0 _ c.type_inv.d (omega arith) (omega arith) c.load64.ensures c.if-at-d.true)
+returns-then-at-d c = sym (run-in-word c.args.d.now _ _ _ 0 _ c.type_inv.d (omega arith) (omega arith) c.load.ensures c.if-at-d.true)

@@ -7,22 +7,7 @@ use Rattle.page_words.proofs.place.Goals as goal
 
 pub loop-len-init : goal.loop-len-init
 unfolding place_of
-loop-len-init c = (omega arith, rw c.smaller-len.ensures)
-
-pub overflow_mul-base : goal.overflow_mul-base
-overflow_mul-base c = omega (arith, turn_inside c.args.words.now c.args.key c.loop-len.base c.loop-len.len c.loop-len-test.true c.is_below-below.result c.is_below-below.ensures)
-
-pub overflow_add-base-in-loop-len-2 : goal.overflow_add-base-in-loop-len-2
-overflow_add-base-in-loop-len-2 c = omega (arith, turn_inside c.args.words.now c.args.key c.loop-len.base c.loop-len.len c.loop-len-test.true c.is_below-below.result c.is_below-below.ensures)
-
-pub overflow_mul-len : goal.overflow_mul-len
-overflow_mul-len c = omega (arith, turn_inside c.args.words.now c.args.key c.loop-len.base c.loop-len.len c.loop-len-test.true c.is_below-below.result c.is_below-below.ensures)
-
-pub overflow_sub-len-in-loop-len : goal.overflow_sub-len-in-loop-len
-overflow_sub-len-in-loop-len c = omega (arith, turn_inside c.args.words.now c.args.key c.loop-len.base c.loop-len.len c.loop-len-test.true c.is_below-below.result c.is_below-below.ensures)
-
-pub loop-len-smaller : goal.loop-len-smaller
-loop-len-smaller c = omega (arith, turn_inside c.args.words.now c.args.key c.loop-len.base c.loop-len.len c.loop-len-test.true c.is_below-below.result c.is_below-below.ensures)
+loop-len-init c = (omega arith, rw c.min-len.ensures)
 
 pub loop-len-preserved : goal.loop-len-preserved
 loop-len-preserved c = (omega (arith, turn_inside c.args.words.now c.args.key c.loop-len.base c.loop-len.len c.loop-len-test.true c.is_below-below.result c.is_below-below.ensures), c.loop-len.invariant.1 ∙ bisect-turn _ _ _ _ c.loop-len-test.true _ c.is_below-below.ensures)

@@ -1,5 +1,4 @@
--- The loop's invariant: the entries that are left, on the words as they are, give the same as all of them at the start. The measure is how
--- many are left. Assumes nothing.
+-- The loop's invariant: the entries that are left, on the words as they are, give the same as all of them at the start. Assumes nothing.
 use mathlib.Core.Path.{◌≡◌}
 use Prim.Native.Nat.{◌≤◌, ◌-◌, ◌*◌}
 use lib.ListN.{length, drop}
@@ -9,11 +8,7 @@ use Rattle.page_words.proofs.put_entries.Given as goal
 
 abbrev pub invariant-loop-i : goal.invariant-loop-i
 invariant-loop-i l =
-    (l.i ≤ l.n)
-    × (length l.words ≡ length l.initial.words)
+    (length l.words ≡ length l.initial.words)
     × (l.t.count ≤ length l.initial.words)
     × (run_entries l.limit l.view (entries_of l.n l.d) l.initial.words l.count
     ≡ put_entries l.limit l.view (entries_of (l.n - l.i) (drop (l.i * 16) l.d)) l.hint (page_table l.words l.t.count l.t.skipped))
-
-abbrev pub decreases-loop-i : goal.decreases-loop-i
-decreases-loop-i l = l.n - l.i

@@ -1,35 +1,28 @@
--- The loop's invariant: the entries that are left, on the copy as it is, give the same as all of them on the words. The measure is how many
--- are left. Assumes nothing.
+-- The loop's invariant: the entries that are left, on the copy as it is, give the same as all of them on the words. Assumes nothing.
 use mathlib.Core.Path.{◌≡◌, sym, ap, ◌∙◌}
 use Prim.Native.Nat.{◌-◌}
 use native.Mathlib.Omega.{arith}
 use Rattle.page_words.specs.PageWords.{PageTable, key_of, page_table, run_entries}
-use Rattle.page_words.proofs.PageLaws.{near-bound, part-clamped, page-bound, put-bound, run-entry, run_end}
+use Rattle.page_words.proofs.PageLaws.{near_bound, part-clamped, put-bound, run-entry, run_end}
 use Rattle.page_words.proofs.would_skip.Goals as goal
 
 pub loop-i-init : goal.loop-i-init
 unfolding run_entries
 loop-i-init c =
     let e : c.args.n - 0 ≡ c.args.n = omega arith in
-    (omega arith, omega arith, omega arith, rw (c.smaller.ensures, e))
-
-pub overflow_add-key : goal.overflow_add-key
-overflow_add-key c = omega (arith, page-bound _ c.read_entry-e.ensures.0)
-
-pub put_entry-t-requires : goal.put_entry-t-requires
-put_entry-t-requires c = omega (arith, near-bound _ _ _ _ c.near-at.ensures, page-bound _ c.read_entry-e.ensures.0)
+    (omega arith, omega arith, rw (c.min.ensures, e))
 
 pub loop-i-preserved : goal.loop-i-preserved
 unfolding key_of
 loop-i-preserved c =
     let l = c.loop-i in
-    let p = part-clamped _ _ _ _ c.smaller-a.ensures c.smaller-b.ensures in
+    let p = part-clamped _ _ _ _ c.min-a.ensures c.min-b.ensures in
     let e = c.read_entry-e.ensures in
     let next = run-entry c.args.n l.i _ _ _ _ _ _ _ _ _ _ _ (omega arith) p e.0 e.1 c.near-at.ensures c.put_entry-t.ensures c.next_hint-hint.ensures in
-    let bound = put-bound _ _ _ _ (page_table l.copy l.t.count l.t.skipped) _ (near-bound _ _ _ _ c.near-at.ensures) (omega arith) c.put_entry-t.ensures in
-    (omega arith, omega arith, omega arith, l.invariant.3 ∙ next)
+    let bound = put-bound _ _ _ _ (page_table l.copy l.t.count l.t.skipped) _ (near_bound _ _ _ _ c.near-at.ensures) (omega arith) c.put_entry-t.ensures in
+    (omega arith, omega arith, l.invariant.2 ∙ next)
 
 pub returns : goal.returns
 returns c =
     let l = c.loop-i in
-    sym (ap (λ (t : PageTable). t.skipped) (l.invariant.3 ∙ run_end c.args.n l.i _ _ _ _ _ (omega arith)))
+    sym (ap (λ (t : PageTable). t.skipped) (l.invariant.2 ∙ run_end c.args.n l.i _ _ _ _ _ (omega arith)))

@@ -10,5 +10,5 @@ pub returns : goal.returns
 unfolding start_of
 returns c =
     let begun = ap (λ (t : Told). t.state) c.fresh-begun.ensures ∙ ap (λ (s : Settings). (fresh_of s c.args.vcpus.now c.args.pages.now).state) c.settings.ensures in
-    let first = ap (λ (t : Told). t.state) (c.ready-first.ensures _ _) ∙ ap (λ (st : State). (ready_of st 0).state) begun in
-    ap (λ (t : Told). t.state) (c.ready-second.ensures _ _) ∙ ap (λ (st : State). (ready_of st 1).state) first
+    let first = ap (λ (t : Told). t.state) (c.ready.ensures _ _) ∙ ap (λ (st : State). (ready_of st 0).state) begun in
+    ap (λ (t : Told). t.state) (c.ready-2.ensures _ _) ∙ ap (λ (st : State). (ready_of st 1).state) first

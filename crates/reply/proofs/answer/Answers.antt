@@ -1,6 +1,5 @@
 -- Each kind by itself. Assumes nothing.
 use mathlib.Core.Path.{refl}
-use mir.Facts.{to_z-of_z}
 use Rattle.kvmi.specs.Reply.{answer_of}
 use Rattle.reply.specs.Off.{kind_tells}
 use Rattle.reply.proofs.Laws.{written_none}
@@ -8,11 +7,11 @@ use Rattle.reply.proofs.answer.Goals as goal
 
 pub returns-in-CodeOnly : goal.returns-in-CodeOnly
 unfolding answer_of kind_tells
-returns-in-CodeOnly c = rw c.in-CodeOnly.is (rw (to_z-of_z c.ranges.code) at c.answer_code.ensures)
+returns-in-CodeOnly c = rw c.in-CodeOnly.is c.answer_code.ensures
 
 pub returns-in-WithData : goal.returns-in-WithData
 unfolding answer_of kind_tells
-returns-in-WithData c = rw c.in-WithData.is (rw (to_z-of_z c.ranges.code) at c.answer_data.ensures)
+returns-in-WithData c = rw c.in-WithData.is c.answer_data.ensures
 
 pub returns-in-Silent : goal.returns-in-Silent
 unfolding answer_of kind_tells

@@ -6,4 +6,4 @@ use Rattle.reply.proofs.memory.Goals as goal
 
 pub returns : goal.returns
 unfolding gpa_of size_of
-returns c = picked _ _ _ _ (c.smaller-from.ensures ∙ rw c.load64.ensures) (c.smaller-count.ensures ∙ rw c.load64-2.ensures)
+returns c = picked _ _ _ _ (c.smaller-from.ensures ∙ rw c.load.ensures) (c.smaller-count.ensures ∙ rw c.load-2.ensures)

@@ -14,7 +14,7 @@ returns-then-out-ge16 c =
     let a = c.args in
     let p1 = placed _ (length-header _ _ _) c.put_header.ensures in
     let p2 = more _ p1 (length-code _) c.store_code.ensures (omega arith) in
-    let p3 = more _ p2 (length-le 4 0) c.store32.ensures (omega arith) in
+    let p3 = more _ p2 (length-le 4 0) c.store.ensures (omega arith) in
     written {bytes = reply_bytes a.id a.seq a.code []} p3 (rw (to_z-of_z c.ranges.code) (code-bytes a.id a.seq a.code)) refl
 
 pub returns-else-out-ge16 : goal.returns-else-out-ge16

@@ -16,8 +16,8 @@ returns-then-out-ge568 c =
     let p1 = placed _ (length_front _ _ _ _) c.put_event.ensures in
     let p2 = more _ p1 (length-replicate {A = ℕ} 536 0) c.fill.ensures (omega arith) in
     let p3 = more _ p2 (length-code _) c.store_code.ensures (omega arith) in
-    let p4 = more _ p3 (length-le 4 _) c.store32.ensures (omega arith) in
-    let p5 = more _ p4 (length-le 8 _) c.store64.ensures (omega arith) in
+    let p4 = more _ p3 (length-le 4 _) c.store.ensures (omega arith) in
+    let p5 = more _ p4 (length-le 8 _) c.store-then-out-ge568.ensures (omega arith) in
     written p5 (rw (to_z-of_z c.ranges.code) (command-error-bytes a.next a.code a.seq a.id (omega arith))) refl
 
 pub returns-else-out-ge568 : goal.returns-else-out-ge568

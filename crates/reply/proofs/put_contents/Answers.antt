@@ -37,7 +37,7 @@ returns-in-VmInfo c = c.put_vm_info.ensures ∙ rw c.in-VmInfo.is
 
 pub returns-in-VcpuInfo : goal.returns-in-VcpuInfo
 unfolding contents_bytes reply_data
-returns-in-VcpuInfo c = c.store64.ensures ∙ rw c.in-VcpuInfo.is
+returns-in-VcpuInfo c = c.store.ensures ∙ rw c.in-VcpuInfo.is
 
 pub returns-in-Memory : goal.returns-in-Memory
 unfolding contents_bytes

@@ -9,7 +9,7 @@ pub returns : goal.returns
 returns c =
     let a = c.args in
     let p1 = placed _ (length-header _ _ _) c.put_header.ensures in
-    let p2 = more _ p1 (length-le 2 _) c.store16.ensures (omega arith) in
-    let p3 = more _ p2 (length-le 2 _) c.store16-2.ensures (omega arith) in
-    let p4 = more _ p3 (length-le 4 _) c.store32.ensures (omega arith) in
+    let p2 = more _ p1 (length-le 2 _) c.store.ensures (omega arith) in
+    let p3 = more _ p2 (length-le 2 _) c.store-2.ensures (omega arith) in
+    let p4 = more _ p3 (length-le 4 _) c.store-3.ensures (omega arith) in
     p4.there ∙ rw (front_bytes a.size a.seq a.vcpu a.event (omega arith))

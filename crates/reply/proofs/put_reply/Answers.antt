@@ -48,7 +48,7 @@ returns-then-total-out c =
     let long = counted a.settings a.guest.now a.d.now a.id a.code _ chosen _ c.count_of-count.ensures in
     let p1 = placed _ (length-header _ _ _) c.put_header.ensures in
     let p2 = more _ p1 (length-code _) c.store_code.ensures (omega arith) in
-    let p3 = more _ p2 (length-le 4 0) c.store32.ensures (omega arith) in
+    let p3 = more _ p2 (length-le 4 0) c.store.ensures (omega arith) in
     let p4 = more _ p3 long c.put_contents.ensures (omega arith) in
     written {bytes = reply_bytes a.id a.seq a.code all} p4
     (rw (to_z-of_z c.ranges.code, ← long) (reply-bytes a.id a.seq a.code all piece (shown a.settings a.guest.now a.d.now a.id a.code _ chosen)))

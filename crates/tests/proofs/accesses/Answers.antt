@@ -6,6 +6,6 @@ pub returns-then-is_set : goal.returns-then-is_set
 unfolding has_execute_only
 returns-then-is_set c = rw (← c.is_set.ensures, c.if-is_set.true)
 
-pub returns : goal.returns
+pub returns-else-is_set : goal.returns-else-is_set
 unfolding has_execute_only
-returns c = rw (← c.is_set.ensures, c.if-is_set.false)
+returns-else-is_set c = rw (← c.is_set.ensures, c.if-is_set.false)

@@ -7,10 +7,10 @@ use borrow.Author.Tests.{lt-leb}
 use Rattle.kvmi.specs.Verdict.{in_one_page}
 use Rattle.tests.proofs.in_one_page.Goals as goal
 
-pub returns-then-size-gt4096 : goal.returns-then-size-gt4096
+pub returns-else-size-le4096 : goal.returns-else-size-le4096
 unfolding in_one_page
-returns-then-size-gt4096 c = simp (lt-leb (c.args.gpa % 4096 + c.args.size) 4096 (omega arith), and-false)
+returns-else-size-le4096 c = simp (lt-leb c.args.size 4096 c.if-size-le4096.false, lt-leb (c.args.gpa % 4096 + c.args.size) 4096 (omega arith), and-false)
 
-pub returns-else-size-gt4096 : goal.returns-else-size-gt4096
+pub returns-then-size-le4096 : goal.returns-then-size-le4096
 unfolding in_one_page
-returns-else-size-gt4096 c = refl
+returns-then-size-le4096 c = refl

@@ -7,20 +7,20 @@ use Rattle.kvmi.specs.Message.{size_fits}
 use Rattle.tests.proofs.Alike.{eqb-alike}
 use Rattle.tests.proofs.size_fits.Goals as goal
 
-pub returns-then-n-lt16 : goal.returns-then-n-lt16
+pub returns-else-n-ge16 : goal.returns-else-n-ge16
 unfolding size_fits
-returns-then-n-lt16 c = rw (c.in-SizeField.is, lt-leb 16 _ c.if-n-lt16.true)
+returns-else-n-ge16 c = rw (c.in-SizeField.is, lt-leb 16 _ c.if-n-ge16.false)
 
 pub returns-in-Exactly : goal.returns-in-Exactly
 unfolding size_fits
 returns-in-Exactly c = rw c.in-Exactly.is
 
-pub returns-else-n-lt16 : goal.returns-else-n-lt16
+pub returns-then-n-ge16 : goal.returns-then-n-ge16
 unfolding size_fits
-returns-else-n-lt16 c =
+returns-then-n-ge16 c =
     let n = length c.args.d.now in
-    let size = c.load64.result in
-    rw (c.in-SizeField.is, le-leb 16 _ c.if-n-lt16.false, ← c.load64.ensures) (eqb-alike (n - 16) size n (16 + size) (λ h. omega arith) (λ h. omega arith))
+    let size = c.load.result in
+    rw (c.in-SizeField.is, le-leb 16 _ c.if-n-ge16.true, ← c.load.ensures) (eqb-alike (n - 16) size n (16 + size) (λ h. omega arith) (λ h. omega arith))
 
 pub returns-in-Entries : goal.returns-in-Entries
 unfolding size_fits

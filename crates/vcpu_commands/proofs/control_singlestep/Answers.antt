@@ -10,4 +10,4 @@ use Rattle.vcpu_commands.proofs.control_singlestep.Goals as goal
 pub returns : goal.returns
 unfolding command_verdict_by invalid_by is_unready is_denied is_unsupported is_busy is_absent loses_errors change_of decided names_vcpu switches_at vcpu_of enables enable_at first_padding padding_runs can_singlestep
 returns c =
-    c.decide.ensures ∙ rw (c.new-c.ensures, ← c.byte-enable.ensures, ← c.load16-vcpu.ensures, and-true, ← c.is_malformed-malformed.ensures, ← c.is_set.ensures) (simp or-false)
+    c.decide.ensures ∙ rw (c.new.ensures, ← c.byte-enable.ensures, ← c.load-vcpu.ensures, and-true, ← c.is_malformed-malformed.ensures, ← c.is_set.ensures) (simp or-false)

@@ -9,4 +9,4 @@ use Rattle.vcpu_commands.proofs.get_vcpu_info.Goals as goal
 pub returns : goal.returns
 unfolding command_verdict_by invalid_by is_unready is_denied is_unsupported is_busy is_absent loses_errors change_of decided names_vcpu switches_at vcpu_of first_padding padding_runs
 returns c =
-    c.decide.ensures ∙ rw (c.new.ensures, ← c.load16-vcpu.ensures) (simp (or-false, and-true))
+    c.decide.ensures ∙ rw (c.new.ensures, ← c.load-vcpu.ensures) (simp (or-false, and-true))

@@ -10,4 +10,4 @@ use Rattle.vm_commands.proofs.check_command.Goals as goal
 pub returns : goal.returns
 unfolding command_verdict_by invalid_by is_unready is_denied is_unsupported is_busy is_absent loses_errors change_of decided names_vcpu switches_at allows_command
 returns c =
-    c.decide.ensures ∙ rw (c.new-c.ensures, ← c.load16-id.ensures, ← c.allows_command.ensures, ← c.is_command.ensures) (simp or-false)
+    c.decide.ensures ∙ rw (c.new.ensures, ← c.load-id.ensures, ← c.allows_command.ensures, ← c.is_command.ensures) (simp or-false)

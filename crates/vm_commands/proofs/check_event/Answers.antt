@@ -10,4 +10,4 @@ use Rattle.vm_commands.proofs.check_event.Goals as goal
 pub returns : goal.returns
 unfolding command_verdict_by invalid_by is_unready is_denied is_unsupported is_busy is_absent loses_errors change_of decided names_vcpu switches_at event_of takes_event first_padding padding_runs allows_event
 returns c =
-    c.decide.ensures ∙ rw (c.new-c.ensures, ← c.load16-event.ensures, ← c.is_event.ensures, ← c.allows_event.ensures) (simp (or-false, and-true))
+    c.decide.ensures ∙ rw (c.new.ensures, ← c.load-event.ensures, ← c.is_event.ensures, ← c.allows_event.ensures) (simp (or-false, and-true))

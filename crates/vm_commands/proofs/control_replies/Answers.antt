@@ -10,4 +10,4 @@ use Rattle.vm_commands.proofs.control_replies.Goals as goal
 pub returns : goal.returns
 unfolding command_verdict_by invalid_by is_unready is_denied is_unsupported is_busy is_absent loses_errors change_of decided names_vcpu switches_at enables enable_at first_padding padding_runs allows_event
 returns c =
-    c.decide.ensures ∙ rw (c.new-c.ensures, ← c.byte-enable.ensures, ← c.byte-now.ensures, ← c.byte-flag.ensures, ← c.is_switch.ensures, ← c.is_switch-2.ensures, ← c.is_switch-3.ensures, ← c.allows_event.ensures, ← c.mode_from-mode.ensures) (simp (or-false, and-true))
+    c.decide.ensures ∙ rw (c.new.ensures, ← c.byte-enable.ensures, ← c.byte-now.ensures, ← c.byte-flag.ensures, ← c.is_switch.ensures, ← c.is_switch-2.ensures, ← c.is_switch-3.ensures, ← c.allows_event.ensures, ← c.mode_from-mode.ensures) (simp (or-false, and-true))

@@ -8,4 +8,4 @@ use Rattle.vm_commands.proofs.write_physical.Goals as goal
 pub returns : goal.returns
 unfolding command_verdict command_verdict_by invalid_by is_unready is_denied is_unsupported is_busy is_absent loses_errors change_of decided names_vcpu switches_at gpa_of size_of first_padding padding_runs first_of_runs
 returns c =
-    c.decide.ensures ∙ rw (c.physical-c.ensures, ← c.load64-gpa.ensures, ← c.load64.ensures)
+    c.decide.ensures ∙ rw (c.physical-c.ensures, ← c.load-gpa.ensures, ← c.load.ensures)

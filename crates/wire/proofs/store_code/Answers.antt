@@ -6,4 +6,4 @@ use Rattle.wire.proofs.store_code.Goals as goal
 
 pub returns : goal.returns
 unfolding code_bytes
-returns c = c.store32.ensures ∙ rw (c.twos_complement.ensures, to_z-of_z c.ranges.e)
+returns c = c.store.ensures ∙ rw (c.twos_complement.ensures, to_z-of_z c.ranges.e)

@@ -1,42 +1,23 @@
--- The loop's invariant: the entries from i on say what all of them do. The measure is how many are left. Assumes nothing.
+-- The loop's invariant: the entries from i on say what all of them do. Assumes nothing.
 use mathlib.Core.Path.{◌≡◌, sym, ap, ◌∙◌}
 use mathlib.Core.Bool.{true, false}
 use native.Mathlib.Omega.{arith}
-use borrow.Author.Tests.{not-true, not-false}
 use Rattle.kvmi.specs.Verdict.{takes_access}
 use Rattle.padding.proofs.Parts.{accesses-start, access-fits, access-unfit, accesses-end}
 use Rattle.padding.proofs.entries.accesses_fit.Goals as goal
 
 pub loop-i-init : goal.loop-i-init
-loop-i-init c = (omega arith, accesses-start c.args.settings c.args.d.now c.args.count)
-
-pub overflow_mul-a : goal.overflow_mul-a
-overflow_mul-a c = omega arith
-
-pub overflow_add-a : goal.overflow_add-a
-overflow_add-a c = omega arith
-
-pub overflow_add-b : goal.overflow_add-b
-overflow_add-b c = omega arith
-
-pub slice_bounds-entry_access-count : goal.slice_bounds-entry_access-count
-slice_bounds-entry_access-count c = omega arith
+loop-i-init c = accesses-start c.args.settings c.args.d.now c.args.count
 
 pub returns-then-not-takes_access : goal.returns-then-not-takes_access
 returns-then-not-takes_access c =
     let bad : c.takes_access.result ≡ false = c.if-not-takes_access.true in
-    sym (access-unfit _ _ _ (omega arith) _ (ap (takes_access _) (sym c.entry_access.ensures) ∙ sym c.takes_access.ensures ∙ bad)) ∙ c.loop-i.invariant.1
-
-pub overflow_add-i : goal.overflow_add-i
-overflow_add-i c = omega arith
-
-pub loop-i-smaller : goal.loop-i-smaller
-loop-i-smaller c = omega arith
+    sym (access-unfit _ _ _ (omega arith) _ (ap (takes_access _) (sym c.entry_access.ensures) ∙ sym c.takes_access.ensures ∙ bad)) ∙ c.loop-i.invariant
 
 pub loop-i-preserved : goal.loop-i-preserved
 loop-i-preserved c =
     let good : c.takes_access.result ≡ true = c.if-not-takes_access.false in
-    (omega arith, access-fits _ _ _ (omega arith) _ (ap (takes_access _) (sym c.entry_access.ensures) ∙ sym c.takes_access.ensures ∙ good) ∙ c.loop-i.invariant.1)
+    access-fits _ _ _ (omega arith) _ (ap (takes_access _) (sym c.entry_access.ensures) ∙ sym c.takes_access.ensures ∙ good) ∙ c.loop-i.invariant
 
 pub returns : goal.returns
-returns c = sym (accesses-end _ _ _ _ (omega arith)) ∙ c.loop-i.invariant.1
+returns c = sym (accesses-end _ _ _ _ (omega arith)) ∙ c.loop-i.invariant

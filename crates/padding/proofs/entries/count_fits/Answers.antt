@@ -4,4 +4,4 @@ use Rattle.padding.proofs.entries.count_fits.Goals as goal
 
 pub returns : goal.returns
 unfolding count_fits count_of
-returns c = rw c.load16.ensures
+returns c = rw c.load.ensures

@@ -5,11 +5,8 @@ use Rattle.padding.proofs.Parts.{counted}
 use Rattle.padding.proofs.entries.entries_fit.Goals as goal
 
 pub accesses_fit-requires : goal.accesses_fit-requires
-accesses_fit-requires c = counted _ _ (sym c.count_fits.ensures ∙ c.if-count_fits.true) c.load16.ensures
+accesses_fit-requires c = counted _ _ (sym c.count_fits.ensures ∙ c.if-count_fits.true) c.load.ensures
 
 pub returns-then-count_fits : goal.returns-then-count_fits
 unfolding count_of
-returns-then-count_fits c = rw (← c.count_fits.ensures, c.if-count_fits.true, ← c.load16.ensures) c.accesses_fit.ensures
-
-pub returns-else-count_fits : goal.returns-else-count_fits
-returns-else-count_fits c = rw (← c.count_fits.ensures, c.if-count_fits.false)
+returns-then-count_fits c = rw (← c.count_fits.ensures, c.if-count_fits.true, ← c.load.ensures) c.accesses_fit.ensures

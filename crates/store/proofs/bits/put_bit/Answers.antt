@@ -1,11 +1,8 @@
 -- The bit that goes is part of the word, and the word with another there is below 2 ^ 64. Assumes nothing.
-use Rattle.std.proofs.Common.{◌/◌, ◌%◌, ◌^◌, arith, le-ltb, lt-ltb}
+use Rattle.std.proofs.Common.{◌/◌, ◌%◌, ◌^◌, arith, lt-ltb}
 use Rattle.kvmi.specs.Bits.{put_bit, bit_of, bit}
-use Rattle.store.proofs.BitLaws.{bit_le, bit-small, bool-bit, shifted, put-fits}
+use Rattle.store.proofs.BitLaws.{bit-small, bool-bit, shifted, put-fits}
 use Rattle.store.proofs.bits.put_bit.Goals as goal
-
-pub overflow_sub-result : goal.overflow_sub-result
-overflow_sub-result c = rw (shifted (c.args.w / 2 ^ c.args.k % 2) c.args.k (omega arith) c.if-k-lt64.true) (bit_le c.args.w c.args.k)
 
 pub overflow_add-result : goal.overflow_add-result
 overflow_add-result c =
@@ -27,6 +24,3 @@ returns-then-k-lt64 c =
       bool-bit on,
       shifted (bit on) k (bit-small on) c.if-k-lt64.true,
     )
-
-pub returns-else-k-lt64 : goal.returns-else-k-lt64
-returns-else-k-lt64 c = rw (le-ltb _ _ c.if-k-lt64.false)
