@@ -9,7 +9,7 @@ use lib.Dec.{ltb, eqb}
 use Rattle.std.specs.Prelude.{Some, None}
 use Rattle.wire.specs.Header.{HeaderRead, header_of}
 use Rattle.kvmi.specs.declared.Change.{Change}
-use Rattle.kvmi.specs.declared.Facts.{Facts}
+use Rattle.kvmi.specs.declared.Awaited.{Awaited}
 use Rattle.kvmi.specs.declared.Feed.{Feed}
 use Rattle.kvmi.specs.declared.Source.{Source}
 use Rattle.kvmi.specs.declared.Source.TheVariants.{Unfed, Message, Guest, Missing}
@@ -61,10 +61,11 @@ feed-begins msg x i =
     pick (λ (k : ℕ). k ≤ length msg) (is_message x.source) _ _
     (λ e. let h = i (is-message x.source e) in let whole = h.0 in let end = h.1 in let l = length-drop 8 msg in omega arith) (λ _. zero-le)
 
-reply-begins : (msg : List ℕ) (f : Facts) → Inside (drop 8 msg) (feed_by (event_row_of f.awaited).form f (drop 8 msg)) → Signals msg (signal_of (ending f (drop 8 msg)))
-reply-begins msg f i =
+reply-begins : (msg : List ℕ) (a : Awaited) (guest : ℕ) → Inside (drop 8 msg) (feed_by (event_row_of a.event).form a.fault guest (drop 8 msg))
+    → Signals msg (signal_of (ending a guest (drop 8 msg)))
+reply-begins msg a guest i =
     pick (Signals msg) (eqb (action_of (drop 8 msg)) 2) _ _ (λ _. zero-le)
-    (λ _. pick (Signals msg) (not (eqb f.awaited 2)) _ _ (λ _. feed-begins msg _ i) (λ _. zero-le))
+    (λ _. pick (Signals msg) (not (eqb a.event 2)) _ _ (λ _. feed-begins msg _ i) (λ _. zero-le))
 
 headed-begins : (st : State) (msg out guest : List ℕ) (h : HeaderRead) → Begins msg (headed_of st (drop 8 msg) out guest h)
 unfolding headed_of judged_of answering_of
@@ -74,7 +75,7 @@ headed-begins st msg out guest (Some h) =
     let s = st.session.settings in
     let f = facts_in st (length guest) (vcpu_of d) in
     verdict-cases (λ v. Begins msg (judged_of st h.id h.seq d out guest v)) s f h.id h.seq d zero-le (λ code e. zero-le) (λ p. command-begins msg h.id d)
-    (λ p. reply-begins msg f (reply-inside s f h.id h.seq d p))
+    (λ a p. reply-begins msg a f.guest (reply-inside s f a h.id h.seq d p))
 
 pub message-begins : (st : State) (msg out guest : List ℕ) → Begins msg (message_of st msg out guest)
 unfolding message_of

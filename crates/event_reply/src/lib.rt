@@ -6,13 +6,13 @@ ghost use Rattle.kvmi.specs.Message.{action_of};
 ghost use Rattle.kvmi.specs.Event.{takes_action, value_of};
 ghost use Rattle.kvmi.specs.Verdict.{is_awaited, reply_fits, feed_by, event_reply_verdict};
 
-use kvmi::{Change, EventRow, Facts, Feed, ReplyForm, Verdict};
+use kvmi::{Awaited, Change, EventRow, Facts, Fault, Feed, ReplyForm, Verdict};
 
-// Whether a vCPU awaits a reply, and this is it.
-fn is_awaited(facts: Facts, seq: u32, event: u8) -> bool
-    ensures { result ≡ is_awaited facts seq event }
+// Whether a reply is the one to an awaited event.
+fn is_awaited(awaited: Awaited, seq: u32, event: u8) -> bool
+    ensures { result ≡ is_awaited awaited seq event }
 {
-    facts.awaited != 0 && facts.seq == seq as u64 && facts.awaited == event as u64
+    awaited.seq == seq as u64 && awaited.event == event as u64
 }
 
 // Whether a reply has the size of the awaited event's, and an action that it takes.
@@ -51,14 +51,14 @@ fn value_of(form: ReplyForm, d: &[u8]) -> u64
 }
 
 // The bytes that a reply feeds.
-fn feed_by(form: ReplyForm, facts: Facts, d: &[u8]) -> Feed
-    ensures { result ≡ feed_by form facts d.now }
+fn feed_by(form: ReplyForm, fault: Fault, guest: usize, d: &[u8]) -> Feed
+    ensures { result ≡ feed_by form fault guest d.now }
 {
     match form {
         ReplyForm::Plain | ReplyForm::NewValue => kvmi::answers::unfed(),
         ReplyForm::Context => {
-            if feed::wants_bytes(facts.access, wire::byte(d, 8)) {
-                feed::chosen_feed(facts.gva, facts.gpa, facts.guest, d)
+            if feed::wants_bytes(fault.access, wire::byte(d, 8)) {
+                feed::chosen_feed(fault.gva, fault.gpa, guest, d)
             } else {
                 kvmi::answers::unfed()
             }
@@ -70,22 +70,25 @@ fn feed_by(form: ReplyForm, facts: Facts, d: &[u8]) -> Feed
 pub fn judge_reply(facts: Facts, seq: u32, d: &[u8]) -> Verdict
     ensures { result ≡ event_reply_verdict facts seq d.now }
 {
+    let Some(awaited) = facts.pending.awaited else {
+        return Verdict::Closes;
+    };
     if padding::of_event_reply(d) != 0 {
         return Verdict::Closes;
     }
-    if !is_awaited(facts, seq, wire::byte(d, 9)) {
+    if !is_awaited(awaited, seq, wire::byte(d, 9)) {
         return Verdict::Closes;
     }
-    let row = kvmi::events::row(facts.awaited);
+    let row = kvmi::events::row(awaited.event);
     if !reply_fits(row, d) {
         return Verdict::Closes;
     }
     let form = row.form;
     Verdict::Does(Change::EndWait {
-        resumes: facts.awaited != 2,
+        resumes: awaited.event != 2,
         vcpu: wire::load::<u16>(d, 0),
         action: wire::byte(d, 8) as u32,
         value: value_of(form, d),
-        feed: feed_by(form, facts, d),
+        feed: feed_by(form, awaited.fault, facts.guest, d),
     })
 }

@@ -22,7 +22,8 @@ use Rattle.kvmi.specs.declared.EventRow.{EventRow}
 use Rattle.kvmi.specs.Bits.{among}
 use Rattle.kvmi.specs.Limits.{least_out, event_out, state_bytes}
 use Rattle.kvmi.specs.Settings.{in_range}
-use Rattle.kvmi.specs.Model.{Awaited, awaited_by, is_some}
+use Rattle.kvmi.specs.declared.Awaited.{Awaited}
+use Rattle.kvmi.specs.Model.{awaited_by, is_some}
 use Rattle.kvmi.specs.Image.{image, Loaded, loaded, bad_form, forbidden, load_image}
 use Rattle.kvmi.specs.Event.{events, unoffered, event_row_of, is_offered, offer_fits}
 use Rattle.kvmi.specs.Call.{awaits_any}

@@ -16,7 +16,8 @@ use Rattle.kvmi.specs.declared.Signal.TheVariants.{Quiet}
 use Rattle.kvmi.specs.Answer.{Paper, handled}
 use Rattle.kvmi.specs.Settings.{in_range}
 use Rattle.kvmi.specs.Tables.{Tables, SameTables}
-use Rattle.kvmi.specs.Model.{Awaited, Model, begun}
+use Rattle.kvmi.specs.declared.Awaited.{Awaited}
+use Rattle.kvmi.specs.Model.{Model, begun}
 use Rattle.kvmi.specs.Image.{image, Loaded, loaded, bad_form, forbidden, load_image}
 use Rattle.kvmi.specs.Valid.{Valid}
 use Rattle.kvmi.specs.Call.{Call, awaits_any, image_step, after, Step}

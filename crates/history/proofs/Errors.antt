@@ -27,12 +27,11 @@ use Rattle.kvmi.specs.declared.Change.TheVariants.{Nothing, SetVmEvent, WritePhy
 use Rattle.kvmi.specs.declared.Verdict.{Verdict}
 use Rattle.kvmi.specs.declared.Verdict.TheVariants.{Closes, Fails, Does}
 use Rattle.kvmi.specs.Limits.{page_limit, least_out}
-use Rattle.kvmi.specs.Event.{event_row_of}
 use Rattle.kvmi.specs.Codes.{is_error, EPERM, EINVAL, ENOMEM, ENOSYS, OK}
 use Rattle.kvmi.specs.Settings.{allows_command, allows_event}
 use Rattle.kvmi.specs.Mode.{mode_of_number}
-use Rattle.kvmi.specs.Message.{layout_of, size_fits, carries_data, vcpu_of, gpa_of, size_of, first_padding, replied_event, entries_of}
-use Rattle.kvmi.specs.Verdict.{replies_on, refuse, is_invalid, is_unready, is_denied, is_unsupported, is_busy, is_absent, loses_errors, is_awaited, reply_fits, in_one_page, change_of, command_verdict_by, command_verdict, event_reply_verdict, verdict}
+use Rattle.kvmi.specs.Message.{layout_of, size_fits, carries_data, vcpu_of, gpa_of, size_of, entries_of}
+use Rattle.kvmi.specs.Verdict.{replies_on, refuse, is_invalid, is_unready, is_denied, is_unsupported, is_busy, is_absent, loses_errors, in_one_page, change_of, command_verdict_by, command_verdict, event_reply_verdict, verdict}
 use Rattle.kvmi.specs.Change.{mode_for}
 use Rattle.kvmi.specs.Reply.{message_bytes, reply_bytes, reply_data, command_error_event, answer_bytes, answer_of}
 use Rattle.page_words.specs.PageWords.{run_entries}
@@ -46,7 +45,7 @@ use Rattle.refine.specs.Errors.{code_headed, code_of, Spared, ErrorSpares}
 use Rattle.refine.proofs.Theorems.{error-spares}
 use Rattle.history.specs.Demand2.{WritesError}
 use Rattle.laws.proofs.Bool.{and_r}
-use Rattle.laws.proofs.Verdicts.{pick, Admitted, ending, verdict-cases}
+use Rattle.laws.proofs.Verdicts.{pick, Admitted, ending, reply-cases, verdict-cases}
 use Rattle.reply.proofs.Lengths.{length-answer}
 use Rattle.replay.proofs.Errors.{answer-error}
 use Rattle.refine.proofs.Frames.{error-length, data-fits}
@@ -67,7 +66,7 @@ verdict-fits s f id seq d =
     (λ _. pick Fits-by (not (replies_on f.mode) && carries_data (layout_of id).reply) _ _ (λ _. tt)
     (λ _. pick Fits-by (not (size_fits (layout_of id).size d)) _ _ (λ _. tt)
     (λ _. pick Fits-by (eqb id 16) _ _
-    (λ _. pick Fits-by (eqb (first_padding 16 d) 0 && is_awaited f seq (replied_event d) && reply_fits (event_row_of f.awaited) d) _ _ (λ _. tt) (λ _. tt))
+    (λ _. reply-cases Fits-by f.pending.awaited f.guest seq d tt (λ a w h. tt))
     (λ _. pick Fits-by (eqb id 9 && not (allows_event s 2)) _ _ (λ _. tt)
     (λ _. pick Fits-by (is_invalid s id d) _ _ (λ _. sfits_lit tt)
     (λ _. pick Fits-by (is_unready f id) _ _ (λ _. sfits_lit tt)
@@ -172,7 +171,7 @@ module _ (st : State) (guest d out : List ℕ) (long : least_out ≤ length out)
   verdict-code f =
       verdict-cases Code-by st.session.settings f id seq d (λ _ ne. absurd (ne refl)) fails-code
       (λ p. does-code (change_of id d) (known-id f p.admitted) (data-fits st.session.settings f id d p))
-      (λ p. let e = p.reply in does-code (ending f d) (known-id f p.admitted) (inr (λ q. omega arith)))
+      (λ a p. let e = p.reply in does-code (ending a f.guest d) (known-id f p.admitted) (inr (λ q. omega arith)))
 
 -- where a call writes bytes, a code stands in them
 abbrev Coded : Told → ℤ → Type 0

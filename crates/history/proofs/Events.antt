@@ -4,7 +4,7 @@ use mathlib.Core.Logic.{◌↔◌, ◌≢◌}
 use Prim.Native.Nat.{ℕ, ◌+◌, ◌-◌, ◌%◌, ◌≤◌, ◌<◌}
 use native.Mathlib.Omega.{arith}
 use mathlib.Core.List.{List, [], ◌∷◌, ◌++◌}
-use mathlib.Core.Bool.{Bool, true, false, cond, not, ◌&&◌, ◌||◌, So, and-false, true≢false, false≢true}
+use mathlib.Core.Bool.{Bool, true, false, cond, not, ◌&&◌, ◌||◌, So, and-false, true≢false}
 use mathlib.Core.Option.{Option, none, some}
 use lib.ListN.{length, get_or, set, take, drop, replicate, get_or-eq_default}
 use lib.Seq.{get_or-set_same, get_or-set_other, set_out, take-append_seam}
@@ -15,9 +15,7 @@ use Rattle.wire.specs.Bytes.{load}
 use Rattle.wire.specs.Header.{whole as whole_header, HeaderRead, header_of}
 use Rattle.kvmi.specs.declared.ReplyMode.{ReplyMode}
 use Rattle.kvmi.specs.declared.Settings.{Settings}
-use Rattle.kvmi.specs.declared.Facts.{Facts}
 use Rattle.kvmi.specs.declared.EventRow.{EventRow}
-use Rattle.kvmi.specs.declared.ReplyMode.TheVariants.{On}
 use Rattle.kvmi.specs.declared.Signal.TheVariants.{Quiet, Crash}
 use Rattle.kvmi.specs.declared.Change.{Change}
 use Rattle.kvmi.specs.declared.Change.TheVariants.{EndWait}
@@ -30,11 +28,13 @@ use Rattle.kvmi.specs.Settings.{allows_command}
 use Rattle.kvmi.specs.Tables.{Tables, Vcpu, resting, vcpu_at, with_pauses}
 use Rattle.kvmi.specs.declared.ReplyForm.{ReplyForm}
 use Rattle.kvmi.specs.declared.ReplyForm.TheVariants as form
-use Rattle.kvmi.specs.Feed.{Fault, no_fault, kept_of, unfed, wants_bytes, context_fits, chosen_feed, feed_of}
-use Rattle.kvmi.specs.Model.{Awaited, awaiting, Model, awaited_by, is_some, next_seq}
+use Rattle.kvmi.specs.declared.Fault.{Fault}
+use Rattle.kvmi.specs.Feed.{no_fault, kept_of, wants_bytes, context_fits, feed_of}
+use Rattle.kvmi.specs.declared.Awaited.{Awaited}
+use Rattle.kvmi.specs.Model.{awaiting, Model, awaited_by, is_some, next_seq}
 use Rattle.kvmi.specs.Message.{layout_of, size_fits, vcpu_of, action_of, replied_event, first_padding}
 use Rattle.kvmi.specs.Event.{event_row_of, offer_fits, asks_for, is_asked_for, takes_action, form_fits, value_of}
-use Rattle.kvmi.specs.Verdict.{awaited_event, awaited_seq, awaited_fault, facts_of, replies_on, is_awaited, reply_fits, feed_by, event_reply_verdict, change_of, verdict, reaches_test6, reported_padding}
+use Rattle.kvmi.specs.Verdict.{awaited_event, awaits, facts_of, replies_on, is_awaited, reply_fits, feed_by, reply_verdict, event_reply_verdict, change_of, verdict, reaches_test6, reported_padding}
 use Rattle.kvmi.specs.Change.{apply, signal_of}
 use Rattle.kvmi.specs.Reply.{event_bytes, pause_event, answer_of}
 use Rattle.kvmi.specs.Pauses.{queued}
@@ -199,7 +199,7 @@ module _ (s : Settings) (m : Model) (vcpu : ℕ) (waits : is_some (awaited_by m 
       let d = drop 8 msg in
       verdict-cases (λ v. Waits (judged s m h.id h.seq d out guest v)) s (facts_of m (length guest) (vcpu_of d)) h.id h.seq d (λ o. absurd (true≢false o)) (λ code _ _. refl)
       (λ _ _. ap (λ (l : List (Option Awaited)). get_or l vcpu none) (change-waits s m guest d h.id))
-      (λ p _. let gone = other (h.size, h.seq, w ∙ ap (λ (n : ℕ). whole_header n h.size h.seq) p.reply) in
+      (λ a p _. let gone = other (h.size, h.seq, w ∙ ap (λ (n : ℕ). whole_header n h.size h.seq) p.reply) in
       get_or-set_other m.awaited (vcpu_of d) vcpu none none (λ e. gone (sym e)))
 
   -- an entry of another vCPU leaves its record
@@ -254,7 +254,7 @@ module _ (s : Settings) (m : Model) (known : KnownEvents m) where
   headed-known d out guest None = every-replicate is_known s.vcpus none refl
   headed-known d out guest (Some h) =
       verdict-cases (λ v. K (judged s m h.id h.seq d out guest v)) s (facts_of m (length guest) (vcpu_of d)) h.id h.seq d (every-replicate is_known s.vcpus none refl) (λ _ _. known)
-      (λ _. subst (λ (l : List (Option Awaited)). So (every is_known l)) (sym (change-waits s m guest d h.id)) known) (λ _. set_known (vcpu_of d) none refl)
+      (λ _. subst (λ (l : List (Option Awaited)). So (every is_known l)) (sym (change-waits s m guest d h.id)) known) (λ _ _. set_known (vcpu_of d) none refl)
 
   entering-known : (v : ℕ) (block : List ℕ) (event : ℕ) (own out : List ℕ) → offer_fits event own ≡ true → K (entering m v block event own out)
   unfolding sending pausing
@@ -278,43 +278,19 @@ began-known s st m (anew vcpus pages v p ok) = every-replicate is_known (length 
 began-known s st m (from_image vcpus pages v p l t ok e) = every-replicate is_known (length t.vcpus) none refl
 
 -- ---- the answer to an EVENT_REPLY
--- what its rule asks; guest is how long guest memory is
-abbrev pub asks : Option Awaited → ℕ → Facts
-asks a guest =
-    record {
-      mode = On;
-      guest = guest;
-      ready = false;
-      pauses = 0;
-      awaited = awaited_event a;
-      seq = awaited_seq a;
-      gva = (awaited_fault a).gva;
-      gpa = (awaited_fault a).gpa;
-      access = (awaited_fault a).access;
-    }
-
+-- what its rule says; guest is how long guest memory is
 abbrev pub says_of : Option Awaited → ℕ → ℕ → List ℕ → Verdict
-says_of a guest seq d = cond (leb 16 (length d)) (event_reply_verdict (asks a guest) seq d) Closes
+says_of a guest seq d = cond (leb 16 (length d)) (reply_verdict (awaits a) guest seq d) Closes
 
 abbrev answer_by : Verdict → Paper
 answer_by Closes = plain 1
 answer_by (Fails code) = handled 0 Quiet
 answer_by (Does c) = handled 0 (signal_of c)
 
--- the mode, the ready mark and the queue are not read
-feed-asks : (form : ReplyForm) (f : Facts) (a : Option Awaited) (d : List ℕ) → f.gva ≡ (awaited_fault a).gva → f.gpa ≡ (awaited_fault a).gpa
-    → f.access ≡ (awaited_fault a).access → feed_by form f d ≡ feed_by form (asks a f.guest) d
-unfolding feed_of
-feed-asks form.Plain f a d p q r = refl
-feed-asks form.NewValue f a d p q r = refl
-feed-asks form.Context f a d p q r = λ j. cond (wants_bytes (r j) (action_of d)) (chosen_feed (p j) (q j) f.guest d) unfed
-
 -- of the tests, only its own rule is left
 pub reply-verdict : (s : Settings) (m : Model) (guest vcpu seq : ℕ) (d : List ℕ) → verdict s (facts_of m guest vcpu) 16 seq d ≡ says_of (awaited_by m vcpu) guest seq d
-unfolding verdict allows_command layout_of size_fits event_reply_verdict is_awaited
-reply-verdict s m guest vcpu seq d =
-    rw (and-false (not (replies_on m.mode)), feed-asks (event_row_of (awaited_event (awaited_by m vcpu))).form (facts_of m guest vcpu) (awaited_by m vcpu) d refl refl refl)
-    (test (leb 16 (length d)) (λ e. rw e) (λ e. rw e))
+unfolding verdict allows_command layout_of size_fits event_reply_verdict
+reply-verdict s m guest vcpu seq d = rw (and-false (not (replies_on m.mode))) (test (leb 16 (length d)) (λ e. rw e) (λ e. rw e))
 
 -- nothing is reported of its padding
 reply-unreported : (s : Settings) (mode : ReplyMode) (d : List ℕ) → reported_padding s mode 16 d ≡ 0
@@ -386,34 +362,31 @@ module _ (event : ℕ) (known : So (among event replied)) where
       ap (λ (b : Bool). among action (0 ∷ 2 ∷ []) || eqb action 1 && b) (alike-true (event_row_of event).retry (among event (4 ∷ 8 ∷ 10 ∷ [])) (search (and_l, and_r)))
 
   -- what a form says is what is said of the event
-  by_form : (form : ReplyForm) → form_right event form ≡ true → (f : Facts) (d : List ℕ)
-      → (value_of form d ≡ value_in event d) × (feed_by form f d ≡ fed_by event (record { gva = f.gva; gpa = f.gpa; access = f.access }) f.guest d)
+  by_form : (form : ReplyForm) → form_right event form ≡ true → (f : Fault) (guest : ℕ) (d : List ℕ)
+      → (value_of form d ≡ value_in event d) × (feed_by form f guest d ≡ fed_by event f guest d)
       × (form_fits form d ≡ cond (eqb event 10) (context_fits d) true)
   unfolding feed_of wants_bytes
-  by_form form.Plain h f d =
+  by_form form.Plain h f guest d =
       let a = not-true (has_value event) (and_l (not (has_value event)) (not (eqb event 10)) h) in
       let b = not-true (eqb event 10) (and_r (not (has_value event)) (not (eqb event 10)) h) in
       rw (a, b) (refl, refl, refl)
-  by_form form.NewValue h f d =
+  by_form form.NewValue h f guest d =
       let a = and_l (has_value event) (not (eqb event 10)) h in
       let b = not-true (eqb event 10) (and_r (has_value event) (not (eqb event 10)) h) in
       rw (a, b) (refl, refl, refl)
-  by_form form.Context h f d = rw h (refl, refl, refl)
+  by_form form.Context h f guest d = rw h (refl, refl, refl)
 
   form-right : form_right event (event_row_of event).form ≡ true
   form-right = let h = row-right in search (and_l, and_r)
 
   reply-value : (d : List ℕ) → value_of (event_row_of event).form d ≡ value_in event d
-  reply-value d = (by_form (event_row_of event).form form-right (asks none 0) d).0
+  reply-value d = (by_form (event_row_of event).form form-right no_fault 0 d).0
 
-  reply-feed : (f : Facts) (d : List ℕ) → feed_by (event_row_of event).form f d ≡ fed_by event (record { gva = f.gva; gpa = f.gpa; access = f.access }) f.guest d
-  reply-feed f d = (by_form (event_row_of event).form form-right f d).1
+  reply-feed : (f : Fault) (guest : ℕ) (d : List ℕ) → feed_by (event_row_of event).form f guest d ≡ fed_by event f guest d
+  reply-feed f guest d = (by_form (event_row_of event).form form-right f guest d).1
 
   reply-form : (d : List ℕ) → form_fits (event_row_of event).form d ≡ cond (eqb event 10) (context_fits d) true
-  reply-form d = (by_form (event_row_of event).form form-right (asks none 0) d).2
-
-  some-event : event ≢ 0
-  some-event = eqb-false event 0 (not-true _ (among-every (λ k. not (eqb k 0)) event replied refl known))
+  reply-form d = (by_form (event_row_of event).form form-right no_fault 0 d).2
 
   reply-long : leb 16 (reply_length event) ≡ true
   reply-long = pick (λ (n : ℕ). leb 16 n ≡ true) (eqb event 10) 288 _ (λ _. refl) (λ _. pick (λ (n : ℕ). leb 16 n ≡ true) (has_value event) 24 16 (λ _. refl) (λ _. refl))
@@ -441,17 +414,15 @@ ended event fault guest d = EndWait (not (eqb event 2)) (vcpu_of d) (action_of d
 
 reply-does : (s : Settings) (m : Model) (guest vcpu event seq : ℕ) (fault : Fault) (msg : List ℕ) → awaited_by m vcpu ≡ some (awaiting event seq fault) → So (among event replied)
     → Replies vcpu event seq msg → verdict s (facts_of m guest (vcpu_of (drop 8 msg))) 16 seq (drop 8 msg) ≡ Does (ended event fault guest (drop 8 msg))
-unfolding event_reply_verdict is_awaited reply_fits
+unfolding reply_verdict is_awaited reply_fits
 reply-does s m guest vcpu event seq fault msg waits known q =
     let d = drop 8 msg in
-    let a = some (awaiting event seq fault) in
     reply-verdict s m guest (vcpu_of d) seq d
     ∙ ap (λ (a : Option Awaited). says_of a guest seq d) (ap (λ (v : ℕ). awaited_by m v) q.names ∙ waits)
     ∙ rw (
       q.size,
       reply-long event known,
       eq-eqb (first_padding 16 d) 0 q.padding,
-      ne_eqb event 0 (some-event event known),
       eq-eqb seq seq refl,
       eq-eqb event (replied_event d) (sym q.of),
       reply-length event known,
@@ -461,7 +432,7 @@ reply-does s m guest vcpu event seq fault msg waits known q =
       reply-form event known d,
       replied-context event d q.context,
       reply-value event known d,
-      reply-feed event known (asks a guest) d,
+      reply-feed event known fault guest d,
     )
 
 -- no record is awaited where none is set
@@ -487,7 +458,7 @@ reply-taken s m vcpu event seq fault msg out guest o waits known q long =
 reply-closes : (s : Settings) (m : Model) → KnownEvents m → (msg out guest : List ℕ) → HasId msg 16 → m.closed ≡ false → least_out ≤ length out
     → ((vcpu event seq : ℕ) (fault : Fault) → awaited_by m vcpu ≡ some (awaiting event seq fault) → Replies vcpu event seq msg → ⊥)
     → (step s m (message msg out guest)).answer ≡ plain 1
-unfolding event_reply_verdict is_awaited reply_fits
+unfolding reply_verdict is_awaited reply_fits
 reply-closes s m known msg out guest (size, seq, w) o long misses =
     reply-answer s m msg out guest size seq w ∙ rw (o, le-ltb (length out) least_out long) (by (awaited_by m (vcpu_of (drop 8 msg))) refl)
   where
@@ -497,14 +468,11 @@ reply-closes s m known msg out guest (size, seq, w) o long misses =
     Shuts : Verdict → Type 0
     Shuts v = answer_by v ≡ plain 1
 
-    fits : Option Awaited → Bool
-    fits a = eqb (first_padding 16 (drop 8 msg)) 0 && is_awaited (asks a (length guest)) seq (replied_event (drop 8 msg)) && reply_fits (event_row_of (awaited_event a)) (drop 8 msg)
+    fits : Awaited → Bool
+    fits a = eqb (first_padding 16 (drop 8 msg)) 0 && is_awaited a seq (replied_event (drop 8 msg)) && reply_fits (event_row_of a.event) (drop 8 msg)
 
-    never : (a : Option Awaited) → awaited_by m (vcpu_of (drop 8 msg)) ≡ a → fits a ≡ true → ⊥
-    never none e h =
-        let z : is_awaited (asks none (length guest)) seq (replied_event (drop 8 msg)) ≡ true = search (and_l, and_r) in
-        false≢true z
-    never (some a) e h =
+    never : (a : Awaited) → awaited_by m (vcpu_of (drop 8 msg)) ≡ some a → fits a ≡ true → ⊥
+    never a e h =
         let same : a.seq ≡ seq = eqb-true a.seq seq (search (and_l, and_r)) in
         let k : So (among a.event replied) = known_at m known (vcpu_of (drop 8 msg)) a.event a.seq a.fault e in
         let form : form_fits (event_row_of a.event).form (drop 8 msg) ≡ true = search (and_l, and_r) in
@@ -522,7 +490,8 @@ reply-closes s m known msg out guest (size, seq, w) o long misses =
         })
 
     by : (a : Option Awaited) → awaited_by m (vcpu_of (drop 8 msg)) ≡ a → answer_by (says_of a (length guest) seq (drop 8 msg)) ≡ plain 1
-    by a e =
+    by none e = pick Shuts (leb 16 (length (drop 8 msg))) _ _ (λ _. refl) (λ _. refl)
+    by (some a) e =
         pick Shuts (leb 16 (length (drop 8 msg))) _ _ (λ _. pick Shuts (fits a) _ _ (λ h. absurd (never a e h)) (λ _. refl)) (λ _. refl)
 
 -- ---- a session that stands for a model

@@ -27,14 +27,16 @@ use Rattle.kvmi.specs.Tables.{Page, event_on, access_in, access}
 use Rattle.kvmi.specs.Image.{pa_form, pa_may}
 use Rattle.kvmi.specs.Valid.{pa_good}
 use Rattle.history.proofs.Lists.{stands-valid, after-stands, began-stands}
-use Rattle.kvmi.specs.Model.{Awaited, Model, awaiting, awaited_by}
-use Rattle.kvmi.specs.Feed.{Fault, unfed, missing, is_message, address_of, supplied_size, in_context, page_exists, page_feed, chosen_feed, wants_bytes, feed_of}
+use Rattle.kvmi.specs.declared.Awaited.{Awaited}
+use Rattle.kvmi.specs.Model.{Model, awaiting, awaited_by}
+use Rattle.kvmi.specs.declared.Fault.{Fault}
+use Rattle.kvmi.specs.Feed.{unfed, missing, is_message, address_of, supplied_size, in_context, page_exists, page_feed, chosen_feed, wants_bytes, feed_of}
 use Rattle.kvmi.specs.declared.Change.TheVariants.{EndWait}
 use Rattle.kvmi.specs.declared.Verdict.{Verdict}
 use Rattle.kvmi.specs.declared.Verdict.TheVariants.{Closes, Does}
 use Rattle.kvmi.specs.Change.{reply_signal, signal_of, apply}
 use Rattle.kvmi.specs.Event.{event_row_of, value_of}
-use Rattle.kvmi.specs.Verdict.{awaited_event, is_awaited, reply_fits, feed_by, event_reply_verdict, change_of, verdict, takes_access}
+use Rattle.kvmi.specs.Verdict.{awaits, is_awaited, reply_fits, feed_by, reply_verdict, change_of, verdict, takes_access}
 use Rattle.kvmi.specs.Reply.{reply_data, answer_of, answer_seq}
 use Rattle.kvmi.specs.Message.{layout_of, action_of, vcpu_of, replied_event, first_padding}
 use Rattle.kvmi.specs.Batch.{Batch, next_length, next_of, out_left, turn_of, feed_in, resume_of}
@@ -62,7 +64,7 @@ use Rattle.refine.proofs.Simulate.{both}
 use Rattle.history.specs.History.{step_of, after_of, BeganOn}
 use Rattle.history.specs.Events.{switches_on, signalled, Replies}
 use Rattle.history.specs.Faults.{Names, feed_of_signal, feed_of_resume, without_feed, Lies, Lacked, ButFeed, Faults}
-use Rattle.history.proofs.Events.{asks, says_of, reply-verdict, events}
+use Rattle.history.proofs.Events.{says_of, reply-verdict, events}
 
 -- ---- the part that a choice names
 module _ (msg guest : List ℕ) (gva gpa : ℕ) (long : length (drop 8 msg) ≡ 288) (few : load 4 (drop 8 msg) 24 ≤ 256) where
@@ -243,14 +245,18 @@ module _ (s : Settings) (m : Model) (msg out guest guest' : List ℕ) where
 
   said-moves : (seq : ℕ) (a : Option Awaited)
       → ButFeed (judged s m 16 seq (drop 8 msg) out guest (says_of a (length guest) seq (drop 8 msg))) (judged s m 16 seq (drop 8 msg) out guest' (says_of a (length guest') seq (drop 8 msg)))
-  unfolding event_reply_verdict is_awaited
-  said-moves seq a =
-      let d = drop 8 msg in
-      let R : Verdict → Verdict → Type 0 = λ v w. ButFeed (judged s m 16 seq d out guest v) (judged s m 16 seq d out guest' w) in
-      both R (leb 16 (length d)) _ _ _ _
-      (λ _. both R (eqb (first_padding 16 d) 0 && is_awaited (asks a 0) seq (replied_event d) && reply_fits (event_row_of (awaited_event a)) d) _ _ _ _
-      (λ _. taken-moves seq _ (vcpu_of d) _ _ _ _) (λ _. closes-moves seq))
-      (λ _. closes-moves seq)
+  unfolding reply_verdict
+  said-moves seq a = both R (leb 16 (length (drop 8 msg))) _ _ _ _ (λ _. by a) (λ _. closes-moves seq)
+    where
+      R : Verdict → Verdict → Type 0
+      R v w = ButFeed (judged s m 16 seq (drop 8 msg) out guest v) (judged s m 16 seq (drop 8 msg) out guest' w)
+
+      by : (a : Option Awaited) → R (reply_verdict (awaits a) (length guest) seq (drop 8 msg)) (reply_verdict (awaits a) (length guest') seq (drop 8 msg))
+      by none = closes-moves seq
+      by (some a) =
+          let d = drop 8 msg in
+          both R (eqb (first_padding 16 d) 0 && is_awaited a seq (replied_event d) && reply_fits (event_row_of a.event) d) _ _ _ _
+          (λ _. taken-moves seq _ (vcpu_of d) _ _ _ _) (λ _. closes-moves seq)
 
   reporting-moves : (padding : ℕ) (r q : Step) → ButFeed r q → ButFeed (reporting padding r) (reporting padding q)
   reporting-moves padding r q h = record { model = h.model; out = h.out; count = h.count; offset = h.offset; padding = refl; signal = h.signal }
@@ -336,11 +342,11 @@ chosen-rests gva gpa guest d =
     record { of_guest = λ _. omega arith; of_none = λ e. absurd (cc) })
     (λ _. record { of_guest = λ e. absurd (cc); of_none = λ _. refl }))
 
-form-rests : (form : ReplyForm) (f : Facts) (d : List ℕ) → Rest f.guest (feed_by form f d)
+form-rests : (form : ReplyForm) (f : Fault) (guest : ℕ) (d : List ℕ) → Rest guest (feed_by form f guest d)
 unfolding feed_of
-form-rests form.Plain f d = unfed-rests f.guest
-form-rests form.NewValue f d = unfed-rests f.guest
-form-rests form.Context f d = pick (Rest f.guest) (wants_bytes f.access (action_of d)) _ _ (λ _. chosen-rests f.gva f.gpa f.guest d) (λ _. unfed-rests f.guest)
+form-rests form.Plain f guest d = unfed-rests guest
+form-rests form.NewValue f guest d = unfed-rests guest
+form-rests form.Context f guest d = pick (Rest guest) (wants_bytes f.access (action_of d)) _ _ (λ _. chosen-rests f.gva f.gpa guest d) (λ _. unfed-rests guest)
 
 -- a change that a command makes names nothing
 command-unfed : (id : ℕ) (d : List ℕ) → feed_of_signal (signal_of (change_of id d)) ≡ unfed
@@ -386,12 +392,12 @@ module _ (st : State) (msg out guest : List ℕ) where
   judged-lies id size seq =
       verdict-cases (λ v. Lies msg guest (feed_of_signal (here id seq v).answer.signal)) st.session.settings facts id seq body (unfed-lies msg guest) (λ _ _. unfed-lies msg guest)
       (λ _. subst (Lies msg guest) (sym (command-unfed id body)) (unfed-lies msg guest))
-      (λ p. let form = (event_row_of facts.awaited).form in
-      let x = feed_by form facts body in
-      let rest = form-rests form facts body in
-      let inside = reply-inside st.session.settings facts id seq body p in
+      (λ a p. let form = (event_row_of a.event).form in
+      let x = feed_by form a.fault (length guest) body in
+      let rest = form-rests form a.fault (length guest) body in
+      let inside = reply-inside st.session.settings facts a id seq body p in
       let long = length-drop 8 msg in
-      reply-feeds (Lies msg guest) (not (eqb facts.awaited 2)) (vcpu_of body) (action_of body) (value_of form body) x (unfed-lies msg guest)
+      reply-feeds (Lies msg guest) (not (eqb a.event 2)) (vcpu_of body) (action_of body) (value_of form body) x (unfed-lies msg guest)
       (record {
         of_message = λ one. let i = inside one in let whole = i.0 in let few = i.1 in omega arith;
         of_guest = rest.of_guest;
@@ -414,7 +420,7 @@ module _ (st : State) (msg out guest : List ℕ) where
   unfolding judged_of answering_of change
   judged-kept seq =
       verdict-cases (λ v. (here 16 seq v).guest ≡ guest) st.session.settings facts 16 seq body refl (λ _ _. refl)
-      (λ p. unfold change_of in refl) (λ _. refl)
+      (λ p. unfold change_of in refl) (λ _ _. refl)
 
   message-kept : HasId msg 16 → (message_of st msg out guest).guest ≡ guest
   unfolding message_of headed_of
@@ -438,13 +444,13 @@ module _ (st : State) (msg out guest : List ℕ) where
   judged-lacked id size seq w =
       verdict-cases (λ v. L12 (here id seq v)) st.session.settings facts id seq body (λ n. absurd (omega arith)) (λ _ _ n. absurd (omega arith))
       (λ _ n. let z = lacks-source (signal_of (change_of id body)) n in let u = ap (λ (f : Feed). f.source) (command-unfed id body) in absurd (cc))
-      (λ p n. let form = (event_row_of facts.awaited).form in
-      let x = feed_by form facts body in
-      let g = reply_signal (not (eqb facts.awaited 2)) (vcpu_of body) (action_of body) (value_of form body) x in
+      (λ a p n. let form = (event_row_of a.event).form in
+      let x = feed_by form a.fault (length guest) body in
+      let g = reply_signal (not (eqb a.event 2)) (vcpu_of body) (action_of body) (value_of form body) x in
       let three = lacks-source g n in
       let empty : (feed_of_signal g).length ≡ 0
-      = reply-feeds (λ (f : Feed). f.source ≡ Missing → f.length ≡ 0) (not (eqb facts.awaited 2)) (vcpu_of body) (action_of body) (value_of form body) x (λ e. absurd (cc))
-      (form-rests form facts body).of_none three in
+      = reply-feeds (λ (f : Feed). f.source ≡ Missing → f.length ≡ 0) (not (eqb a.event 2)) (vcpu_of body) (action_of body) (value_of form body) x (λ e. absurd (cc))
+      (form-rests form a.fault (length guest) body).of_none three in
       let mode = mode_of_number st.session.tool.mode in
       let sixteen = p.reply in
       let silent : answer_of (layout_of id).reply mode st.session.tool.seq id seq OK (reply_data st.session.settings guest id body) ≡ []

@@ -28,10 +28,10 @@ use Rattle.kvmi.specs.Codes.{EPERM, ENOENT, EAGAIN, EBUSY, EINVAL, EOPNOTSUPP, E
 use Rattle.kvmi.specs.Settings.{in_range, allows_command, allows_event}
 use Rattle.kvmi.specs.Model.{Model}
 use Rattle.kvmi.specs.Tables.{is_cr}
-use Rattle.kvmi.specs.Message.{layout_of, size_fits, carries_data, vcpu_of, count_of, count_fits, entry_padding, padding_runs, first_padding, names_vcpu, command_of, switches_at, event_of, register_of, gpa_of, size_of, view_of, Entry, entries_of, takes_event, replied_event}
-use Rattle.kvmi.specs.Verdict.{replies_on, is_invalid, is_unready, is_denied, is_unsupported, is_busy, is_absent, loses_errors, change_of, command_verdict_by, command_verdict, verdict, reaches_test6, reported_padding, refuse, takes_access, in_one_page, invalid_by, is_awaited, reply_fits, event_reply_verdict}
+use Rattle.kvmi.specs.Message.{layout_of, size_fits, carries_data, vcpu_of, count_of, count_fits, entry_padding, padding_runs, first_padding, names_vcpu, command_of, switches_at, event_of, register_of, gpa_of, size_of, view_of, Entry, entries_of, takes_event}
+use Rattle.kvmi.specs.Verdict.{replies_on, is_invalid, is_unready, is_denied, is_unsupported, is_busy, is_absent, loses_errors, change_of, command_verdict_by, command_verdict, verdict, reaches_test6, reported_padding, refuse, takes_access, in_one_page, invalid_by, event_reply_verdict}
 use Rattle.kvmi.specs.Batch.{Takes, Batch, next_length, next_of, out_left, goes_on, counted, turn_of, turns_of, batch_by}
-use Rattle.kvmi.specs.Event.{offer_fits, event_row_of}
+use Rattle.kvmi.specs.Event.{offer_fits}
 use Rattle.kvmi.specs.Image.{Loaded, loaded, bad_form, forbidden, image, load_image}
 use Rattle.kvmi.specs.Call.{awaits_any, Call, message, ready, enter, write_image, after}
 use Rattle.store.specs.Words.{field, AWAITED}
@@ -48,7 +48,7 @@ use Rattle.batch.specs.Batch.{told_taken, message_takes, batch_of}
 use Rattle.stream.specs.Line.{line_of}
 use Rattle.replay.specs.Runner.{left_by, passed_of}
 use Rattle.laws.proofs.Bool.{test, and_l, and_r, and_i, clash}
-use Rattle.laws.proofs.Verdicts.{pick}
+use Rattle.laws.proofs.Verdicts.{pick, reply-cases}
 use Rattle.laws.proofs.Paddings.{Reports, reported, command-ids}
 use Rattle.reply.proofs.Data.{below}
 use Rattle.refine.specs.Errors.{HasId, code_headed, code_of, Spared}
@@ -388,7 +388,7 @@ invalid-reaches s f id seq d =
     (λ permitted. pick P (not (replies_on f.mode) && carries_data (layout_of id).reply) _ _ (λ _. closes)
     (λ answerable. pick P (not (size_fits (layout_of id).size d)) _ _ (λ _. closes)
     (λ size. pick P (eqb id 16) _ _
-    (λ _. pick P (eqb (first_padding 16 d) 0 && is_awaited f seq (replied_event d) && reply_fits (event_row_of f.awaited) d) _ _ (λ _. other _ (λ z. omega (arith, z))) (λ _. closes))
+    (λ _. reply-cases P f.pending.awaited f.guest seq d closes (λ a w h. other _ (λ z. omega (arith, z))))
     (λ command. pick P (eqb id 9 && not (allows_event s 2)) _ _ (λ _. closes)
     (λ pauses _.
     let ids : (leb 1 id && leb id 15) ≡ true = command-ids id ∙ rw (not-false (leb 1 id && leb id 16) known, command) in

@@ -13,6 +13,7 @@ use Rattle.std.specs.Prelude.{Some, None}
 use Rattle.wire.specs.Bytes.{le, store}
 use Rattle.wire.specs.Code.{twos, code_bytes}
 use Rattle.wire.specs.Header.{whole as whole_header, HeaderRead, header_of}
+use Rattle.kvmi.specs.declared.Awaited.{Awaited}
 use Rattle.kvmi.specs.declared.Settings.{Settings}
 use Rattle.kvmi.specs.declared.Facts.{Facts}
 use Rattle.kvmi.specs.declared.ReplyMode.{ReplyMode}
@@ -150,9 +151,9 @@ module _ (revision : ℕ) (st : State) where
         thirteen : (change other guest d (change_of 13 d)).code ≡ (change st guest d (change_of 13 d)).code
         thirteen = pages-code (view_of d) (count_of d)
 
-    end-alike : (f : Facts) → Alike (ending f d)
+    end-alike : (a : Awaited) (n : ℕ) → Alike (ending a n d)
     unfolding change
-    end-alike f = refl
+    end-alike a n = refl
 
   -- ---- answers
   answering-alike : (x : State) (mode : ReplyMode) (id seq : ℕ) (code : ℤ) (d : List ℕ) (g : Signal) (out guest : List ℕ) → eqb id 1 ≡ false
@@ -221,7 +222,7 @@ module _ (revision : ℕ) (st : State) where
       (ap (reporting_of n) (closes-alike id seq d out guest))
       (λ code _. ap (reporting_of n) (fails-alike id seq d out guest code e))
       (λ _. ap (reporting_of n) (does-alike id seq d out guest (change_of id d) e (change-alike guest d id thirteen)))
-      (λ _. ap (reporting_of n) (does-alike id seq d out guest (ending f d) e (end-alike guest d f)))
+      (λ a _. ap (reporting_of n) (does-alike id seq d out guest (ending a f.guest d) e (end-alike guest d a f.guest)))
 
   pub others : (msg out guest : List ℕ) → IsAnother msg → Same (message_of other msg out guest) (message_of st msg out guest)
   unfolding headed_of
@@ -254,7 +255,7 @@ module _ (revision : ℕ) (st : State) where
           (ap (reporting_of n) (closes-alike 13 seq d out guest))
           (λ code _. ap (reporting_of n) (fails-alike 13 seq d out guest code refl))
           (λ _. ap (reporting_of n) (does-alike 13 seq d out guest (change_of 13 d) refl thirteen))
-          (λ _. ap (reporting_of n) (does-alike 13 seq d out guest (ending f d) refl (end-alike guest d f)))
+          (λ a _. ap (reporting_of n) (does-alike 13 seq d out guest (ending a f.guest d) refl (end-alike guest d a f.guest)))
 
   same_bytes : {r q : Told} → Same r q → SameBytes r q
   same_bytes p = record { answer = ap (λ (x : Told). x.answer) p; out = ap (λ (x : Told). x.out) p; guest = ap (λ (x : Told). x.guest) p }
@@ -283,7 +284,7 @@ module _ (revision : ℕ) (st : State) where
           (reports n (same_bytes (closes-alike 13 seq d out guest)))
           (λ code _. reports n (same_bytes (fails-alike 13 seq d out guest code refl)))
           (λ _. reports n thirteen)
-          (λ _. reports n (same_bytes (does-alike 13 seq d out guest (ending f d) refl (end-alike guest d f))))
+          (λ a _. reports n (same_bytes (does-alike 13 seq d out guest (ending a f.guest d) refl (end-alike guest d a f.guest))))
 
   -- ---- the code of a message
   pub codes : (msg out guest : List ℕ) → code_of other msg out guest ≡ code_of st msg out guest
@@ -298,7 +299,7 @@ module _ (revision : ℕ) (st : State) where
           let f = facts_in st (length guest) (vcpu_of d) in
           ap (code_by other guest d) (verdict-alike revision s f h.id h.seq d)
           ∙ verdict-cases (λ (v : Verdict). code_by other guest d v ≡ code_by st guest d v) s f h.id h.seq d refl (λ code _. refl)
-          (λ _. code_alike guest d h.id) (λ _. ap (λ (r : StateChanged). r.code) (end-alike guest d f))
+          (λ _. code_alike guest d h.id) (λ a _. ap (λ (r : StateChanged). r.code) (end-alike guest d a f.guest))
 
   -- ---- GET_VERSION
   -- what is told of it: all but the version number
@@ -358,7 +359,7 @@ module _ (revision : ℕ) (st : State) where
           (reported n Closes (same-versioned out (judged_of other 1 seq d out guest Closes) (judged_of st 1 seq d out guest Closes) (closes-alike 1 seq d out guest)))
           (λ code e. reported n (Fails code) (same-versioned out (judged_of other 1 seq d out guest (Fails code)) (judged_of st 1 seq d out guest (Fails code)) (version-fails mode seq code d out guest e)))
           (λ _. reported n (Does (change_of 1 d)) (version-done mode st seq d Quiet out guest refl))
-          (λ _. reported n (Does (ending f d)) (version-done mode (change st guest d (ending f d)).state seq d (signal_of (ending f d)) out guest refl))
+          (λ a _. reported n (Does (ending a f.guest d)) (version-done mode (change st guest d (ending a f.guest d)).state seq d (signal_of (ending a f.guest d)) out guest refl))
 
   -- ---- the other calls
   ready-alike : (vcpu : ℕ) → Same (ready_of other vcpu) (ready_of st vcpu)

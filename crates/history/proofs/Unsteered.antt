@@ -33,7 +33,8 @@ use Rattle.kvmi.specs.Message.{layout_of, vcpu_of}
 use Rattle.kvmi.specs.Verdict.{verdict}
 use Rattle.kvmi.specs.Change.{signal_of, mode_for}
 use Rattle.kvmi.specs.Event.{event_row_of, is_offered, offer_fits, cr_named, msr_named}
-use Rattle.kvmi.specs.Feed.{PF, Fault, kept_of, view_named}
+use Rattle.kvmi.specs.declared.Fault.{Fault}
+use Rattle.kvmi.specs.Feed.{PF, kept_of, view_named}
 use Rattle.kvmi.specs.Reply.{message_bytes, reply_bytes, reply_data, event_bytes, pause_event, answer_bytes, answer_of}
 use Rattle.kvmi.specs.Image.{image}
 use Rattle.kvmi.specs.Call.{Call, message, ready, enter, write_image, awaits_any}

@@ -149,7 +149,7 @@ module _ (st : State) (on : mode_of_number st.session.tool.mode ≡ On) (id seq 
   unfolding judged_of
   judged-edits f =
       verdict-cases (λ v. ((judged_of st id seq d out guest v).answer.number ≡ 1 → ⊥) → Edits v) st.session.settings f id seq d (λ h. absurd (h refl)) (λ code _ _. fails code)
-      (λ _ _. does) (λ p _. no_other id 16 named p.reply refl)
+      (λ _ _. does) (λ a p _. no_other id 16 named p.reply refl)
 
 -- ---- whether it closes
 abbrev closes : Verdict → Bool

@@ -10,7 +10,8 @@ use Rattle.kvmi.specs.declared.Signal.{Signal}
 use Rattle.kvmi.specs.declared.Signal.TheVariants.{Quiet, Crash}
 use Rattle.kvmi.specs.Answer.{handled, plain, resume}
 use Rattle.kvmi.specs.declared.Feed.{Feed}
-use Rattle.kvmi.specs.Feed.{Fault, no_fault, kept_of, unfed, chosen_feed}
+use Rattle.kvmi.specs.declared.Fault.{Fault}
+use Rattle.kvmi.specs.Feed.{no_fault, kept_of, unfed, chosen_feed}
 use Rattle.kvmi.specs.Bits.{among, is_on}
 use Rattle.kvmi.specs.Limits.{least_out}
 use Rattle.kvmi.specs.Tables.{Tables, vm_event_on, event_on, cr_on, msr_on, access}

@@ -16,7 +16,8 @@ use Rattle.kvmi.specs.Bits.{is_on}
 use Rattle.kvmi.specs.Limits.{least_out}
 use Rattle.kvmi.specs.Tables.{event_on, access}
 use Rattle.kvmi.specs.Model.{Model, awaiting, awaited_by}
-use Rattle.kvmi.specs.Feed.{Fault, unfed, in_context, page_exists}
+use Rattle.kvmi.specs.declared.Fault.{Fault}
+use Rattle.kvmi.specs.Feed.{unfed, in_context, page_exists}
 use Rattle.kvmi.specs.Message.{action_of, vcpu_of}
 use Rattle.kvmi.specs.Reply.{event_bytes}
 use Rattle.kvmi.specs.Batch.{Batch, next_of, out_left, turn_of}

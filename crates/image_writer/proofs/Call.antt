@@ -16,10 +16,10 @@ use Rattle.kvmi.specs.declared.Signal.TheVariants.{Quiet}
 use Rattle.kvmi.specs.Image.{image}
 use Rattle.kvmi.specs.Model.{awaiting, is_some}
 use Rattle.kvmi.specs.Call.{awaits_any}
-use Rattle.store.specs.Words.{field, AWAITED, AWAITED_SEQ}
+use Rattle.store.specs.Words.{field, fault_in, AWAITED, AWAITED_SEQ}
 use Rattle.session.specs.State.{State, is_closed}
 use Rattle.session.specs.Calls.{told_same, told_written}
-use Rattle.session.specs.Meaning.{fault_in, awaited_in, awaited_of}
+use Rattle.session.specs.Meaning.{awaited_in, awaited_of}
 use Rattle.image_bytes.specs.Parts.{stated_of}
 use Rattle.image_writer.specs.Write.{stated_vcpus, stated_tables, image_of}
 

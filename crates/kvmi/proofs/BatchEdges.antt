@@ -11,7 +11,8 @@ use Rattle.std.specs.Prelude as prelude
 use Rattle.kvmi.specs.declared.Resumption.{Resumption}
 use Rattle.kvmi.specs.Answer.{resumption, resume}
 use Rattle.kvmi.specs.Tables.{with_ready, with_pauses}
-use Rattle.kvmi.specs.Model.{Awaited, Model, fresh, closed_model, with_mode, with_seq, set_awaited, on_vcpu}
+use Rattle.kvmi.specs.declared.Awaited.{Awaited}
+use Rattle.kvmi.specs.Model.{Model, fresh, closed_model, with_mode, with_seq, set_awaited, on_vcpu}
 use Rattle.kvmi.specs.Reply.{message_bytes}
 use Rattle.kvmi.specs.Image.{image}
 use Rattle.kvmi.specs.Call.{Call, message, ready}

@@ -14,7 +14,7 @@ use Rattle.kvmi.specs.Model.{next_seq}
 use Rattle.kvmi.specs.Message.{layout_of, size_fits, names_vcpu, vcpu_of, enable_at, enables, switches_at, event_of, register_of, gpa_of, size_of, count_of, count_fits, view_of, entry_of, entries_of, entry_padding, padding_runs, first_non_zero, first_of_runs, first_padding, is_vm_event, is_vcpu_event, takes_event}
 use Rattle.kvmi.specs.Event.{event_row_of, offer_fits, asks_for, is_asked_for}
 use Rattle.kvmi.specs.Feed.{kept_of, context_fits, wants_bytes, in_context, page_exists, page_feed, chosen_feed, feed_of}
-use Rattle.kvmi.specs.Verdict.{is_access, takes_access, in_one_page, invalid_by, is_invalid, is_unready, is_denied, is_unsupported, is_busy, is_absent, change_of, loses_errors, command_verdict_by, command_verdict, is_awaited, reply_fits, event_reply_verdict, verdict, reaches_test6, reported_padding}
+use Rattle.kvmi.specs.Verdict.{is_access, takes_access, in_one_page, invalid_by, is_invalid, is_unready, is_denied, is_unsupported, is_busy, is_absent, change_of, loses_errors, command_verdict_by, command_verdict, is_awaited, reply_fits, reply_verdict, event_reply_verdict, verdict, reaches_test6, reported_padding}
 use Rattle.kvmi.specs.Change.{is_skipped, set_page, take_entry, take_entries, run_by, set_pages, set_msr, apply}
 use Rattle.kvmi.specs.Reply.{message_bytes, reply_bytes, reply_data, event_bytes, pause_event, command_error_event, answer_bytes, answer_seq, answer_of}
 use Rattle.kvmi.specs.Record.{kind_at}
@@ -43,7 +43,7 @@ abbrev In-one-write : List BatchEdge → Type 0
 In-one-write es = map batch_outcome es ≡ map (λ (e : BatchEdge). some e.expected) es
 
 computed : Right cases × As-expected of_messages × As-expected of_sessions × As-expected of_events × As-expected of_images × As-expected of_execute_only × In-one-write of_batches × (batch_calls ≡ batch_calls_seen) × As-expected of_faults × In-one-write of_fault_batches × (fault_calls ≡ fault_calls_seen) × As-expected of_padding
-unfolding le num load store is_whole header_of twos code_bytes bit_of is_on put_bit bits_have write_row read_row in_range is_set allows_command allows_event can_singlestep uncatchable held_by_host has_execute_only all_or_nothing is_cr cr_bit msr_place is_msr next_seq layout_of size_fits names_vcpu vcpu_of enable_at enables switches_at event_of register_of gpa_of size_of count_of count_fits view_of entry_of entries_of entry_padding padding_runs first_non_zero first_of_runs first_padding is_vm_event is_vcpu_event takes_event vm_event_on event_on cr_on msr_in msr_on access_in access event_row_of offer_fits asks_for is_asked_for is_access takes_access in_one_page invalid_by is_invalid is_unready is_denied is_unsupported is_busy kept_of context_fits wants_bytes in_context page_exists page_feed chosen_feed feed_of is_absent change_of loses_errors command_verdict_by command_verdict is_awaited reply_fits event_reply_verdict verdict reaches_test6 reported_padding is_skipped set_page take_entry take_entries run_by set_pages set_msr apply message_bytes reply_bytes reply_data event_bytes pause_event command_error_event answer_bytes answer_seq answer_of kind_at image vm_form is_idle vc_form ms_form pa_form vm_may may_enable vc_may pa_may load_image begin_fresh begin_from answering judged headed message_step ready_step sending pausing dequeuing entering enter_step image_step step next_length refusal_of goes_on turn_of turns_of batch_by used_in used_by batch_step used_on seen outcome batch_outcome used_at
+unfolding le num load store is_whole header_of twos code_bytes bit_of is_on put_bit bits_have write_row read_row in_range is_set allows_command allows_event can_singlestep uncatchable held_by_host has_execute_only all_or_nothing is_cr cr_bit msr_place is_msr next_seq layout_of size_fits names_vcpu vcpu_of enable_at enables switches_at event_of register_of gpa_of size_of count_of count_fits view_of entry_of entries_of entry_padding padding_runs first_non_zero first_of_runs first_padding is_vm_event is_vcpu_event takes_event vm_event_on event_on cr_on msr_in msr_on access_in access event_row_of offer_fits asks_for is_asked_for is_access takes_access in_one_page invalid_by is_invalid is_unready is_denied is_unsupported is_busy kept_of context_fits wants_bytes in_context page_exists page_feed chosen_feed feed_of is_absent change_of loses_errors command_verdict_by command_verdict is_awaited reply_fits reply_verdict event_reply_verdict verdict reaches_test6 reported_padding is_skipped set_page take_entry take_entries run_by set_pages set_msr apply message_bytes reply_bytes reply_data event_bytes pause_event command_error_event answer_bytes answer_seq answer_of kind_at image vm_form is_idle vc_form ms_form pa_form vm_may may_enable vc_may pa_may load_image begin_fresh begin_from answering judged headed message_step ready_step sending pausing dequeuing entering enter_step image_step step next_length refusal_of goes_on turn_of turns_of batch_by used_in used_by batch_step used_on seen outcome batch_outcome used_at
 computed = (refl, refl, refl, refl, refl, refl, refl, refl, refl, refl, refl, refl)
 
 pub cases-right : Right cases
@@ -84,7 +84,7 @@ of-padding-right = computed.11
 
 -- apart, since tables of 1,024 pages take long
 pub of-revisions-right : As-expected of_revisions
-unfolding le num load store is_whole header_of twos code_bytes bit_of is_on put_bit bits_have write_row read_row in_range is_set allows_command allows_event can_singlestep uncatchable held_by_host has_execute_only all_or_nothing is_cr cr_bit msr_place is_msr next_seq layout_of size_fits names_vcpu vcpu_of enable_at enables switches_at event_of register_of gpa_of size_of count_of count_fits view_of entry_of entries_of entry_padding padding_runs first_non_zero first_of_runs first_padding is_vm_event is_vcpu_event takes_event vm_event_on event_on cr_on msr_in msr_on access_in access event_row_of offer_fits asks_for is_asked_for is_access takes_access in_one_page invalid_by is_invalid is_unready is_denied is_unsupported is_busy kept_of context_fits wants_bytes in_context page_exists page_feed chosen_feed feed_of is_absent change_of loses_errors command_verdict_by command_verdict is_awaited reply_fits event_reply_verdict verdict reaches_test6 reported_padding is_skipped set_page take_entry take_entries run_by set_pages set_msr apply message_bytes reply_bytes reply_data event_bytes pause_event command_error_event answer_bytes answer_seq answer_of kind_at image vm_form is_idle vc_form ms_form pa_form vm_may may_enable vc_may pa_may load_image begin_fresh begin_from answering judged headed message_step ready_step sending pausing dequeuing entering enter_step image_step step next_length refusal_of goes_on turn_of turns_of batch_by used_in used_by batch_step used_on seen outcome batch_outcome used_at
+unfolding le num load store is_whole header_of twos code_bytes bit_of is_on put_bit bits_have write_row read_row in_range is_set allows_command allows_event can_singlestep uncatchable held_by_host has_execute_only all_or_nothing is_cr cr_bit msr_place is_msr next_seq layout_of size_fits names_vcpu vcpu_of enable_at enables switches_at event_of register_of gpa_of size_of count_of count_fits view_of entry_of entries_of entry_padding padding_runs first_non_zero first_of_runs first_padding is_vm_event is_vcpu_event takes_event vm_event_on event_on cr_on msr_in msr_on access_in access event_row_of offer_fits asks_for is_asked_for is_access takes_access in_one_page invalid_by is_invalid is_unready is_denied is_unsupported is_busy kept_of context_fits wants_bytes in_context page_exists page_feed chosen_feed feed_of is_absent change_of loses_errors command_verdict_by command_verdict is_awaited reply_fits reply_verdict event_reply_verdict verdict reaches_test6 reported_padding is_skipped set_page take_entry take_entries run_by set_pages set_msr apply message_bytes reply_bytes reply_data event_bytes pause_event command_error_event answer_bytes answer_seq answer_of kind_at image vm_form is_idle vc_form ms_form pa_form vm_may may_enable vc_may pa_may load_image begin_fresh begin_from answering judged headed message_step ready_step sending pausing dequeuing entering enter_step image_step step next_length refusal_of goes_on turn_of turns_of batch_by used_in used_by batch_step used_on seen outcome batch_outcome used_at
 of-revisions-right = refl
 
 -- the skip rule

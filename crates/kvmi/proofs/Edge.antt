@@ -14,7 +14,8 @@ use Rattle.kvmi.specs.declared.ReplyMode.TheVariants.{On}
 use Rattle.kvmi.specs.declared.Signal.TheVariants.{Quiet}
 use Rattle.kvmi.specs.Answer.{Paper, handled, plain, with_padding}
 use Rattle.kvmi.specs.Feed.{no_fault}
-use Rattle.kvmi.specs.Model.{Awaited, awaiting, Model}
+use Rattle.kvmi.specs.declared.Awaited.{Awaited}
+use Rattle.kvmi.specs.Model.{awaiting, Model}
 use Rattle.kvmi.specs.Reply.{message_bytes}
 use Rattle.kvmi.specs.Image.{image}
 use Rattle.kvmi.specs.Call.{Call, message, ready}

@@ -11,7 +11,8 @@ use Rattle.kvmi.specs.declared.Signal.TheVariants.{Quiet, Crash}
 use Rattle.kvmi.specs.Feed.{unfed}
 use Rattle.kvmi.specs.Answer.{handled, plain, resume}
 use Rattle.kvmi.specs.Tables.{with_ready, with_events}
-use Rattle.kvmi.specs.Model.{Awaited, fresh, with_seq, on_vcpu}
+use Rattle.kvmi.specs.declared.Awaited.{Awaited}
+use Rattle.kvmi.specs.Model.{fresh, with_seq, on_vcpu}
 use Rattle.kvmi.specs.Call.{Call, message, ready, enter, write_image}
 use Rattle.kvmi.specs.Case.{from_bytes, standing, two, out, page, send, pause, control_msr, vm, vc, en, fresh_image}
 use Rattle.kvmi.proofs.Edge.{Outcome, Edge, sized, equipped, lent, registers, naming, answer_data, control_vm_event, control_event, control_cr, responses, send_as, to15, vm_has, vm_of, idle, ms, joined, pause_bytes, beside, nobody, awaits, awaits_of, quiet, shut, told, gave, closing, started}

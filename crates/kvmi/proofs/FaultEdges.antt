@@ -13,7 +13,8 @@ use Rattle.kvmi.specs.declared.Source.TheVariants.{Unfed, Message, Guest, Missin
 use Rattle.kvmi.specs.declared.Feed.{Feed}
 use Rattle.std.specs.Prelude.{Some}
 use Rattle.kvmi.specs.Answer.{Paper, handled, plain, resumption, resume}
-use Rattle.kvmi.specs.Model.{Awaited, awaiting}
+use Rattle.kvmi.specs.declared.Awaited.{Awaited}
+use Rattle.kvmi.specs.Model.{awaiting}
 use Rattle.kvmi.specs.Reply.{message_bytes}
 use Rattle.kvmi.specs.Call.{Call, message, enter, write_image}
 use Rattle.kvmi.specs.Case.{from_bytes, two, out, page, entry, access_data, set_access, reply, c0, vm, vc, en, fresh_image}

@@ -13,10 +13,12 @@ use Rattle.kvmi.specs.Limits.{least_out, event_out, state_bytes}
 use Rattle.kvmi.specs.Answer.{Paper, handled, plain, plain_at, with_padding}
 use Rattle.kvmi.specs.Settings.{in_range}
 use Rattle.kvmi.specs.Tables.{Tables, vcpu_at, with_ready, with_pauses}
-use Rattle.kvmi.specs.Model.{Awaited, awaiting, Model, begun, fresh, closed_model, with_seq, set_awaited, awaited_by, on_vcpu, next_seq, is_some}
+use Rattle.kvmi.specs.declared.Awaited.{Awaited}
+use Rattle.kvmi.specs.Model.{awaiting, Model, begun, fresh, closed_model, with_seq, set_awaited, awaited_by, on_vcpu, next_seq, is_some}
 use Rattle.kvmi.specs.Message.{layout_of, vcpu_of}
 use Rattle.kvmi.specs.Event.{offer_fits, is_asked_for}
-use Rattle.kvmi.specs.Feed.{Fault, no_fault, kept_of}
+use Rattle.kvmi.specs.declared.Fault.{Fault}
+use Rattle.kvmi.specs.Feed.{no_fault, kept_of}
 use Rattle.kvmi.specs.Verdict.{verdict, facts_of, reported_padding}
 use Rattle.kvmi.specs.Change.{apply, signal_of, mode_for}
 use Rattle.kvmi.specs.Reply.{reply_data, event_bytes, pause_event, answer_of, answer_seq}

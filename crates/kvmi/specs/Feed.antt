@@ -2,7 +2,7 @@
 -- instruction whose read it stopped. Quotes are W5's, unless they are marked. own is a fault's own bytes, d its reply's data.
 use Rattle.std.specs.Prelude.{ℕ, ◌+◌, ◌-◌, ◌*◌, ◌/◌, ◌%◌, ◌^◌, List, Bool, true, false, cond, not, ◌&&◌, get_or, leb, ltb, eqb}
 use Rattle.wire.specs.Bytes.{load}
-use Rattle.kvmi.specs.declared.Facts.{Facts}
+use Rattle.kvmi.specs.declared.Fault.{Fault}
 use Rattle.kvmi.specs.declared.Feed.{Feed}
 use Rattle.kvmi.specs.declared.Source.{Source}
 use Rattle.kvmi.specs.declared.Source.TheVariants.{Unfed, Message, Guest, Missing}
@@ -14,12 +14,6 @@ abbrev pub PF : ℕ
 PF = 10
 
 -- ---- a fault's own bytes: gva u64, gpa u64, access u8, padding, view u16, padding
--- what the awaited record keeps of them
-pub record Fault : Type 0 where
-  pub gva : ℕ
-  pub gpa : ℕ
-  pub access : ℕ
-
 -- of any other event nothing is kept
 abbrev pub no_fault : Fault
 no_fault = record { gva = 0; gpa = 0; access = 0 }
@@ -96,5 +90,5 @@ unfoldable pub chosen_feed : ℕ → ℕ → ℕ → List ℕ → Feed
 chosen_feed gva gpa guest d =
     cond (in_context gva (address_of d) (supplied_size d)) (supplied gva (address_of d) (supplied_size d)) (page_feed guest gpa)
 
-unfoldable pub feed_of : Facts → List ℕ → Feed
-feed_of f d = cond (wants_bytes f.access (action_of d)) (chosen_feed f.gva f.gpa f.guest d) unfed
+unfoldable pub feed_of : Fault → ℕ → List ℕ → Feed
+feed_of f guest d = cond (wants_bytes f.access (action_of d)) (chosen_feed f.gva f.gpa guest d) unfed

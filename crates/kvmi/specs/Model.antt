@@ -4,15 +4,9 @@ use Rattle.std.proofs.Math.Option.{Option, none, some}
 use Rattle.kvmi.specs.declared.Settings.{Settings}
 use Rattle.kvmi.specs.declared.ReplyMode.{ReplyMode}
 use Rattle.kvmi.specs.declared.ReplyMode.TheVariants.{On}
+use Rattle.kvmi.specs.declared.Awaited.{Awaited}
 use Rattle.kvmi.specs.Tables.{Vcpu, Tables, empty_tables, vcpu_at, set_vcpu}
-use Rattle.kvmi.specs.Feed.{Fault}
-
--- an event that was sent and whose reply has not come
-pub record Awaited : Type 0 where
-  pub event : ℕ
-  pub seq : ℕ
-  -- what is kept of a page fault
-  pub fault : Fault
+use Rattle.kvmi.specs.declared.Fault.{Fault}
 
 -- one with its seq
 abbrev pub awaiting : ℕ → ℕ → Fault → Awaited

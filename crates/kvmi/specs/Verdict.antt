@@ -1,5 +1,6 @@
 -- "What is tested first": tests 2 to 6 of a message with a whole header, in their order, the rule of EVENT_REPLY, and W6's report of test 6.
-use Rattle.std.specs.Prelude.{ℕ, ◌+◌, ◌%◌, List, [], ◌∷◌, Bool, true, false, cond, not, ◌&&◌, ◌||◌, ℤ, length, get_or, drop, leb, eqb}
+use Rattle.std.specs.Prelude.{ℕ, ◌+◌, ◌%◌, List, [], ◌∷◌, Bool, true, false, cond, not, ◌&&◌, ◌||◌, ℤ, length, get_or, drop, leb, eqb, Some, None}
+use Rattle.std.specs.Prelude as std
 use Rattle.std.proofs.Math.Option.{Option, none, some}
 use Rattle.msrs.specs.Place.{is_msr}
 use Rattle.kvmi.specs.declared.Settings.{Settings}
@@ -16,28 +17,26 @@ use Rattle.kvmi.specs.Bits.{among, every}
 use Rattle.kvmi.specs.Codes.{EPERM, ENOENT, EAGAIN, EBUSY, EINVAL, EOPNOTSUPP, ENOSYS}
 use Rattle.kvmi.specs.Settings.{allows_command, allows_event, can_singlestep, uncatchable, held_by_host, has_execute_only}
 use Rattle.kvmi.specs.Tables.{is_cr, vcpu_at}
-use Rattle.kvmi.specs.Model.{Awaited, Model, awaited_by}
+use Rattle.kvmi.specs.declared.Awaited.{Awaited}
+use Rattle.kvmi.specs.Model.{Model, awaited_by}
 use Rattle.kvmi.specs.declared.EventRow.{EventRow}
 use Rattle.kvmi.specs.declared.Feed.{Feed}
 use Rattle.kvmi.specs.declared.ReplyForm.{ReplyForm}
 use Rattle.kvmi.specs.declared.ReplyForm.TheVariants.{Plain, NewValue, Context}
 use Rattle.kvmi.specs.Event.{event_row_of, takes_action, form_fits, value_of}
-use Rattle.kvmi.specs.Feed.{Fault, no_fault, unfed, page_exists, feed_of}
+use Rattle.kvmi.specs.declared.Fault.{Fault}
+use Rattle.kvmi.specs.Feed.{unfed, page_exists, feed_of}
 use Rattle.kvmi.specs.Message.{layout_of, size_fits, carries_data, names_vcpu, vcpu_of, command_of, enables, is_now, has_flag, action_of, replied_event, switches_at, event_of, register_of, gpa_of, size_of, count_of, count_fits, view_of, Entry, entries_of, first_padding, takes_event}
 
--- the event that a vCPU awaits a reply to, 0 for none, and its seq
+-- the event that a vCPU awaits a reply to, 0 for none
 abbrev pub awaited_event : Option Awaited → ℕ
 awaited_event none = 0
 awaited_event (some a) = a.event
 
-abbrev pub awaited_seq : Option Awaited → ℕ
-awaited_seq none = 0
-awaited_seq (some a) = a.seq
-
--- and what is kept of a page fault
-abbrev pub awaited_fault : Option Awaited → Fault
-awaited_fault none = no_fault
-awaited_fault (some a) = a.fault
+-- an awaited event as the code has it
+abbrev pub awaits : Option Awaited → std.Option Awaited
+awaits none = None
+awaits (some a) = Some a
 
 -- what the tests ask of the model, for the vCPU that the message names
 abbrev pub facts_of : Model → ℕ → ℕ → Facts
@@ -46,12 +45,7 @@ facts_of m guest vcpu =
       mode = m.mode;
       guest = guest;
       ready = (vcpu_at m.tables vcpu).ready;
-      pauses = (vcpu_at m.tables vcpu).pauses;
-      awaited = awaited_event (awaited_by m vcpu);
-      seq = awaited_seq (awaited_by m vcpu);
-      gva = (awaited_fault (awaited_by m vcpu)).gva;
-      gpa = (awaited_fault (awaited_by m vcpu)).gpa;
-      access = (awaited_fault (awaited_by m vcpu)).access;
+      pending = record { pauses = (vcpu_at m.tables vcpu).pauses; awaited = awaits (awaited_by m vcpu) };
     }
 
 -- "replies on"
@@ -107,7 +101,7 @@ is_unsupported s id d = eqb id 14 && not (can_singlestep s) || eqb id 10 && enab
 
 -- -16 EBUSY
 unfoldable pub is_busy : Settings → Facts → ℕ → List ℕ → Bool
-is_busy s f id d = eqb id 10 && enables id d && held_by_host s (event_of id d) || eqb id 9 && leb pause_limit f.pauses
+is_busy s f id d = eqb id 10 && enables id d && held_by_host s (event_of id d) || eqb id 9 && leb pause_limit f.pending.pauses
 
 -- -2 ENOENT
 unfoldable pub is_absent : Facts → ℕ → List ℕ → Bool
@@ -157,27 +151,31 @@ command_verdict s f id d = command_verdict_by (first_padding id d) s f id d
 -- ---- "An EVENT_REPLY closes unless padding is zero, the vCPU awaits one, seq and event match, and the action is 0 continue or 2 crash";
 -- W1: "Replies carry 24 data bytes for CR and MSR [..], and 16 otherwise", "Retry is taken for BREAKPOINT and DESCRIPTOR only", "a wrong reply closes"; W5: "288
 -- data bytes", "context size above 256 or rep flag above 1 closes"
-unfoldable pub is_awaited : Facts → ℕ → ℕ → Bool
-is_awaited f seq event = not (eqb f.awaited 0) && eqb f.seq seq && eqb f.awaited event
+unfoldable pub is_awaited : Awaited → ℕ → ℕ → Bool
+is_awaited a seq event = eqb a.seq seq && eqb a.event event
 
 -- its size, its action and what it has behind its first 16 bytes are as the awaited event's row says
 unfoldable pub reply_fits : EventRow → List ℕ → Bool
 reply_fits r d = eqb (length d) r.reply && takes_action r (action_of d) && form_fits r.form d
 
 -- W5: "the host wants the bytes to feed the instruction"
-abbrev pub feed_by : ReplyForm → Facts → List ℕ → Feed
-feed_by Plain f d = unfed
-feed_by NewValue f d = unfed
-feed_by Context f d = feed_of f d
+abbrev pub feed_by : ReplyForm → Fault → ℕ → List ℕ → Feed
+feed_by Plain f guest d = unfed
+feed_by NewValue f guest d = unfed
+feed_by Context f guest d = feed_of f guest d
 
 -- "Once taken, it is awaited no more. A crash is signalled"; W1: "Such a continue or retry, unlike a
 -- pause's, is signalled": a pause is event 2
-unfoldable pub event_reply_verdict : Facts → ℕ → List ℕ → Verdict
-event_reply_verdict f seq d =
-    cond (eqb (first_padding 16 d) 0 && is_awaited f seq (replied_event d) && reply_fits (event_row_of f.awaited) d)
+unfoldable pub reply_verdict : std.Option Awaited → ℕ → ℕ → List ℕ → Verdict
+reply_verdict None guest seq d = Closes
+reply_verdict (Some a) guest seq d =
+    cond (eqb (first_padding 16 d) 0 && is_awaited a seq (replied_event d) && reply_fits (event_row_of a.event) d)
     (Does
-    (EndWait (not (eqb f.awaited 2)) (vcpu_of d) (action_of d) (value_of (event_row_of f.awaited).form d) (feed_by (event_row_of f.awaited).form f d)))
+    (EndWait (not (eqb a.event 2)) (vcpu_of d) (action_of d) (value_of (event_row_of a.event).form d) (feed_by (event_row_of a.event).form a.fault guest d)))
     Closes
+
+unfoldable pub event_reply_verdict : Facts → ℕ → List ℕ → Verdict
+event_reply_verdict f seq d = reply_verdict f.pending.awaited f.guest seq d
 
 -- ---- tests 2 to 6
 -- "With replies off, either closes."

@@ -197,20 +197,37 @@ pub struct EventRow {
     pub reply: usize,
 }
 
-// What the tests of a message ask of the session: the reply mode, how many bytes of guest memory are lent, and what stands
-// for the vCPU that the message names: its ready mark, queued pauses, the event whose reply it awaits (0: none), that event's seq, and of a page fault
-// its addresses and access.
+// What is kept of a page fault; of any other event all three are 0.
+#[derive(Clone, Copy)]
+pub struct Fault {
+    pub gva: u64,
+    pub gpa: u64,
+    pub access: u64,
+}
+
+// An event that was sent and whose reply has not come.
+#[derive(Clone, Copy)]
+pub struct Awaited {
+    pub event: u64,
+    pub seq: u64,
+    pub fault: Fault,
+}
+
+// What is pending of a vCPU: how many pauses are queued, and the event whose reply it awaits.
+#[derive(Clone, Copy)]
+pub struct Pending {
+    pub pauses: u64,
+    pub awaited: Option<Awaited>,
+}
+
+// What the tests of a message ask of the session: the reply mode, how many bytes of guest memory are lent, and for the vCPU that the message names its
+// ready mark and what is pending of it.
 #[derive(Clone, Copy)]
 pub struct Facts {
     pub mode: ReplyMode,
     pub guest: usize,
     pub ready: bool,
-    pub pauses: u64,
-    pub awaited: u64,
-    pub seq: u64,
-    pub gva: u64,
-    pub gpa: u64,
-    pub access: u64,
+    pub pending: Pending,
 }
 
 // What a message that passes all tests changes. The fields are in the order that stands at `Signal`.

@@ -9,7 +9,9 @@ use lib.Dec.{leb, ltb, eqb}
 use borrow.Author.Tests.{leb-true, ltb-true, eqb-true}
 use Rattle.wire.specs.Bytes.{load}
 use Rattle.kvmi.specs.declared.Settings.{Settings}
+use Rattle.kvmi.specs.declared.Awaited.{Awaited}
 use Rattle.kvmi.specs.declared.Facts.{Facts}
+use Rattle.kvmi.specs.declared.Fault.{Fault}
 use Rattle.kvmi.specs.declared.Feed.{Feed}
 use Rattle.kvmi.specs.declared.Source.TheVariants.{Message}
 use Rattle.kvmi.specs.declared.EventRow.{EventRow}
@@ -67,23 +69,25 @@ chosen-inside gva gpa guest d long few =
     pick (Inside d) (in_context gva address size) _ _
     (λ h _. let from = in-from gva address size h in let to = in-to gva address size h in (long, omega arith)) (λ _. page-inside guest gpa d)
 
-fed-inside : (f : Facts) (d : List ℕ) → length d ≡ 288 → supplied_size d ≤ 256 → Inside d (feed_of f d)
+fed-inside : (f : Fault) (guest : ℕ) (d : List ℕ) → length d ≡ 288 → supplied_size d ≤ 256 → Inside d (feed_of f guest d)
 unfolding feed_of
-fed-inside f d long few =
-    pick (Inside d) (wants_bytes f.access (action_of d)) _ _ (λ _. chosen-inside f.gva f.gpa f.guest d long few) (λ _ s. absurd (cc))
+fed-inside f guest d long few =
+    pick (Inside d) (wants_bytes f.access (action_of d)) _ _ (λ _. chosen-inside f.gva f.gpa guest d long few) (λ _ s. absurd (cc))
 
-form-inside : (form : ReplyForm) (reply : ℕ) (f : Facts) (d : List ℕ) → is_long form reply ≡ true → length d ≡ reply → form_fits form d ≡ true → Inside d (feed_by form f d)
-form-inside Plain reply f d long e fits = λ s. absurd (cc)
-form-inside NewValue reply f d long e fits = λ s. absurd (cc)
-form-inside Context reply f d long e fits = fed-inside f d (e ∙ eqb-true reply 288 long) (context-few d fits)
+form-inside : (form : ReplyForm) (reply : ℕ) (f : Fault) (guest : ℕ) (d : List ℕ) → is_long form reply ≡ true → length d ≡ reply → form_fits form d ≡ true
+    → Inside d (feed_by form f guest d)
+form-inside Plain reply f guest d long e fits = λ s. absurd (cc)
+form-inside NewValue reply f guest d long e fits = λ s. absurd (cc)
+form-inside Context reply f guest d long e fits = fed-inside f guest d (e ∙ eqb-true reply 288 long) (context-few d fits)
 
 -- of a reply that is taken
-pub reply-inside : (s : Settings) (f : Facts) (id seq : ℕ) (d : List ℕ) → Replied s f id seq d → Inside d (feed_by (event_row_of f.awaited).form f d)
+pub reply-inside : (s : Settings) (f : Facts) (a : Awaited) (id seq : ℕ) (d : List ℕ) → Replied s f a id seq d
+    → Inside d (feed_by (event_row_of a.event).form a.fault f.guest d)
 unfolding reply_fits
-reply-inside s f id seq d r =
-    let row = event_row_of f.awaited in
+reply-inside s f a id seq d r =
+    let row = event_row_of a.event in
     let size = eqb (length d) row.reply in
     let action = takes_action row (action_of d) in
     let fits = r.fits in
-    form-inside row.form row.reply f d (context-long f.awaited) (eqb-true (length d) row.reply (and_l size action (and_l (size && action) _ fits)))
+    form-inside row.form row.reply a.fault f.guest d (context-long a.event) (eqb-true (length d) row.reply (and_l size action (and_l (size && action) _ fits)))
     (and_r (size && action) (form_fits row.form d) fits)

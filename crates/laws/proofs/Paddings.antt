@@ -17,11 +17,10 @@ use Rattle.kvmi.specs.declared.Verdict.{Verdict}
 use Rattle.kvmi.specs.declared.Verdict.TheVariants.{Closes, Fails, Does}
 use Rattle.kvmi.specs.Codes.{EPERM, ENOENT, EAGAIN, EBUSY, EINVAL, EOPNOTSUPP, ENOSYS}
 use Rattle.kvmi.specs.Settings.{allows_command, allows_event}
-use Rattle.kvmi.specs.Message.{layout_of, size_fits, carries_data, replied_event, first_padding}
-use Rattle.kvmi.specs.Event.{event_row_of}
-use Rattle.kvmi.specs.Verdict.{replies_on, is_invalid, is_unready, is_denied, is_unsupported, is_busy, is_absent, change_of, loses_errors, command_verdict_by, command_verdict, is_awaited, reply_fits, event_reply_verdict, refuse, verdict, reaches_test6, reported_padding}
+use Rattle.kvmi.specs.Message.{layout_of, size_fits, carries_data, first_padding}
+use Rattle.kvmi.specs.Verdict.{replies_on, is_invalid, is_unready, is_denied, is_unsupported, is_busy, is_absent, change_of, loses_errors, command_verdict_by, command_verdict, event_reply_verdict, refuse, verdict, reaches_test6, reported_padding}
 use Rattle.laws.proofs.Bool.{test}
-use Rattle.laws.proofs.Verdicts.{pick, sound-of}
+use Rattle.laws.proofs.Verdicts.{pick, reply-cases, sound-of}
 
 -- "for ids 1 to 15": the known ones but for EVENT_REPLY
 pub command-ids : (id : ℕ) → (leb 1 id && leb id 15) ≡ ((leb 1 id && leb id 16) && not (eqb id 16))
@@ -97,7 +96,7 @@ module _ (s : Settings) (f : Facts) (id : ℕ) (d : List ℕ) where
       (λ _. pick P (not (size_fits (layout_of id).size d)) _ _ (λ h. ill-sized (not-true (size_fits (layout_of id).size d) h))
       (λ _. pick P (eqb id 16) _ _
       (λ e. let none : told ≡ 0 = unknown (command-ids id ∙ falls-r (leb 1 id && leb id 16) _ (ap not e)) in
-      pick P (eqb (first_padding 16 d) 0 && is_awaited f seq (replied_event d) && reply_fits (event_row_of f.awaited) d) _ _ (λ _. none) (λ _. none))
+      reply-cases P f.pending.awaited f.guest seq d none (λ a w h. none))
       (λ _. pick P (eqb id 9 && not (allows_event s 2)) _ _ (λ h. unpaused h)
       (λ _. pick P (is_invalid s id d) _ _ (λ _. inr refl)
       (λ h. let none : told ≡ 0 = clean h in

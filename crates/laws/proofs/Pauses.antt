@@ -133,7 +133,7 @@ module _ (s : Settings) (vcpu : ℕ) where
           let d = drop 8 msg in
           verdict-cases (λ v. Balanced vcpu m (message msg out guest) (judged s m h.id h.seq d out guest v)) s (facts_of m (length guest) (vcpu_of d)) h.id h.seq d
           (λ q. absurd (true≢false q)) (λ code _ _. add-zero _ ∙ sym (zero-add _)) (λ p _. change-even m guest d a h.id p ∙ sym (zero-add _))
-          (λ _ _. end-even m guest d _ (vcpu_of d) _ _ _ ∙ sym (zero-add _))
+          (λ _ _ _. end-even m guest d _ (vcpu_of d) _ _ _ ∙ sym (zero-add _))
 
   ready-balanced : (m : Model) (v : ℕ) → Balanced vcpu m (ready v) (ready_step s m v)
   unfolding ready_step accepted sent queued

@@ -245,7 +245,7 @@ module _ (s : Settings) (ok : So (in_range s)) where
       by-verdict : (id seq : ℕ) (d : List ℕ) → Kept (judged s m id seq d out guest (verdict s (facts_of m (length guest) (vcpu_of d)) id seq d))
       by-verdict id seq d =
           verdict-cases (λ v. Kept (judged s m id seq d out guest v)) s (facts_of m (length guest) (vcpu_of d)) id seq d (empty-valid s ok) (λ _ _. a)
-          (λ p. change-fine s ok m a guest d id p) (λ _. a)
+          (λ p. change-fine s ok m a guest d id p) (λ _ _. a)
 
       by-header : (h : HeaderRead) → Kept (headed s m (drop 8 msg) out guest h)
       by-header None = empty-valid s ok

@@ -7,6 +7,7 @@ use lib.IntN.{ℤ}
 use lib.ListN.{get_or, drop, length}
 use lib.Dec.{leb, eqb}
 use borrow.Author.Tests.{not-false, eqb-true}
+use Rattle.std.specs.Prelude.{Option, Some, None}
 use Rattle.wire.specs.Bytes.{load}
 use Rattle.msrs.specs.Place.{is_msr}
 use Rattle.kvmi.specs.declared.Settings.{Settings}
@@ -21,9 +22,10 @@ use Rattle.kvmi.specs.Codes.{is_error, EPERM, ENOENT, EAGAIN, EBUSY, EINVAL, EOP
 use Rattle.kvmi.specs.Settings.{allows_command, allows_event}
 use Rattle.kvmi.specs.Tables.{is_cr}
 use Rattle.kvmi.specs.Message.{layout_of, size_fits, carries_data, names_vcpu, vcpu_of, switches_at, action_of, replied_event, event_of, register_of, gpa_of, size_of, count_of, count_fits, view_of, Entry, entries_of, first_padding, takes_event}
+use Rattle.kvmi.specs.declared.Awaited.{Awaited}
 use Rattle.kvmi.specs.declared.Facts.{Facts}
 use Rattle.kvmi.specs.Event.{event_row_of, value_of}
-use Rattle.kvmi.specs.Verdict.{replies_on, takes_access, in_one_page, invalid_by, is_invalid, is_unready, is_denied, is_unsupported, is_busy, is_absent, change_of, loses_errors, command_verdict_by, command_verdict, is_awaited, reply_fits, feed_by, event_reply_verdict, refuse, verdict}
+use Rattle.kvmi.specs.Verdict.{replies_on, takes_access, in_one_page, invalid_by, is_invalid, is_unready, is_denied, is_unsupported, is_busy, is_absent, change_of, loses_errors, command_verdict_by, command_verdict, is_awaited, reply_fits, feed_by, reply_verdict, event_reply_verdict, refuse, verdict}
 use Rattle.laws.proofs.Bool.{and_l, and_r}
 
 pub or-false-l : (a b : Bool) → (a || b) ≡ false → a ≡ false
@@ -64,21 +66,32 @@ pub record Passed (s : Settings) (f : Facts) (id : ℕ) (d : List ℕ) : Type 0 
   pub present : is_absent f id d ≡ false
   pub errors : loses_errors s id d ≡ false
 
--- an EVENT_REPLY that is taken
-pub record Replied (s : Settings) (f : Facts) (id seq : ℕ) (d : List ℕ) : Type 0 where
+-- an EVENT_REPLY that is taken, to an awaited event
+pub record Replied (s : Settings) (f : Facts) (a : Awaited) (id seq : ℕ) (d : List ℕ) : Type 0 where
   pub admitted : Admitted s f id d
   pub reply : id ≡ 16
   pub padding : eqb (first_padding 16 d) 0 ≡ true
-  pub awaited : is_awaited f seq (replied_event d) ≡ true
-  pub fits : reply_fits (event_row_of f.awaited) d ≡ true
+  pub awaits : f.pending.awaited ≡ Some a
+  pub awaited : is_awaited a seq (replied_event d) ≡ true
+  pub fits : reply_fits (event_row_of a.event) d ≡ true
 
 -- what it does
-abbrev pub ending : Facts → List ℕ → Change
-ending f d = EndWait (not (eqb f.awaited 2)) (vcpu_of d) (action_of d) (value_of (event_row_of f.awaited).form d) (feed_by (event_row_of f.awaited).form f d)
+abbrev pub ending : Awaited → ℕ → List ℕ → Change
+ending a guest d =
+    EndWait (not (eqb a.event 2)) (vcpu_of d) (action_of d) (value_of (event_row_of a.event).form d) (feed_by (event_row_of a.event).form a.fault guest d)
+
+-- by the event that the vCPU awaits
+pub reply-cases : (P : Verdict → Type 0) (o : Option Awaited) (guest seq : ℕ) (d : List ℕ) → P Closes
+    → ((a : Awaited) → o ≡ Some a → (eqb (first_padding 16 d) 0 && is_awaited a seq (replied_event d) && reply_fits (event_row_of a.event) d) ≡ true → P (Does (ending a guest d)))
+    → P (reply_verdict o guest seq d)
+unfolding reply_verdict
+reply-cases P None guest seq d closes ends = closes
+reply-cases P (Some a) guest seq d closes ends =
+    pick P (eqb (first_padding 16 d) 0 && is_awaited a seq (replied_event d) && reply_fits (event_row_of a.event) d) _ _ (ends a refl) (λ _. closes)
 
 -- a message closes, fails, does its change, or ends a vCPU's wait
 pub verdict-cases : (P : Verdict → Type 0) (s : Settings) (f : Facts) (id seq : ℕ) (d : List ℕ) → P Closes → ((code : ℤ) → is_error code ≡ true → P (Fails code))
-    → (Passed s f id d → P (Does (change_of id d))) → (Replied s f id seq d → P (Does (ending f d))) → P (verdict s f id seq d)
+    → (Passed s f id d → P (Does (change_of id d))) → ((a : Awaited) → Replied s f a id seq d → P (Does (ending a f.guest d))) → P (verdict s f id seq d)
 unfolding verdict command_verdict command_verdict_by is_invalid event_reply_verdict
 verdict-cases P s f id seq d closes fails does ends =
     let refused : (code : ℤ) → is_error code ≡ true → P (refuse f.mode code) = λ code e. pick P (replies_on f.mode) (Fails code) Closes (λ _. fails code e) (λ _. closes) in
@@ -89,16 +102,16 @@ verdict-cases P s f id seq d closes fails does ends =
     (λ size. let admitted : Admitted s f id d
     = record { known = not-false _ known; permitted = not-false _ permitted; answerable = answerable; size = not-false (size_fits (layout_of id).size d) size } in
     pick P (eqb id 16) _ _
-    (λ e. pick P (eqb (first_padding 16 d) 0 && is_awaited f seq (replied_event d) && reply_fits (event_row_of f.awaited) d) _ _
-    (λ h. ends
+    (λ e. reply-cases P f.pending.awaited f.guest seq d closes
+    (λ a w h. ends a
     (record {
       admitted = admitted;
       reply = eqb-true id 16 e;
       padding = search (and_l, and_r);
+      awaits = w;
       awaited = search (and_l, and_r);
       fits = search (and_l, and_r);
-    }))
-    (λ _. closes))
+    })))
     (λ command. pick P (eqb id 9 && not (allows_event s 2)) _ _ (λ _. closes)
     (λ pauses. pick P (is_invalid s id d) _ _ (λ _. fails EINVAL refl)
     (λ valid. pick P (is_unready f id) _ _ (λ _. fails EAGAIN refl)

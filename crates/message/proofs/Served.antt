@@ -105,4 +105,4 @@ module _ (s : Settings) (f : Facts) (id seq : ℕ) (d : List ℕ) where
   ends e = rw e
 
   pub verdict-served : served (layout_of id).reply (verdict s f id seq d) ≡ true
-  verdict-served = verdict-cases (λ v. served (layout_of id).reply v ≡ true) s f id seq d refl (λ code e. e) does (λ r. ends r.reply)
+  verdict-served = verdict-cases (λ v. served (layout_of id).reply v ≡ true) s f id seq d refl (λ code e. e) does (λ a r. ends r.reply)

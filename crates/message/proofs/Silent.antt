@@ -17,12 +17,11 @@ use Rattle.kvmi.specs.declared.ReplyKind.TheVariants.{CodeOnly, WithData, Silent
 use Rattle.kvmi.specs.declared.Settings.{Settings}
 use Rattle.kvmi.specs.declared.Verdict.{Verdict}
 use Rattle.kvmi.specs.declared.Verdict.TheVariants.{Closes, Fails, Does}
-use Rattle.kvmi.specs.Event.{event_row_of}
 use Rattle.kvmi.specs.Codes.{OK}
 use Rattle.kvmi.specs.Settings.{allows_command}
-use Rattle.kvmi.specs.Message.{messages, unknown, layout_of, size_fits, carries_data, first_padding, replied_event}
-use Rattle.kvmi.specs.Verdict.{verdict, replies_on, event_reply_verdict, is_awaited, reply_fits}
-use Rattle.laws.proofs.Verdicts.{pick}
+use Rattle.kvmi.specs.Message.{messages, unknown, layout_of, size_fits, carries_data}
+use Rattle.kvmi.specs.Verdict.{verdict, replies_on, event_reply_verdict}
+use Rattle.laws.proofs.Verdicts.{pick, reply-cases}
 use Rattle.reply.proofs.Data.{below}
 use Rattle.session.specs.State.{State}
 use Rattle.message.specs.Message.{code_by}
@@ -48,7 +47,7 @@ module _ (st : State) (guest : List ℕ) (s : Settings) (f : Facts) where
       let P : Verdict → Type 0 = λ v. code_by st guest d v ≡ OK in
       pick P (not (replies_on f.mode) && carries_data (layout_of 16).reply) _ _ (λ _. refl)
       (λ _. pick P (not (size_fits (layout_of 16).size d)) _ _ (λ _. refl)
-      (λ _. pick P (eqb (first_padding 16 d) 0 && is_awaited f seq (replied_event d) && reply_fits (event_row_of f.awaited) d) _ _ (λ _. refl) (λ _. refl)))
+      (λ _. reply-cases P f.pending.awaited f.guest seq d refl (λ a w h. refl)))
 
   pub reply-code : (id seq : ℕ) (d : List ℕ) → (layout_of id).reply ≡ Silent → code_by st guest d (verdict s f id seq d) ≡ OK
   reply-code id seq d k = rw (silent-16 id (ap is_silent k)) (of-reply seq d)

@@ -16,7 +16,7 @@ use Rattle.kvmi.specs.Answer.{with_padding}
 use Rattle.kvmi.specs.Verdict.{verdict, reported_padding}
 use Rattle.kvmi.specs.Change.{signal_of, mode_for}
 use Rattle.kvmi.specs.Reply.{reply_data, answer_bytes, answer_of, answer_seq}
-use Rattle.store.specs.Words.{field, PAUSES, AWAITED, AWAITED_SEQ, FAULT_GVA, FAULT_GPA, FAULT_ACCESS}
+use Rattle.store.specs.Words.{pending}
 use Rattle.verdict.specs.declared.Asked.{Asked}
 use Rattle.session.specs.declared.Session.{Session}
 use Rattle.session.specs.State.{State, with_seq_of, is_closed}
@@ -30,12 +30,7 @@ facts_in st guest vcpu =
       mode = mode_of_number st.session.tool.mode;
       guest = guest;
       ready = is_on st.session.shared.ready vcpu;
-      pauses = field st.vcpus vcpu PAUSES;
-      awaited = field st.vcpus vcpu AWAITED;
-      seq = field st.vcpus vcpu AWAITED_SEQ;
-      gva = field st.vcpus vcpu FAULT_GVA;
-      gpa = field st.vcpus vcpu FAULT_GPA;
-      access = field st.vcpus vcpu FAULT_ACCESS;
+      pending = pending st.vcpus vcpu;
     }
 
 -- the code with which a message is answered, where it is: that of its verdict, or of its change

@@ -11,11 +11,11 @@ use lib.ListN.{length, get_or, set, replicate, length-set}
 use lib.Seq.{ext_get_or, get_or-set_same, get_or-set_other}
 use lib.Dec.{eqb}
 use borrow.Author.Tests.{eqb-true, eqb-false, eq-eqb, ne_eqb}
-use Rattle.kvmi.specs.Model.{Awaited, is_some}
-use Rattle.kvmi.specs.Feed.{no_fault}
-use Rattle.kvmi.specs.Verdict.{awaited_event, awaited_seq, awaited_fault}
-use Rattle.store.specs.Words.{field, AWAITED, AWAITED_SEQ, FAULT_GVA, FAULT_GPA, FAULT_ACCESS}
-use Rattle.session.specs.Meaning.{fault_in, awaited_in, awaited_of}
+use Rattle.kvmi.specs.declared.Awaited.{Awaited}
+use Rattle.kvmi.specs.Model.{is_some}
+use Rattle.kvmi.specs.Verdict.{awaited_event, awaits}
+use Rattle.store.specs.Words.{field, fault_in, awaited_from, AWAITED, AWAITED_SEQ, FAULT_GVA, FAULT_GPA, FAULT_ACCESS}
+use Rattle.session.specs.Meaning.{awaited_in, awaited_of}
 use Rattle.laws.proofs.Bool.{test}
 use Rattle.refine.proofs.Msrs.{zeros-field}
 
@@ -78,15 +78,11 @@ zeros-from k i (suc n) = rw (zeros-from k (suc i) n, awaited-none (replicate k 0
 pub zeros-awaited : (k n : ℕ) → awaited_of (replicate k 0) 0 n ≡ replicate n none
 zeros-awaited k n = zeros-from k 0 n
 
--- read back as numbers
+-- read back as the code has it, and as a number
+pub awaits-read : (w : List ℕ) (i : ℕ) → awaits (awaited_in w i) ≡ awaited_from (field w i AWAITED) (field w i AWAITED_SEQ) (fault_in w i)
+unfolding awaited_in awaited_from
+awaits-read w i = test (eqb (field w i AWAITED) 0) (λ e. rw e) (λ e. rw e)
+
 pub event-read : (w : List ℕ) (i : ℕ) → awaited_event (awaited_in w i) ≡ field w i AWAITED
 unfolding awaited_in
 event-read w i = test (eqb (field w i AWAITED) 0) (λ e. rw e (sym (eqb-true (field w i AWAITED) 0 e))) (λ e. rw e)
-
-pub seq-read : (w : List ℕ) (i : ℕ) → (field w i AWAITED ≡ 0 → field w i AWAITED_SEQ ≡ 0) → awaited_seq (awaited_in w i) ≡ field w i AWAITED_SEQ
-unfolding awaited_in
-seq-read w i q = test (eqb (field w i AWAITED) 0) (λ e. rw e (sym (q (eqb-true (field w i AWAITED) 0 e)))) (λ e. rw e)
-
-pub fault-read : (w : List ℕ) (i : ℕ) → (field w i AWAITED ≡ 0 → no_fault ≡ fault_in w i) → awaited_fault (awaited_in w i) ≡ fault_in w i
-unfolding awaited_in
-fault-read w i q = test (eqb (field w i AWAITED) 0) (λ e. rw e (q (eqb-true (field w i AWAITED) 0 e))) (λ e. rw e)

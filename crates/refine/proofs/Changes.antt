@@ -19,20 +19,22 @@ use Rattle.kvmi.specs.Codes.{OK, ENOMEM}
 use Rattle.kvmi.specs.Settings.{in_range, all_or_nothing}
 use Rattle.kvmi.specs.Tables.{Vcpu, Msr, Tables, vcpu_at, set_vcpu, with_crs, with_events, with_pauses, with_singlestep, with_vcpus, with_msrs, with_pages, cr_bit}
 use Rattle.kvmi.specs.declared.Feed.{Feed}
-use Rattle.kvmi.specs.Feed.{Fault, no_fault}
-use Rattle.kvmi.specs.Model.{Awaited, awaiting, with_tables, with_mode, with_awaited, on_vcpu, set_awaited}
+use Rattle.kvmi.specs.declared.Fault.{Fault}
+use Rattle.kvmi.specs.Feed.{no_fault}
+use Rattle.kvmi.specs.declared.Awaited.{Awaited}
+use Rattle.kvmi.specs.Model.{awaiting, with_tables, with_mode, with_awaited, on_vcpu, set_awaited}
 use Rattle.kvmi.specs.Message.{Entry, entries_of, is_vm_event, is_vcpu_event}
 use Rattle.kvmi.specs.Verdict.{is_access}
 use Rattle.kvmi.specs.Limits.{page_limit}
 use Rattle.kvmi.specs.Change.{Run, take_entries, run_by, set_pages, set_msr, Applied, applied, applied_run, apply}
-use Rattle.store.specs.Words.{field, set_field, set_msr_bit, put_bit64, SINGLESTEP, CRS, EVENTS, PAUSES, set_fault, AWAITED, AWAITED_SEQ, FAULT_GVA, FAULT_GPA, FAULT_ACCESS}
+use Rattle.store.specs.Words.{field, fault_in, set_field, set_msr_bit, put_bit64, SINGLESTEP, CRS, EVENTS, PAUSES, set_fault, AWAITED, AWAITED_SEQ, FAULT_GVA, FAULT_GPA, FAULT_ACCESS}
 use Rattle.page_words.specs.PageWords.{PageTable, page_table, run_entries}
 use Rattle.store.specs.Meaning.{msrs_of, vcpus_of, vcpu_of_words}
 use Rattle.page_words.specs.Meaning.{pages_of}
 use Rattle.kvmi.specs.Mode.{number_of_mode, mode_of_number}
 use Rattle.session.specs.State.{State, state, with_field, with_vcpu_words}
 use Rattle.change.specs.Change.{StateChanged, changed, changed_pages, pages_by, change}
-use Rattle.session.specs.Meaning.{fault_in, awaited_in, awaited_of, tables_of, model_of, WordsGood}
+use Rattle.session.specs.Meaning.{awaited_in, awaited_of, tables_of, model_of, WordsGood}
 use Rattle.laws.proofs.Bool.{test, every-and}
 use Rattle.laws.proofs.Kept.{vm-event-small, vcpu-event-small}
 use Rattle.laws.proofs.Steps.{entries-small}

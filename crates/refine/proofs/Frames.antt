@@ -150,7 +150,7 @@ module _ (st : State) (d out guest : List ℕ) (long : 4112 ≤ length out) wher
       reporting-past _ out _
       (verdict-cases (λ v. Past out (judged_of st h.id h.seq d out guest v)) st.session.settings f h.id h.seq d closes-past (λ code e. fails-past h.id h.seq code e)
       (λ p. does-past h.id h.seq (change_of h.id d) (data-fits st.session.settings f h.id d p))
-      (λ p. let e = p.reply in does-past h.id h.seq (ending f d) (inr (λ q. omega arith))))
+      (λ a p. let e = p.reply in does-past h.id h.seq (ending a f.guest d) (inr (λ q. omega arith))))
 
 pub message-past : (st : State) (msg out guest : List ℕ) → Past out (message_of st msg out guest)
 unfolding message_of

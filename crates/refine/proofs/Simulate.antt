@@ -27,7 +27,8 @@ use Rattle.kvmi.specs.Answer.{Paper, handled, with_padding}
 use Rattle.kvmi.specs.Bits.{every, among, put_bit}
 use Rattle.kvmi.specs.Codes.{is_error}
 use Rattle.kvmi.specs.Settings.{in_range}
-use Rattle.kvmi.specs.Feed.{Fault, no_fault, kept_of}
+use Rattle.kvmi.specs.declared.Fault.{Fault}
+use Rattle.kvmi.specs.Feed.{no_fault, kept_of}
 use Rattle.kvmi.specs.Tables.{Vcpu, vcpu_at, resting, empty_tables, with_ready, with_pauses, with_vcpus, with_msrs, with_pages}
 use Rattle.kvmi.specs.Model.{Model, fresh, closed_model, with_tables, with_seq, with_awaited, next_seq, on_vcpu, awaited_by, is_some}
 use Rattle.kvmi.specs.Message.{layout_of, names_vcpu, vcpu_of, enables, event_of, register_of, gpa_of, size_of, count_of, count_fits, view_of, Entry, entries_of, is_vm_event, is_vcpu_event, takes_event}
@@ -271,8 +272,8 @@ module _ (st : State) (f : WellFormed st) (out guest : List ℕ) where
       verdict-cases (λ v. S (judged_of st id seq d out guest v) (model.judged cfg (model_of st) id seq d out guest v)) cfg (facts_of (model_of st) (length guest) (vcpu_of d)) id seq d
       (closes-simulates id seq d) (λ code e. fails-simulates id seq d long code e)
       (λ p. does-simulates id seq d long (change_of id d) (data-fits cfg (facts_of (model_of st) (length guest) (vcpu_of d)) id d p) (change-meant st f.words f.settings guest d id p))
-      (λ p. let e = p.reply in
-      does-simulates id seq d long (ending (facts_of (model_of st) (length guest) (vcpu_of d)) d) (inr (λ q. omega arith))
+      (λ a p. let e = p.reply in
+      does-simulates id seq d long (ending a (length guest) d) (inr (λ q. omega arith))
       (end-meant st f.words (few-vcpus cfg f.settings) guest d _ (vcpu_of d) _ _ _))
 
   headed-simulates : (d : List ℕ) → 4112 ≤ length out → (h : HeaderRead) → S (headed_of st d out guest h) (model.headed cfg (model_of st) d out guest h)

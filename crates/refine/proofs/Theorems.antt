@@ -13,6 +13,7 @@ use borrow.Author.Tests.{eqb-true}
 use Rattle.std.specs.Prelude.{Some, None}
 use Rattle.wire.specs.Header.{whole, HeaderRead, header_of}
 use Rattle.kvmi.specs.declared.Settings.{Settings}
+use Rattle.kvmi.specs.declared.Awaited.{Awaited}
 use Rattle.kvmi.specs.declared.Facts.{Facts}
 use Rattle.kvmi.specs.declared.Signal.TheVariants.{Quiet}
 use Rattle.kvmi.specs.declared.Change.{Change}
@@ -116,9 +117,9 @@ module _ (st : State) (guest d : List ℕ) (i : ℕ) (other : i ≢ vcpu_of d) w
       (λ _. pick Apart (eqb id 14) _ _ (λ _. one_field SINGLESTEP _ (omega arith))
       (λ _. pick Apart (eqb id 15) _ _ (λ _. refl) (λ _. refl)))))))))
 
-  end-apart : (f : Facts) → Apart (ending f d)
+  end-apart : (a : Awaited) (n : ℕ) → Apart (ending a n d)
   unfolding change ended_wait set_fault
-  end-apart f =
+  end-apart a n =
       let v = vcpu_of d in
       let one = set_field st.vcpus v AWAITED 0 in
       let two = set_field one v AWAITED_SEQ 0 in
@@ -148,7 +149,7 @@ module _ (st : State) (guest d : List ℕ) (i : ℕ) (other : i ≢ vcpu_of d) w
   unfolding judged_of answering_of
   judged-apart id seq out f =
       verdict-cases (λ v. Spares (judged_of st id seq d out guest v)) st.session.settings f id seq d (λ h. absurd (h refl)) (λ code _ _. (refl, refl))
-      (λ p _. (change-apart id f p, ready-kept-by (change_of id d))) (λ _ _. (end-apart f, ready-kept-by (ending f d)))
+      (λ p _. (change-apart id f p, ready-kept-by (change_of id d))) (λ a _ _. (end-apart a f.guest, ready-kept-by (ending a f.guest d)))
 
 pub message-apart : (st : State) (msg out guest : List ℕ) (i : ℕ) → i ≢ vcpu_of (drop 8 msg) → ((message_of st msg out guest).answer.number ≡ 1 → ⊥)
     → (block (message_of st msg out guest).state.vcpus i ≡ block st.vcpus i) × ((message_of st msg out guest).state.session.shared.ready ≡ st.session.shared.ready)
@@ -214,7 +215,7 @@ module _ (st : State) (guest d : List ℕ) where
       (λ _ e. let o = only-13 id e in
       ⊎_elim (λ q. inl (o.2, same-seq st _ _ q))
       (λ q. inr ((size, seq, w ∙ ap (λ (n : ℕ). whole n size seq) o.0), o.1, q.0, (o.2, pages-seq st _ _ q.1))) o.3)
-      (λ _ e. absurd (false≢true e))
+      (λ _ _ e. absurd (false≢true e))
 
 -- a message that is answered with an error
 pub error-spares : (st : State) (msg out guest : List ℕ) → is_error (code_of st msg out guest) ≡ true → ErrorSpares st msg guest (code_of st msg out guest) (message_of st msg out guest)

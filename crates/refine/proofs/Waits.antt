@@ -7,10 +7,10 @@ use mathlib.Core.Bool.{Bool, true, false, cond}
 use lib.ListN.{length, get_or, set}
 use lib.Seq.{set-get_or}
 use lib.Dec.{eqb}
-use Rattle.kvmi.specs.Feed.{PF, Fault, no_fault, kept_of}
-use Rattle.store.specs.Words.{field, set_field, set_fault, ended_wait, AWAITED, AWAITED_SEQ, FAULT_GVA, FAULT_GPA, FAULT_ACCESS}
+use Rattle.kvmi.specs.declared.Fault.{Fault}
+use Rattle.kvmi.specs.Feed.{PF, no_fault, kept_of}
+use Rattle.store.specs.Words.{field, fault_in, set_field, set_fault, ended_wait, AWAITED, AWAITED_SEQ, FAULT_GVA, FAULT_GPA, FAULT_ACCESS}
 use Rattle.entry.specs.Entry.{awaiting_words, fault_words}
-use Rattle.session.specs.Meaning.{fault_in}
 use Rattle.laws.proofs.Bool.{test}
 use Rattle.refine.proofs.Msrs.{field-set, field-set-other, field-length}
 

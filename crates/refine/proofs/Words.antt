@@ -19,10 +19,11 @@ use Rattle.kvmi.specs.Bits.{is_on}
 use Rattle.kvmi.specs.Settings.{in_range}
 use Rattle.kvmi.specs.Tables.{Vcpu, resting, vcpu_at, is_cr, cr_bit, vm_event_on, event_on, cr_on, msr_on, access, page_key}
 use Rattle.kvmi.specs.Event.{event_row_of, cr_named, msr_named, asks_for, is_asked_for}
-use Rattle.kvmi.specs.Model.{Awaited, awaited_by}
-use Rattle.kvmi.specs.Feed.{Fault, no_fault, view_named, page_named}
+use Rattle.kvmi.specs.Model.{awaited_by}
+use Rattle.kvmi.specs.declared.Fault.{Fault}
+use Rattle.kvmi.specs.Feed.{no_fault, view_named, page_named}
 use Rattle.kvmi.specs.Ascending.{rising}
-use Rattle.kvmi.specs.Verdict.{awaited_event, awaited_seq, awaited_fault, facts_of}
+use Rattle.kvmi.specs.Verdict.{awaits, facts_of}
 use Rattle.store.specs.Words.{field, set_field, set_fault, switch_on, read_switch, msr_bit_on, set_msr_bit, SINGLESTEP, CRS, EVENTS, PAUSES, AWAITED, AWAITED_SEQ, FAULT_GVA, FAULT_GPA, FAULT_ACCESS, vcpu_word_count}
 use Rattle.store.specs.Meaning.{vcpu_of_words, vcpus_of}
 use Rattle.page_words.specs.Meaning.{PagesGood}
@@ -31,7 +32,7 @@ use Rattle.session.specs.declared.Tool.{Tool}
 use Rattle.session.specs.State.{State, state, with_tool, with_tool_pages, with_ready_bits, with_vcpu_words, with_field}
 use Rattle.message.specs.Message.{facts_in}
 use Rattle.entry.specs.Entry.{cr_bit_on, is_guarded, asked_for_by, is_asked_for_of}
-use Rattle.session.specs.Meaning.{fault_in, awaited_in, awaited_of, tables_of, model_of, WordsGood, WellFormed}
+use Rattle.session.specs.Meaning.{awaited_in, awaited_of, tables_of, model_of, WordsGood, WellFormed}
 use Rattle.laws.proofs.Bool.{and_l, and_r, test}
 use Rattle.laws.proofs.Bits.{on_none}
 use Rattle.laws.proofs.Same.{on-high}
@@ -39,7 +40,7 @@ use Rattle.refine.proofs.Msrs.{field-set, field-set-other, field-length, bit-cas
 use Rattle.refine.proofs.Vcpus.{vcpus-length, vcpus-at}
 use Rattle.refine.proofs.Access.{access-means}
 use Rattle.refine.proofs.Waits.{wait_words, wait-length, wait-other, wait-event, wait-seq, wait-gva, wait-gpa, wait-access}
-use Rattle.refine.proofs.Awaited.{awaited-length, awaited-at, awaited-none, event-read, seq-read, fault-read}
+use Rattle.refine.proofs.Awaited.{awaited-length, awaited-at, awaited-none, awaits-read}
 
 pub few-vcpus : (s : Settings) → So (in_range s) → s.vcpus ≤ 16
 unfolding in_range
@@ -201,23 +202,14 @@ module _ (st : State) (g : WordsGood st) where
   unfolding vcpu_of_words
   facts-mean guest v =
       let own = vcpu-means v in
-      let waits = awaited-means v in
-      let fault : fault_in w v ≡ awaited_fault (awaited_by (model_of st) v)
-      = sym (ap awaited_fault waits ∙ fault-read w v (λ e. sym (λ j. record {
-        gva = g.waits v FAULT_GVA (omega arith) (omega arith) e j;
-        gpa = g.waits v FAULT_GPA (omega arith) (omega arith) e j;
-        access = g.waits v FAULT_ACCESS (omega arith) (omega arith) e j;
-      }))) in
       λ j. record {
         mode = (model_of st).mode;
         guest = guest;
         ready = sym (ap (λ (x : Vcpu). x.ready) own) j;
-        pauses = sym (ap (λ (x : Vcpu). x.pauses) own) j;
-        awaited = sym (ap awaited_event waits ∙ event-read w v) j;
-        seq = sym (ap awaited_seq waits ∙ seq-read w v (g.waits v AWAITED_SEQ (omega arith) (omega arith))) j;
-        gva = (fault j).gva;
-        gpa = (fault j).gpa;
-        access = (fault j).access;
+        pending = record {
+          pauses = sym (ap (λ (x : Vcpu). x.pauses) own) j;
+          awaited = sym (ap awaits (awaited-means v) ∙ awaits-read w v) j;
+        };
       }
 
   -- ---- a plain field of a vCPU set

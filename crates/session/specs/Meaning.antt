@@ -5,18 +5,14 @@ use Rattle.std.proofs.Math.Option.{Option, none, some}
 use Rattle.kvmi.specs.Settings.{in_range}
 use Rattle.kvmi.specs.Mode.{mode_of_number}
 use Rattle.kvmi.specs.Tables.{Tables}
-use Rattle.kvmi.specs.Feed.{Fault}
-use Rattle.kvmi.specs.Model.{Awaited, awaiting, Model}
+use Rattle.kvmi.specs.declared.Awaited.{Awaited}
+use Rattle.kvmi.specs.Model.{awaiting, Model}
 use Rattle.kvmi.specs.Valid.{Valid}
-use Rattle.store.specs.Words.{field, SINGLESTEP, AWAITED, AWAITED_SEQ, FAULT_GVA, FAULT_GPA, FAULT_ACCESS, vcpu_word_count}
+use Rattle.store.specs.Words.{field, fault_in, SINGLESTEP, AWAITED, AWAITED_SEQ, vcpu_word_count}
 use Rattle.store.specs.Meaning.{msrs_of, vcpus_of}
 use Rattle.page_words.specs.Meaning.{pages_of, PagesGood}
 use Rattle.page_words.specs.PageWords.{page_word_count}
 use Rattle.session.specs.State.{State, is_closed}
-
--- what is kept of a page fault
-abbrev pub fault_in : List ℕ → ℕ → Fault
-fault_in w i = record { gva = field w i FAULT_GVA; gpa = field w i FAULT_GPA; access = field w i FAULT_ACCESS }
 
 -- the event that a vCPU awaits a reply to; 0 stands for none
 unfoldable pub awaited_in : List ℕ → ℕ → Option Awaited

@@ -1,11 +1,13 @@
 -- The vCPU words: 272 for each vCPU, 16 plain fields and then 256 words of MSR switches, a bit each. A word past the end reads as 0, and a
 -- store there changes nothing.
-use Rattle.std.specs.Prelude.{ℕ, ◌+◌, ◌*◌, ◌/◌, ◌%◌, ◌^◌, Bool, false, cond, List, length, replicate, nat_lt, slice_index, slice_set, Option, Some, None}
+use Rattle.std.specs.Prelude.{ℕ, ◌+◌, ◌*◌, ◌/◌, ◌%◌, ◌^◌, Bool, false, cond, List, length, replicate, nat_lt, eqb, slice_index, slice_set, Option, Some, None}
 use Rattle.msrs.specs.Place.{msr_place}
 use Rattle.kvmi.specs.Bits.{is_on, put_bit}
 use Rattle.kvmi.specs.Tables.{cr_bit}
-use Rattle.kvmi.specs.Feed.{Fault, no_fault}
-use Rattle.store.specs.declared.words.Pending.{Pending}
+use Rattle.kvmi.specs.declared.Fault.{Fault}
+use Rattle.kvmi.specs.Feed.{no_fault}
+use Rattle.kvmi.specs.declared.Awaited.{Awaited}
+use Rattle.kvmi.specs.declared.Pending.{Pending}
 
 -- how many words a vCPU has
 abbrev pub block_words : ℕ
@@ -53,17 +55,18 @@ MSRS = 16
 unfoldable pub field : List ℕ → ℕ → ℕ → ℕ
 field w vcpu k = slice_index w (vcpu * block_words + k)
 
--- the fields that the tests of a message ask
+-- an awaited event by its numbers; 0 stands for none
+unfoldable pub awaited_from : ℕ → ℕ → Fault → Option Awaited
+awaited_from event seq fault = cond (eqb event 0) None (Some (record { event = event; seq = seq; fault = fault }))
+
+-- what is kept of a page fault
+abbrev pub fault_in : List ℕ → ℕ → Fault
+fault_in w vcpu = record { gva = field w vcpu FAULT_GVA; gpa = field w vcpu FAULT_GPA; access = field w vcpu FAULT_ACCESS }
+
+-- what is pending of a vCPU
 abbrev pub pending : List ℕ → ℕ → Pending
 pending w vcpu =
-    record {
-      pauses = field w vcpu PAUSES;
-      awaited = field w vcpu AWAITED;
-      seq = field w vcpu AWAITED_SEQ;
-      gva = field w vcpu FAULT_GVA;
-      gpa = field w vcpu FAULT_GPA;
-      access = field w vcpu FAULT_ACCESS;
-    }
+    record { pauses = field w vcpu PAUSES; awaited = awaited_from (field w vcpu AWAITED) (field w vcpu AWAITED_SEQ) (fault_in w vcpu) }
 
 -- field k of a vCPU set
 unfoldable pub set_field : List ℕ → ℕ → ℕ → ℕ → List ℕ

@@ -1,8 +1,9 @@
 // The vCPU words: a block for each vCPU, plain fields first and then a bit for each MSR switch.
 ghost use Rattle.std.specs.Prelude.{◌≡◌, set, slice_index, slice_set};
-ghost use Rattle.store.specs.Words.{field, set_field, pending, msr_bit_on, set_msr_bit, queued_pause, switched_field, switched_cr, set_fault, ended_wait, cleared};
+ghost use Rattle.store.specs.Words.{field, set_field, pending, msr_bit_on, set_msr_bit, queued_pause, switched_field, switched_cr, set_fault, ended_wait, cleared, awaited_from};
 
 use crate::bits::{put_bit, put_cr};
+use kvmi::{Awaited, Fault, Pending};
 
 // How many words a vCPU has.
 pub const BLOCK_WORDS: usize = 272;
@@ -35,18 +36,6 @@ pub const FAULT_ACCESS: usize = 8;
 // The first word of MSR switches.
 pub const MSRS: usize = 16;
 
-// What is pending of a vCPU: how many pauses are queued, and the event whose reply is awaited (0 for none) with its seq and, of a page fault, its
-// addresses and access.
-#[derive(Clone, Copy)]
-pub struct Pending {
-    pub pauses: u64,
-    pub awaited: u64,
-    pub seq: u64,
-    pub gva: u64,
-    pub gpa: u64,
-    pub access: u64,
-}
-
 // The word at a place, or 0 past the end.
 pub fn word(words: &[u64], at: usize) -> u64
     ensures { result ≡ slice_index words.now at }
@@ -76,6 +65,14 @@ pub fn read_field(words: &[u64], vcpu: u16, k: usize) -> u64
     }
 }
 
+// An awaited event, where there is one: the number 0 stands for none.
+#[tactic(auto, unfolding(crate::specs::Words::awaited_from))]
+fn awaited_from(event: u64, seq: u64, fault: Fault) -> Option<Awaited>
+    ensures { result ≡ awaited_from event seq fault }
+{
+    (event != 0).then_some(Awaited { event, seq, fault })
+}
+
 // What is pending of a vCPU. One test finds that all of it is there; the second form alone would test each of the six fields.
 #[tactic(auto, unfolding(crate::specs::Words::field))]
 pub fn read_pending(words: &[u64], vcpu: u16) -> Pending
@@ -83,22 +80,26 @@ pub fn read_pending(words: &[u64], vcpu: u16) -> Pending
 {
     let at = (vcpu as usize) * BLOCK_WORDS;
     if at + FAULT_ACCESS < words.len() {
-        return Pending {
-            pauses: words[at + PAUSES],
-            awaited: words[at + AWAITED],
-            seq: words[at + AWAITED_SEQ],
+        let fault = Fault {
             gva: words[at + FAULT_GVA],
             gpa: words[at + FAULT_GPA],
             access: words[at + FAULT_ACCESS],
         };
+        return Pending {
+            pauses: words[at + PAUSES],
+            awaited: awaited_from(words[at + AWAITED], words[at + AWAITED_SEQ], fault),
+        };
     }
-    Pending {
-        pauses: read_field(words, vcpu, PAUSES),
-        awaited: read_field(words, vcpu, AWAITED),
-        seq: read_field(words, vcpu, AWAITED_SEQ),
+    let fault = Fault {
         gva: read_field(words, vcpu, FAULT_GVA),
         gpa: read_field(words, vcpu, FAULT_GPA),
         access: read_field(words, vcpu, FAULT_ACCESS),
+    };
+    let event = read_field(words, vcpu, AWAITED);
+    let seq = read_field(words, vcpu, AWAITED_SEQ);
+    Pending {
+        pauses: read_field(words, vcpu, PAUSES),
+        awaited: awaited_from(event, seq, fault),
     }
 }
 

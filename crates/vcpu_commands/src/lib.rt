@@ -34,7 +34,7 @@ fn pause_vcpu(settings: Settings, facts: Facts, padding: usize, d: &[u8]) -> Ver
     if malformed {
         return Verdict::Fails(causes::EINVAL);
     }
-    if Session::is_full(facts.pauses) {
+    if Session::is_full(facts.pending.pauses) {
         return Verdict::Fails(causes::EBUSY);
     }
     Verdict::Does(Change::QueuePause {

@@ -12,7 +12,7 @@ use Rattle.kvmi.specs.Codes.{EPERM, ENOSYS}
 use Rattle.kvmi.specs.Settings.{allows_command, allows_event}
 use Rattle.kvmi.specs.Message.{size_fits, carries_data, vcpu_of}
 use Rattle.kvmi.specs.Verdict.{replies_on, refuse, judgement, command_judgement, event_reply_verdict}
-use Rattle.store.specs.Words.{field, PAUSES, AWAITED, AWAITED_SEQ, FAULT_GVA, FAULT_GPA, FAULT_ACCESS}
+use Rattle.store.specs.Words.{pending}
 use Rattle.tests.specs.Known.{is_known}
 use Rattle.verdict.specs.declared.Asked.{Asked}
 
@@ -30,12 +30,7 @@ facts_for a vcpus d =
       mode = a.mode;
       guest = a.guest;
       ready = is_on a.ready (vcpu_of d);
-      pauses = field vcpus (vcpu_of d) PAUSES;
-      awaited = field vcpus (vcpu_of d) AWAITED;
-      seq = field vcpus (vcpu_of d) AWAITED_SEQ;
-      gva = field vcpus (vcpu_of d) FAULT_GVA;
-      gpa = field vcpus (vcpu_of d) FAULT_GPA;
-      access = field vcpus (vcpu_of d) FAULT_ACCESS;
+      pending = pending vcpus (vcpu_of d);
     }
 
 -- tests 2 to 4 of a known message, by the table's row

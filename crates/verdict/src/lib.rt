@@ -72,18 +72,12 @@ fn facts_of(a: Asked, vcpus: &[u64], d: &[u8]) -> Facts
     ensures { result ≡ facts_for a vcpus.now d.now }
 {
     let vcpu = wire::load::<u16>(d, 0);
-    let pending = store::words::read_pending(vcpus, vcpu);
     let mode = a.mode;
     Facts {
         mode,
         guest: a.guest,
         ready: kvmi::bits::is_on(a.ready, vcpu as u32),
-        pauses: pending.pauses,
-        awaited: pending.awaited,
-        seq: pending.seq,
-        gva: pending.gva,
-        gpa: pending.gpa,
-        access: pending.access,
+        pending: store::words::read_pending(vcpus, vcpu),
     }
 }
 

@@ -4,10 +4,10 @@ use Rattle.std.proofs.lemmas.Bool.Decides.{nat_tests}
 use Rattle.kvmi.specs.Verdict.{is_awaited}
 use Rattle.event_reply.proofs.is_awaited.Goals as goal
 
-pub returns-then-facts-seq : goal.returns-then-facts-seq
+pub returns-then-awaited-seq : goal.returns-then-awaited-seq
 unfolding is_awaited
-returns-then-facts-seq c = grind (arith, nat_tests)
+returns-then-awaited-seq c = grind (arith, nat_tests)
 
-pub returns-else-facts-seq : goal.returns-else-facts-seq
+pub returns-else-awaited-seq : goal.returns-else-awaited-seq
 unfolding is_awaited
-returns-else-facts-seq c = grind (arith, nat_tests)
+returns-else-awaited-seq c = grind (arith, nat_tests)

@@ -4,4 +4,4 @@ use Rattle.verdict.proofs.facts_of.Goals as goal
 
 pub returns : goal.returns
 unfolding vcpu_of
-returns c = simp (c.read_pending-pending.ensures, c.is_on.ensures, c.load-vcpu.ensures)
+returns c = simp (c.read_pending.ensures, c.is_on.ensures, c.load-vcpu.ensures)
