@@ -9,7 +9,7 @@ ghost use Rattle.session.specs.State.{state};
 ghost use Rattle.session.specs.Calls.{told};
 ghost use Rattle.entry.specs.Entry.{is_guarded, is_asked_for_of, cr_bit_on, awaiting_words, fault_words, Went, sending_of, dequeuing_of, sent_of, entered_of, enter_of};
 
-use kvmi::{Answer, EventSwitch};
+use kvmi::{Answer, EventSwitch, Fault};
 use page_words::PageWords;
 use session::{Done, Session, Tool};
 use store::words::VcpuWords;
@@ -112,14 +112,12 @@ fn keep_fault(vcpus: &mut [u64], vcpu: u16, event: u32, own: &[u8])
     ensures { vcpus.new ≡ fault_words vcpus.old vcpu event own.now }
 {
     if event as u64 == kvmi::events::PF {
-        let access = wire::byte(own, 16) as u64;
-        store::words::write_fault(
-            vcpus,
-            vcpu,
-            wire::load::<u64>(own, 0),
-            wire::load::<u64>(own, 8),
-            access,
-        );
+        let fault = Fault {
+            gva: wire::load(own, 0),
+            gpa: wire::load(own, 8),
+            access: wire::byte(own, 16) as u64,
+        };
+        store::words::write_fault(vcpus, vcpu, fault);
     }
 }
 

@@ -170,12 +170,12 @@ pub fn switch_cr(words: &mut [u64], vcpu: u16, cr: u32, on: bool)
 
 // What is kept of a page fault.
 #[tactic(auto, unfolding(crate::specs::Words::set_fault))]
-pub fn write_fault(words: &mut [u64], vcpu: u16, gva: u64, gpa: u64, access: u64)
-    ensures { words.new ≡ set_fault words.old vcpu (record { gva = gva; gpa = gpa; access = access }) }
+pub fn write_fault(words: &mut [u64], vcpu: u16, fault: Fault)
+    ensures { words.new ≡ set_fault words.old vcpu fault }
 {
-    write_field(words, vcpu, FAULT_GVA, gva);
-    write_field(words, vcpu, FAULT_GPA, gpa);
-    write_field(words, vcpu, FAULT_ACCESS, access);
+    write_field(words, vcpu, FAULT_GVA, fault.gva);
+    write_field(words, vcpu, FAULT_GPA, fault.gpa);
+    write_field(words, vcpu, FAULT_ACCESS, fault.access);
 }
 
 // No reply awaited any more.
@@ -185,7 +185,12 @@ pub fn end_wait(words: &mut [u64], vcpu: u16)
 {
     write_field(words, vcpu, AWAITED, 0);
     write_field(words, vcpu, AWAITED_SEQ, 0);
-    write_fault(words, vcpu, 0, 0, 0);
+    let none = Fault {
+        gva: 0,
+        gpa: 0,
+        access: 0,
+    };
+    write_fault(words, vcpu, none);
 }
 
 // Every word set to 0.
