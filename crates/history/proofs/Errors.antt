@@ -30,7 +30,7 @@ use Rattle.kvmi.specs.Limits.{page_limit, least_out}
 use Rattle.kvmi.specs.Codes.{is_error, EPERM, EINVAL, ENOMEM, ENOSYS, OK}
 use Rattle.kvmi.specs.Settings.{allows_command, allows_event}
 use Rattle.kvmi.specs.Mode.{mode_of_number}
-use Rattle.kvmi.specs.Message.{layout_of, size_fits, carries_data, vcpu_of, gpa_of, size_of, entries_of}
+use Rattle.kvmi.specs.Message.{layout_of, reply_kind, data_fits, carries_data, vcpu_of, gpa_of, size_of, entries_of}
 use Rattle.kvmi.specs.Verdict.{replies_on, refuse, is_invalid, is_unready, is_denied, is_unsupported, is_busy, is_absent, loses_errors, in_one_page, change_of, command_verdict_by, command_verdict, event_reply_verdict, verdict}
 use Rattle.kvmi.specs.Change.{mode_for}
 use Rattle.kvmi.specs.Reply.{message_bytes, reply_bytes, reply_data, command_error_event, answer_bytes, answer_of}
@@ -63,8 +63,8 @@ verdict-fits s f id seq d =
     let refused : (code : ℤ) → SFits w32 code → Fits-by (refuse f.mode code) = λ code e. pick Fits-by (replies_on f.mode) (Fails code) Closes (λ _. e) (λ _. tt) in
     pick Fits-by (not (leb 1 id && leb id 16)) _ _ (λ _. refused ENOSYS (sfits_lit tt))
     (λ _. pick Fits-by (not (allows_command s id)) _ _ (λ _. refused EPERM (sfits_lit tt))
-    (λ _. pick Fits-by (not (replies_on f.mode) && carries_data (layout_of id).reply) _ _ (λ _. tt)
-    (λ _. pick Fits-by (not (size_fits (layout_of id).size d)) _ _ (λ _. tt)
+    (λ _. pick Fits-by (not (replies_on f.mode) && carries_data (reply_kind (layout_of id))) _ _ (λ _. tt)
+    (λ _. pick Fits-by (not (data_fits (layout_of id) d)) _ _ (λ _. tt)
     (λ _. pick Fits-by (eqb id 16) _ _
     (λ _. reply-cases Fits-by f.pending.awaited f.guest seq d tt (λ a w h. tt))
     (λ _. pick Fits-by (eqb id 9 && not (allows_event s 2)) _ _ (λ _. tt)
@@ -151,8 +151,8 @@ module _ (st : State) (guest d out : List ℕ) (long : least_out ≤ length out)
       let r = change st guest d c in
       let mode = mode_for (mode_of_number st.session.tool.mode) c in
       let next = r.state.session.tool.seq in
-      let l = length-answer (layout_of id).reply mode next id seq r.code r.state.session.settings r.guest d fits in
-      code-said next id seq (reply_data r.state.session.settings r.guest id d) (layout_of id).reply mode r.code out (change-fits st guest d c) (inr known) (omega arith) ne
+      let l = length-answer (reply_kind (layout_of id)) mode next id seq r.code r.state.session.settings r.guest d fits in
+      code-said next id seq (reply_data r.state.session.settings r.guest id d) (reply_kind (layout_of id)) mode r.code out (change-fits st guest d c) (inr known) (omega arith) ne
 
   fails-code : (code : ℤ) → is_error code ≡ true → Code-by (Fails code)
   unfolding judged_of answering_of
@@ -160,8 +160,8 @@ module _ (st : State) (guest d out : List ℕ) (long : least_out ≤ length out)
       let mode = mode_of_number st.session.tool.mode in
       let next = st.session.tool.seq in
       let rest = reply_data st.session.settings guest id d in
-      let l = error-length (layout_of id).reply mode next id seq code rest e in
-      code-said next id seq rest (layout_of id).reply mode code out fits (inl e) (omega arith) ne
+      let l = error-length (reply_kind (layout_of id)) mode next id seq code rest e in
+      code-said next id seq rest (reply_kind (layout_of id)) mode code out fits (inl e) (omega arith) ne
 
   known-id : (f : Facts) → Admitted st.session.settings f id d → id ≤ 16
   known-id f a = leb-true id 16 (and_r (leb 1 id) (leb id 16) a.known)

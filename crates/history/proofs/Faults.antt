@@ -38,7 +38,7 @@ use Rattle.kvmi.specs.Change.{reply_signal, signal_of, apply}
 use Rattle.kvmi.specs.Event.{event_row_of, value_of}
 use Rattle.kvmi.specs.Verdict.{awaits, is_awaited, reply_fits, feed_by, reply_verdict, change_of, verdict, takes_access}
 use Rattle.kvmi.specs.Reply.{reply_data, answer_of, answer_seq}
-use Rattle.kvmi.specs.Message.{layout_of, action_of, vcpu_of, replied_event, first_padding}
+use Rattle.kvmi.specs.Message.{layout_of, reply_kind, action_of, vcpu_of, replied_event, first_padding}
 use Rattle.kvmi.specs.Batch.{Batch, next_length, next_of, out_left, turn_of, feed_in, resume_of}
 use Rattle.kvmi.specs.Call.{Call, message, unchanged, answering, judged, headed, message_step, Step, step, after, reporting}
 use Rattle.kvmi.specs.declared.Change.{Change}
@@ -453,7 +453,7 @@ module _ (st : State) (msg out guest : List ℕ) where
       (form-rests form a.fault (length guest) body).of_none three in
       let mode = mode_of_number st.session.tool.mode in
       let sixteen = p.reply in
-      let silent : answer_of (layout_of id).reply mode st.session.tool.seq id seq OK (reply_data st.session.settings guest id body) ≡ []
+      let silent : answer_of (reply_kind (layout_of id)) mode st.session.tool.seq id seq OK (reply_data st.session.settings guest id body) ≡ []
       = rw sixteen (unfold layout_of in unfold answer_of in refl) in
       record {
         of = (size, seq, w ∙ ap (λ (k : ℕ). whole_header k size seq) sixteen);

@@ -28,7 +28,7 @@ use Rattle.kvmi.specs.Codes.{EPERM, ENOENT, EAGAIN, EBUSY, EINVAL, EOPNOTSUPP, E
 use Rattle.kvmi.specs.Settings.{in_range, allows_command, allows_event}
 use Rattle.kvmi.specs.Model.{Model}
 use Rattle.kvmi.specs.Tables.{is_cr}
-use Rattle.kvmi.specs.Message.{layout_of, size_fits, carries_data, vcpu_of, count_of, count_fits, entry_padding, padding_runs, first_padding, names_vcpu, command_of, switches_at, event_of, register_of, gpa_of, size_of, view_of, Entry, entries_of, takes_event}
+use Rattle.kvmi.specs.Message.{layout_of, reply_kind, data_fits, carries_data, vcpu_of, count_of, count_fits, entry_padding, padding_runs, first_padding, names_vcpu, command_of, switches_at, event_of, register_of, gpa_of, size_of, view_of, Entry, entries_of, takes_event}
 use Rattle.kvmi.specs.Verdict.{replies_on, is_invalid, is_unready, is_denied, is_unsupported, is_busy, is_absent, loses_errors, change_of, command_verdict_by, command_verdict, verdict, reaches_test6, reported_padding, refuse, takes_access, in_one_page, invalid_by, event_reply_verdict}
 use Rattle.kvmi.specs.Batch.{Takes, Batch, next_length, next_of, out_left, goes_on, counted, turn_of, turns_of, batch_by}
 use Rattle.kvmi.specs.Event.{offer_fits}
@@ -200,9 +200,9 @@ agree-eq false true h = absurd (false≢true h)
 agree-eq false false h = refl
 
 -- "id 1, 4, 6 or 8" are the commands whose replies carry data
-data-kind : (id : ℕ) → id ≤ 15 → carries_data (layout_of id).reply ≡ among id (1 ∷ 4 ∷ 6 ∷ 8 ∷ [])
+data-kind : (id : ℕ) → id ≤ 15 → carries_data (reply_kind (layout_of id)) ≡ among id (1 ∷ 4 ∷ 6 ∷ 8 ∷ [])
 unfolding layout_of
-data-kind id h = agree-eq _ _ (below (λ k. agree (carries_data (layout_of k).reply) (among k (1 ∷ 4 ∷ 6 ∷ 8 ∷ []))) 16 id refl (omega arith))
+data-kind id h = agree-eq _ _ (below (λ k. agree (carries_data (reply_kind (layout_of k))) (among k (1 ∷ 4 ∷ 6 ∷ 8 ∷ []))) 16 id refl (omega arith))
 
 answers : (mode : ReplyMode) (b : Bool) → (mode ≡ On) ⊎ (b ≡ false) → not (not (replies_on mode) && b) ≡ true
 answers On b h = refl
@@ -238,8 +238,8 @@ module _ (s : Settings) (m : Model) (id : ℕ) (msg out : List ℕ) where
   unfolding reaches_test6
   test-reaches opened room header h =
       let ids = leb 1 id && leb id 15 in
-      let replies = not (not (replies_on m.mode) && carries_data (layout_of id).reply) in
-      let sizes = size_fits (layout_of id).size (drop 8 msg) in
+      let replies = not (not (replies_on m.mode) && carries_data (reply_kind (layout_of id))) in
+      let sizes = data_fits (layout_of id) (drop 8 msg) in
       let four = and_l (((ids && allows_command s id) && replies) && sizes) _ h in
       let three = and_l ((ids && allows_command s id) && replies) sizes four in
       let two = and_l (ids && allows_command s id) replies three in
@@ -385,14 +385,14 @@ invalid-reaches s f id seq d =
     let refused : (code : ℤ) → negated_of code ≢ 22 → P (refuse f.mode code) = λ code n. pick P (replies_on f.mode) (Fails code) Closes (λ _. other (Fails code) n) (λ _. closes) in
     pick P (not (leb 1 id && leb id 16)) _ _ (λ _. refused ENOSYS (λ z. omega (arith, z)))
     (λ known. pick P (not (allows_command s id)) _ _ (λ _. refused EPERM (λ z. omega (arith, z)))
-    (λ permitted. pick P (not (replies_on f.mode) && carries_data (layout_of id).reply) _ _ (λ _. closes)
-    (λ answerable. pick P (not (size_fits (layout_of id).size d)) _ _ (λ _. closes)
+    (λ permitted. pick P (not (replies_on f.mode) && carries_data (reply_kind (layout_of id))) _ _ (λ _. closes)
+    (λ answerable. pick P (not (data_fits (layout_of id) d)) _ _ (λ _. closes)
     (λ size. pick P (eqb id 16) _ _
     (λ _. reply-cases P f.pending.awaited f.guest seq d closes (λ a w h. other _ (λ z. omega (arith, z))))
     (λ command. pick P (eqb id 9 && not (allows_event s 2)) _ _ (λ _. closes)
     (λ pauses _.
     let ids : (leb 1 id && leb id 15) ≡ true = command-ids id ∙ rw (not-false (leb 1 id && leb id 16) known, command) in
-    and_i _ _ (and_i _ _ (and_i _ _ (and_i _ _ ids (not-false _ permitted)) (ap not answerable)) (not-false (size_fits (layout_of id).size d) size)) (ap not pauses)))))))
+    and_i _ _ (and_i _ _ (and_i _ _ (and_i _ _ ids (not-false _ permitted)) (ap not answerable)) (not-false (data_fits (layout_of id) d) size)) (ap not pauses)))))))
 
 module _ (st : State) (msg out guest : List ℕ) where
   changed-with : (c : Change) → negated_of (change st guest (drop 8 msg) c).code ≢ 22

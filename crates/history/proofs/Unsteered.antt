@@ -29,7 +29,7 @@ use Rattle.kvmi.specs.Answer.{Paper, handled, plain, with_padding}
 use Rattle.kvmi.specs.Limits.{least_out, event_out, state_bytes}
 use Rattle.kvmi.specs.Codes.{is_error}
 use Rattle.kvmi.specs.Mode.{mode_of_number}
-use Rattle.kvmi.specs.Message.{layout_of, vcpu_of}
+use Rattle.kvmi.specs.Message.{layout_of, reply_kind, vcpu_of}
 use Rattle.kvmi.specs.Verdict.{verdict}
 use Rattle.kvmi.specs.Change.{signal_of, mode_for}
 use Rattle.kvmi.specs.Event.{event_row_of, is_offered, offer_fits, cr_named, msr_named}
@@ -186,7 +186,7 @@ module _ (msg out out' : List ℕ) (lo : length out ≡ length out') where
     unfolding answering_of own_bytes
     answering-same mode code g guest guest' st l fits =
         let next = st.session.tool.seq in
-        let kind = (layout_of id).reply in
+        let kind = reply_kind (layout_of id) in
         let s = st.session.settings in
         let e = reply_data s guest id d in
         let f = reply_data s guest' id d in

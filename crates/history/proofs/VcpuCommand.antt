@@ -28,7 +28,7 @@ use Rattle.kvmi.specs.Mode.{mode_of_number}
 use Rattle.kvmi.specs.Settings.{allows_command, allows_event}
 use Rattle.kvmi.specs.Tables.{cr_bit}
 use Rattle.kvmi.specs.Answer.{lacks_page}
-use Rattle.kvmi.specs.Message.{layout_of, size_fits, carries_data, vcpu_of, enables, event_of, register_of}
+use Rattle.kvmi.specs.Message.{layout_of, reply_kind, data_fits, carries_data, vcpu_of, enables, event_of, register_of}
 use Rattle.kvmi.specs.Reply.{answer_seq}
 use Rattle.kvmi.specs.Change.{signal_of, mode_for}
 use Rattle.kvmi.specs.Verdict.{replies_on, change_of, is_invalid, is_unready, is_denied, is_unsupported, is_busy, is_absent, loses_errors, command_verdict, command_verdict_by, verdict}
@@ -161,7 +161,7 @@ closes (Does c) = false
 closes_by : Settings → ℕ → List ℕ → Bool
 closes_by s id d =
     cond (not (leb 1 id && leb id 16)) false
-    (cond (not (allows_command s id)) false (cond (not (size_fits (layout_of id).size d)) true (eqb id 9 && not (allows_event s 2))))
+    (cond (not (allows_command s id)) false (cond (not (data_fits (layout_of id) d)) true (eqb id 9 && not (allows_event s 2))))
 
 -- test 5's second sentence is message 15's
 response : (s : Settings) (id : ℕ) (d : List ℕ) → loses_errors s id d ≡ true → id ≡ 15
@@ -173,8 +173,8 @@ unfolding verdict command_verdict command_verdict_by is_invalid closes_by
 verdict-closes s f id seq d on named =
     pick P (not (leb 1 id && leb id 16)) _ _ (λ known. rw (known, on))
     (λ known. pick P (not (allows_command s id)) _ _ (λ allowed. rw (known, allowed, on))
-    (λ allowed. pick P (not (replies_on f.mode) && carries_data (layout_of id).reply) _ _ (λ h. absurd (false≢true (rw on at h)))
-    (λ _. pick P (not (size_fits (layout_of id).size d)) _ _ (λ size. rw (known, allowed, size))
+    (λ allowed. pick P (not (replies_on f.mode) && carries_data (reply_kind (layout_of id))) _ _ (λ h. absurd (false≢true (rw on at h)))
+    (λ _. pick P (not (data_fits (layout_of id) d)) _ _ (λ size. rw (known, allowed, size))
     (λ size. pick P (eqb id 16) _ _ (λ h. no_other id 16 named (eqb-true id 16 h) refl)
     (λ _. pick P (eqb id 9 && not (allows_event s 2)) _ _ (λ pauses. rw (known, allowed, size, pauses))
     (λ pauses. let stays : false ≡ closes_by s id d = rw (known, allowed, size, pauses) in

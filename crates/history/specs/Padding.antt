@@ -14,7 +14,7 @@ use Rattle.kvmi.specs.Codes.{EPERM, ENOENT, EAGAIN, EBUSY, EINVAL, EOPNOTSUPP}
 use Rattle.kvmi.specs.Settings.{allows_command, allows_event}
 use Rattle.kvmi.specs.Model.{Model}
 use Rattle.kvmi.specs.Tables.{is_cr}
-use Rattle.kvmi.specs.Message.{layout_of, size_fits, vcpu_of, count_of, names_vcpu, command_of, switches_at, event_of, register_of, gpa_of, size_of, count_fits, view_of, Entry, entries_of, first_padding, takes_event}
+use Rattle.kvmi.specs.Message.{layout_of, data_fits, vcpu_of, count_of, names_vcpu, command_of, switches_at, event_of, register_of, gpa_of, size_of, count_fits, view_of, Entry, entries_of, first_padding, takes_event}
 use Rattle.kvmi.specs.Verdict.{is_invalid, is_unready, is_denied, is_unsupported, is_busy, is_absent, loses_errors, change_of, command_verdict, verdict, takes_access, in_one_page}
 use Rattle.kvmi.specs.Batch.{batch_by}
 use Rattle.kvmi.specs.Call.{Call, message, after}
@@ -62,7 +62,7 @@ pub record Reaches (s : Settings) (m : Model) (id : ℕ) (msg out : List ℕ) : 
   -- 3: "Replies off and id 1, 4, 6 or 8: closes."
   pub answerable : (m.mode ≡ On) ⊎ (among id (1 ∷ 4 ∷ 6 ∷ 8 ∷ []) ≡ false)
   -- 4: "Data size unlike the table: closes."
-  pub size : So (size_fits (layout_of id).size (drop 8 msg))
+  pub size : So (data_fits (layout_of id) (drop 8 msg))
   -- 5: "Message 9 while event 2 is not allowed: closes."
   pub pauses : id ≡ 9 → So (allows_event s 2)
 

@@ -15,7 +15,7 @@ use Rattle.kvmi.specs.Settings.{in_range}
 use Rattle.kvmi.specs.Tables.{Tables, vcpu_at, with_ready, with_pauses}
 use Rattle.kvmi.specs.declared.Awaited.{Awaited}
 use Rattle.kvmi.specs.Model.{awaiting, Model, begun, fresh, closed_model, with_seq, set_awaited, awaited_by, on_vcpu, next_seq, is_some}
-use Rattle.kvmi.specs.Message.{layout_of, vcpu_of}
+use Rattle.kvmi.specs.Message.{layout_of, reply_kind, vcpu_of}
 use Rattle.kvmi.specs.Event.{offer_fits, is_asked_for}
 use Rattle.kvmi.specs.declared.Fault.{Fault}
 use Rattle.kvmi.specs.Feed.{no_fault, kept_of}
@@ -84,7 +84,7 @@ pub data Began (s : Settings) : Model → Type 0 where
 -- a command with its data and its code, answered by a mode
 unfoldable pub answering : Settings → ReplyMode → ℕ → ℕ → ℤ → List ℕ → Signal → List ℕ → List ℕ → Model → Step
 answering s mode id seq code d g out guest m =
-    writing (answer_of (layout_of id).reply mode m.seq id seq code (reply_data s guest id d)) g out guest (with_seq m (answer_seq mode m.seq code))
+    writing (answer_of (reply_kind (layout_of id)) mode m.seq id seq code (reply_data s guest id d)) g out guest (with_seq m (answer_seq mode m.seq code))
 
 -- an error follows the old mode; a change answers by the mode and with the signal that it decides
 unfoldable pub judged : Settings → Model → ℕ → ℕ → List ℕ → List ℕ → List ℕ → Verdict → Step

@@ -1,28 +1,24 @@
 -- "Messages": the table by message number, the fields and padding of each layout (kvmi.rst), and the events that messages take.
 -- d is a message's data, the bytes after its header.
-use Rattle.std.specs.Prelude.{ℕ, zero, suc, ◌+◌, ◌*◌, ◌/◌, ◌%◌, ◌^◌, List, [], ◌∷◌, Bool, true, false, cond, ◌&&◌, length, get_or, take, drop, leb, eqb}
+use Rattle.std.specs.Prelude.{ℕ, zero, suc, ◌+◌, ◌*◌, ◌/◌, ◌%◌, ◌^◌, List, [], ◌∷◌, Bool, true, false, cond, ◌&&◌, length, get_or, take, drop, leb, eqb, Option, Some, None}
 use Rattle.wire.specs.Bytes.{load}
 use Rattle.kvmi.specs.declared.SizeRule.{SizeRule}
-use Rattle.kvmi.specs.declared.SizeRule.TheVariants.{Exactly, SizeField, Entries, ByEvent, Unruled}
+use Rattle.kvmi.specs.declared.SizeRule.TheVariants.{Exactly, SizeField, Entries, ByEvent}
 use Rattle.kvmi.specs.declared.ReplyKind.{ReplyKind}
 use Rattle.kvmi.specs.declared.ReplyKind.TheVariants.{CodeOnly, WithData, Silent}
 use Rattle.kvmi.specs.declared.Handler.{Handler}
-use Rattle.kvmi.specs.declared.Handler.TheVariants.{GetVersion, VmCheckCommand, VmCheckEvent, VmGetInfo, VmControlEvents, VmReadPhysical, VmWritePhysical, VcpuGetInfo, VcpuPause, VcpuControlEvents, VcpuControlCr, VcpuControlMsr, VmSetPageAccess, VcpuControlSinglestep, VmControlCmdResponse, EventReply, Unknown}
+use Rattle.kvmi.specs.declared.Handler.TheVariants.{GetVersion, VmCheckCommand, VmCheckEvent, VmGetInfo, VmControlEvents, VmReadPhysical, VmWritePhysical, VcpuGetInfo, VcpuPause, VcpuControlEvents, VcpuControlCr, VcpuControlMsr, VmSetPageAccess, VcpuControlSinglestep, VmControlCmdResponse, EventReply}
 use Rattle.kvmi.specs.declared.Layout.{Layout}
 use Rattle.kvmi.specs.Bits.{among}
 
 -- ---- "The message number decides the layout."
-abbrev pub row : SizeRule → ReplyKind → Handler → Layout
-row size reply handler = record { size = size; reply = reply; handler = handler }
+abbrev pub row : SizeRule → ReplyKind → Handler → Option Layout
+row size reply handler = Some (record { size = size; reply = reply; handler = handler })
 
--- the row of an id that the table has not
-abbrev pub unknown : Layout
-unknown = row Unruled CodeOnly Unknown
-
--- messages 0 to 16
-abbrev pub messages : List Layout
+-- messages 0 to 16; 0 is none
+abbrev pub messages : List (Option Layout)
 messages =
-    unknown
+    None
     ∷ row (Exactly 0) WithData GetVersion
     ∷ row (Exactly 8) CodeOnly VmCheckCommand
     ∷ row (Exactly 8) CodeOnly VmCheckEvent
@@ -41,9 +37,14 @@ messages =
     ∷ row ByEvent Silent EventReply
     ∷ []
 
--- an id's row
-unfoldable pub layout_of : ℕ → Layout
-layout_of id = get_or messages id unknown
+-- an id's row, if the table has one
+unfoldable pub layout_of : ℕ → Option Layout
+layout_of id = get_or messages id None
+
+-- how a message is answered; an id without a row by a code alone
+abbrev pub reply_kind : Option Layout → ReplyKind
+reply_kind None = CodeOnly
+reply_kind (Some row) = row.reply
 
 -- test 4: the data's size is the table's. "Message 13 closes only below 8 bytes; a count that disagrees is -22."
 unfoldable pub size_fits : SizeRule → List ℕ → Bool
@@ -52,7 +53,11 @@ size_fits SizeField d = leb 16 (length d) && eqb (length d) (16 + load 8 d 8)
 size_fits Entries d = leb 8 (length d)
 -- EVENT_REPLY: what every reply has; Verdict's `reply_fits` asks for the awaited event's own size, and both close
 size_fits ByEvent d = leb 16 (length d)
-size_fits Unruled d = true
+
+-- an id without a row has no size that the data could miss: test 2 answers it before
+abbrev pub data_fits : Option Layout → List ℕ → Bool
+data_fits None d = true
+data_fits (Some row) d = size_fits row.size d
 
 -- the last column, "Reply data"
 abbrev pub carries_data : ReplyKind → Bool

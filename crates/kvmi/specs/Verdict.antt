@@ -26,7 +26,7 @@ use Rattle.kvmi.specs.declared.ReplyForm.TheVariants.{Plain, NewValue, Context}
 use Rattle.kvmi.specs.Event.{event_row_of, takes_action, form_fits, value_of}
 use Rattle.kvmi.specs.declared.Fault.{Fault}
 use Rattle.kvmi.specs.Feed.{unfed, page_exists, feed_of}
-use Rattle.kvmi.specs.Message.{layout_of, size_fits, carries_data, names_vcpu, vcpu_of, command_of, enables, is_now, has_flag, action_of, replied_event, switches_at, event_of, register_of, gpa_of, size_of, count_of, count_fits, view_of, Entry, entries_of, first_padding, takes_event}
+use Rattle.kvmi.specs.Message.{layout_of, reply_kind, data_fits, carries_data, names_vcpu, vcpu_of, command_of, enables, is_now, has_flag, action_of, replied_event, switches_at, event_of, register_of, gpa_of, size_of, count_of, count_fits, view_of, Entry, entries_of, first_padding, takes_event}
 
 -- the event that a vCPU awaits a reply to, 0 for none
 abbrev pub awaited_event : Option Awaited → ℕ
@@ -189,9 +189,9 @@ verdict s f id seq d =
     cond (not (leb 1 id && leb id 16)) (refuse f.mode ENOSYS)
     (cond (not (allows_command s id)) (refuse f.mode EPERM)
     -- 3: "Replies off and id 1, 4, 6 or 8: closes.": those whose replies carry data
-    (cond (not (replies_on f.mode) && carries_data (layout_of id).reply) Closes
+    (cond (not (replies_on f.mode) && carries_data (reply_kind (layout_of id))) Closes
     -- 4: "Data size unlike the table: closes."
-    (cond (not (size_fits (layout_of id).size d)) Closes
+    (cond (not (data_fits (layout_of id) d)) Closes
     -- 5 and 6 are not of EVENT_REPLY: "Then, for ids 1 to 15"
     (cond (eqb id 16) (event_reply_verdict f seq d)
     -- 5: "Message 9 while event 2 is not allowed: closes."; its second sentence, and 6
@@ -204,8 +204,8 @@ unfoldable pub reaches_test6 : Settings → ReplyMode → ℕ → List ℕ → B
 reaches_test6 s mode id d =
     (leb 1 id && leb id 15)
     && allows_command s id
-    && not (not (replies_on mode) && carries_data (layout_of id).reply)
-    && size_fits (layout_of id).size d
+    && not (not (replies_on mode) && carries_data (reply_kind (layout_of id)))
+    && data_fits (layout_of id) d
     && not (eqb id 9 && not (allows_event s 2))
 
 -- "should report the message offset of the first non-zero padding byte [..]; 0 means padding fine or test 6 not reached"

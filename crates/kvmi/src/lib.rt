@@ -121,8 +121,6 @@ pub enum SizeRule {
     Entries,
     // At least 16; that it is the size of the reply to the awaited event is tested later.
     ByEvent,
-    // Of an unknown id: no rule.
-    Unruled,
 }
 
 // What answers a message that is taken: an error code alone, one with data behind it, or nothing.
@@ -152,7 +150,6 @@ pub enum Handler {
     VcpuControlSinglestep,
     VmControlCmdResponse,
     EventReply,
-    Unknown,
 }
 
 // A row of the table of messages.

@@ -4,32 +4,33 @@ ghost use Rattle.kvmi.specs.Message.{layout_of, row};
 
 use crate::{Handler, Layout, ReplyKind, SizeRule};
 
-fn row(size: SizeRule, reply: ReplyKind, handler: Handler) -> Layout
+fn row(size: SizeRule, reply: ReplyKind, handler: Handler) -> Option<Layout>
     ensures { result ≡ row size reply handler }
 {
-    Layout {
+    Some(Layout {
         size,
         reply,
         handler,
-    }
+    })
 }
 
 // The row of a message with `bytes` data bytes that an error code alone answers.
-fn plain(bytes: u16, handler: Handler) -> Layout
+fn plain(bytes: u16, handler: Handler) -> Option<Layout>
     ensures { result ≡ row (SizeRule.Exactly bytes) ReplyKind.CodeOnly handler }
 {
     row(SizeRule::Exactly { bytes }, ReplyKind::CodeOnly, handler)
 }
 
 // The row of a message with `bytes` data bytes that is answered with data.
-fn asking(bytes: u16, handler: Handler) -> Layout
+fn asking(bytes: u16, handler: Handler) -> Option<Layout>
     ensures { result ≡ row (SizeRule.Exactly bytes) ReplyKind.WithData handler }
 {
     row(SizeRule::Exactly { bytes }, ReplyKind::WithData, handler)
 }
 
-// The row of a message's number; an unknown one has a row too.
-pub fn layout(id: u16) -> Layout
+// The row of a message's number, if there is such a message.
+#[tactic(auto, unfolding(crate::specs::Message::layout_of))]
+pub fn layout(id: u16) -> Option<Layout>
     ensures { result ≡ layout_of id }
 {
     match id {
@@ -57,6 +58,6 @@ pub fn layout(id: u16) -> Layout
         14 => plain(16, Handler::VcpuControlSinglestep),
         15 => plain(8, Handler::VmControlCmdResponse),
         16 => row(SizeRule::ByEvent, ReplyKind::Silent, Handler::EventReply),
-        0 | 17..=65535 => row(SizeRule::Unruled, ReplyKind::CodeOnly, Handler::Unknown),
+        0 | 17..=65535 => None,
     }
 }

@@ -17,7 +17,7 @@ use Rattle.kvmi.specs.declared.Verdict.{Verdict}
 use Rattle.kvmi.specs.declared.Verdict.TheVariants.{Closes, Fails, Does}
 use Rattle.kvmi.specs.Codes.{EPERM, ENOENT, EAGAIN, EBUSY, EINVAL, EOPNOTSUPP, ENOSYS}
 use Rattle.kvmi.specs.Settings.{allows_command, allows_event}
-use Rattle.kvmi.specs.Message.{layout_of, size_fits, carries_data, first_padding}
+use Rattle.kvmi.specs.Message.{layout_of, reply_kind, data_fits, carries_data, first_padding}
 use Rattle.kvmi.specs.Verdict.{replies_on, is_invalid, is_unready, is_denied, is_unsupported, is_busy, is_absent, change_of, loses_errors, command_verdict_by, command_verdict, event_reply_verdict, refuse, verdict, reaches_test6, reported_padding}
 use Rattle.laws.proofs.Bool.{test}
 use Rattle.laws.proofs.Verdicts.{pick, reply-cases, sound-of}
@@ -63,20 +63,20 @@ module _ (s : Settings) (f : Facts) (id : ℕ) (d : List ℕ) where
   unfolding reaches_test6
   disallowed h = unreached (falls-l _ _ (falls-l _ _ (falls-l _ _ (falls-r (leb 1 id && leb id 15) _ h))))
 
-  unanswerable : (not (replies_on f.mode) && carries_data (layout_of id).reply) ≡ true → told ≡ 0
+  unanswerable : (not (replies_on f.mode) && carries_data (reply_kind (layout_of id))) ≡ true → told ≡ 0
   unfolding reaches_test6
   unanswerable h = unreached (falls-l _ _ (falls-l _ _ (falls-r ((leb 1 id && leb id 15) && allows_command s id) _ (ap not h))))
 
-  ill-sized : size_fits (layout_of id).size d ≡ false → told ≡ 0
+  ill-sized : data_fits (layout_of id) d ≡ false → told ≡ 0
   unfolding reaches_test6
   ill-sized h =
-      unreached (falls-l _ _ (falls-r (((leb 1 id && leb id 15) && allows_command s id) && not (not (replies_on f.mode) && carries_data (layout_of id).reply)) _ h))
+      unreached (falls-l _ _ (falls-r (((leb 1 id && leb id 15) && allows_command s id) && not (not (replies_on f.mode) && carries_data (reply_kind (layout_of id)))) _ h))
 
   unpaused : (eqb id 9 && not (allows_event s 2)) ≡ true → told ≡ 0
   unfolding reaches_test6
   unpaused h =
       unreached
-      (falls-r ((((leb 1 id && leb id 15) && allows_command s id) && not (not (replies_on f.mode) && carries_data (layout_of id).reply)) && size_fits (layout_of id).size d) _ (ap not h))
+      (falls-r ((((leb 1 id && leb id 15) && allows_command s id) && not (not (replies_on f.mode) && carries_data (reply_kind (layout_of id)))) && data_fits (layout_of id) d) _ (ap not h))
 
   -- and where it finds no fault there is nothing to report
   clean : is_invalid s id d ≡ false → told ≡ 0
@@ -92,8 +92,8 @@ module _ (s : Settings) (f : Facts) (id : ℕ) (d : List ℕ) where
       let refused : (code : ℤ) → told ≡ 0 → P (refuse f.mode code) = λ code e. pick P (replies_on f.mode) (Fails code) Closes (λ _. inl e) (λ _. e) in
       pick P (not (leb 1 id && leb id 16)) _ _ (λ h. refused ENOSYS (unknown (command-ids id ∙ falls-l (leb 1 id && leb id 16) (not (eqb id 16)) (not-true (leb 1 id && leb id 16) h))))
       (λ _. pick P (not (allows_command s id)) _ _ (λ h. refused EPERM (disallowed (not-true (allows_command s id) h)))
-      (λ _. pick P (not (replies_on f.mode) && carries_data (layout_of id).reply) _ _ (λ h. unanswerable h)
-      (λ _. pick P (not (size_fits (layout_of id).size d)) _ _ (λ h. ill-sized (not-true (size_fits (layout_of id).size d) h))
+      (λ _. pick P (not (replies_on f.mode) && carries_data (reply_kind (layout_of id))) _ _ (λ h. unanswerable h)
+      (λ _. pick P (not (data_fits (layout_of id) d)) _ _ (λ h. ill-sized (not-true (data_fits (layout_of id) d) h))
       (λ _. pick P (eqb id 16) _ _
       (λ e. let none : told ≡ 0 = unknown (command-ids id ∙ falls-r (leb 1 id && leb id 16) _ (ap not e)) in
       reply-cases P f.pending.awaited f.guest seq d none (λ a w h. none))

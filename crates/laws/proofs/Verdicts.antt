@@ -21,7 +21,7 @@ use Rattle.kvmi.specs.Bits.{among, every}
 use Rattle.kvmi.specs.Codes.{is_error, EPERM, ENOENT, EAGAIN, EBUSY, EINVAL, EOPNOTSUPP, ENOSYS}
 use Rattle.kvmi.specs.Settings.{allows_command, allows_event}
 use Rattle.kvmi.specs.Tables.{is_cr}
-use Rattle.kvmi.specs.Message.{layout_of, size_fits, carries_data, names_vcpu, vcpu_of, switches_at, action_of, replied_event, event_of, register_of, gpa_of, size_of, count_of, count_fits, view_of, Entry, entries_of, first_padding, takes_event}
+use Rattle.kvmi.specs.Message.{layout_of, reply_kind, data_fits, carries_data, names_vcpu, vcpu_of, switches_at, action_of, replied_event, event_of, register_of, gpa_of, size_of, count_of, count_fits, view_of, Entry, entries_of, first_padding, takes_event}
 use Rattle.kvmi.specs.declared.Awaited.{Awaited}
 use Rattle.kvmi.specs.declared.Facts.{Facts}
 use Rattle.kvmi.specs.Event.{event_row_of, value_of}
@@ -50,8 +50,8 @@ pick P false x y f g = g refl
 pub record Admitted (s : Settings) (f : Facts) (id : ℕ) (d : List ℕ) : Type 0 where
   pub known : (leb 1 id && leb id 16) ≡ true
   pub permitted : allows_command s id ≡ true
-  pub answerable : (not (replies_on f.mode) && carries_data (layout_of id).reply) ≡ false
-  pub size : size_fits (layout_of id).size d ≡ true
+  pub answerable : (not (replies_on f.mode) && carries_data (reply_kind (layout_of id))) ≡ false
+  pub size : data_fits (layout_of id) d ≡ true
 
 -- a command that tests 2 to 6 pass, in their order; `errors` is test 5's second sentence
 pub record Passed (s : Settings) (f : Facts) (id : ℕ) (d : List ℕ) : Type 0 where
@@ -97,10 +97,10 @@ verdict-cases P s f id seq d closes fails does ends =
     let refused : (code : ℤ) → is_error code ≡ true → P (refuse f.mode code) = λ code e. pick P (replies_on f.mode) (Fails code) Closes (λ _. fails code e) (λ _. closes) in
     pick P (not (leb 1 id && leb id 16)) _ _ (λ _. refused ENOSYS refl)
     (λ known. pick P (not (allows_command s id)) _ _ (λ _. refused EPERM refl)
-    (λ permitted. pick P (not (replies_on f.mode) && carries_data (layout_of id).reply) _ _ (λ _. closes)
-    (λ answerable. pick P (not (size_fits (layout_of id).size d)) _ _ (λ _. closes)
+    (λ permitted. pick P (not (replies_on f.mode) && carries_data (reply_kind (layout_of id))) _ _ (λ _. closes)
+    (λ answerable. pick P (not (data_fits (layout_of id) d)) _ _ (λ _. closes)
     (λ size. let admitted : Admitted s f id d
-    = record { known = not-false _ known; permitted = not-false _ permitted; answerable = answerable; size = not-false (size_fits (layout_of id).size d) size } in
+    = record { known = not-false _ known; permitted = not-false _ permitted; answerable = answerable; size = not-false (data_fits (layout_of id) d) size } in
     pick P (eqb id 16) _ _
     (λ e. reply-cases P f.pending.awaited f.guest seq d closes
     (λ a w h. ends a

@@ -21,7 +21,7 @@ use Rattle.kvmi.specs.Bits.{bit, is_on, put_bit, every}
 use Rattle.kvmi.specs.Codes.{EAGAIN, EINVAL}
 use Rattle.kvmi.specs.Settings.{in_range, allows_command}
 use Rattle.kvmi.specs.Tables.{is_cr, cr_bit}
-use Rattle.kvmi.specs.Message.{layout_of, size_fits, names_vcpu, vcpu_of, enable_at, enables, switches_at, register_of, padding_runs, first_non_zero, first_of_runs, first_padding}
+use Rattle.kvmi.specs.Message.{layout_of, data_fits, size_fits, names_vcpu, vcpu_of, enable_at, enables, switches_at, register_of, padding_runs, first_non_zero, first_of_runs, first_padding}
 use Rattle.kvmi.specs.Mode.{mode_of_number}
 use Rattle.kvmi.specs.Verdict.{invalid_by, is_unready, is_denied, is_unsupported, is_busy, is_absent, change_of, loses_errors, command_verdict_by, command_verdict, verdict, reaches_test6, reported_padding}
 use Rattle.kvmi.specs.Reply.{message_bytes}
@@ -106,7 +106,7 @@ module _ (vcpu cr : ℕ) (on : Bool) (v : vcpu < 2 ^ 16) (c : cr < 2 ^ 32) where
       small true = refl
       small false = refl
 
-  whole : size_fits (layout_of 11).size d ≡ true
+  whole : data_fits (layout_of 11) d ≡ true
   unfolding size_fits layout_of le
   whole = refl
 

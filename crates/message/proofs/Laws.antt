@@ -15,7 +15,7 @@ use Rattle.kvmi.specs.declared.Verdict.TheVariants.{Closes, Fails, Does}
 use Rattle.kvmi.specs.Answer.{paper, handled, with_padding}
 use Rattle.kvmi.specs.Codes.{OK}
 use Rattle.kvmi.specs.Mode.{mode_of_number}
-use Rattle.kvmi.specs.Message.{layout_of, vcpu_of}
+use Rattle.kvmi.specs.Message.{layout_of, reply_kind, vcpu_of}
 use Rattle.kvmi.specs.Verdict.{verdict, judgement, reported_padding}
 use Rattle.kvmi.specs.Reply.{answer_bytes, reply_data}
 use Rattle.verdict.specs.Handlers.{facts_for}
@@ -50,14 +50,14 @@ module _ (s : Session) (a : Answered) (v p out written guest : List ℕ) (id seq
 -- one that did its change
 module _ (s : Session) (e : Effect) (a : Answered) (v p d out written guest : List ℕ) (id seq : ℕ) (r : Received) where
   pub answered-as : KindWritten e.kind (mode_of_number e.by) s.tool.seq id seq e.code (reply_data s.settings guest id d) out written a
-      → serves (layout_of id).reply e.kind ≡ true → ((layout_of id).reply ≡ Silent → e.code ≡ OK)
+      → serves (reply_kind (layout_of id)) e.kind ≡ true → (reply_kind (layout_of id) ≡ Silent → e.code ≡ OK)
       → r.after ≡ and_seq e.moved a.took_seq → paper r.answer ≡ handled a.count e.signal
       → told (done_by s r) v p written guest
       ≡ answering_of (mode_of_number e.by) id seq e.code d e.signal out guest (state (with_tool s (tool_after s.tool e.moved)) v p)
   unfolding answering_of
   answered-as w k ok m y =
-      let b = same_answer (mode_of_number e.by) s.tool.seq id seq e.code (reply_data s.settings guest id d) (layout_of id).reply e.kind k (code-only s.settings guest d id) in
-      let n = kind-seq (layout_of id).reply e.kind (mode_of_number e.by) s.tool.seq e.code k ok in
+      let b = same_answer (mode_of_number e.by) s.tool.seq id seq e.code (reply_data s.settings guest id d) (reply_kind (layout_of id)) e.kind k (code-only s.settings guest d id) in
+      let n = kind-seq (reply_kind (layout_of id)) e.kind (mode_of_number e.by) s.tool.seq e.code k ok in
       rw (m, moved_as s e.moved a.took_seq, y, w.took, seq-stays s.tool e.moved, n, ← b) (simp (w.written.count, w.written.there))
 
 -- ---- a message by its verdict
@@ -113,20 +113,20 @@ module _ (st : State) (id seq : ℕ) (d out guest : List ℕ) (m : ReplyMode) (q
         ∙ ap (λ (x : Verdict). reporting_of q.padding (judged_of st id seq d out guest x)) (sym i)
         ∙ judged-as
 
-    served-as : served (layout_of id).reply q.verdict ≡ true
+    served-as : served (reply_kind (layout_of id)) q.verdict ≡ true
     served-as = rw verdict-is (verdict-served _ _ id seq d)
 
     -- a message that nothing answers does not fail
-    code-as : (layout_of id).reply ≡ Silent → code_by st guest d q.verdict ≡ OK
+    code-as : reply_kind (layout_of id) ≡ Silent → code_by st guest d q.verdict ≡ OK
     code-as k = ap (λ (y : Verdict). code_by st guest d y) verdict-is ∙ reply-code st guest _ _ id seq d k
 
     pub fails-as : (code : ℤ) → q.verdict ≡ Fails code → failed_of st id seq code q.padding out guest ≡ handled_of st id seq d out guest
     unfolding judged_of answering_of
     fails-as code i =
         let wrong = rw i at served-as in
-        let silent : (layout_of id).reply ≡ Silent → ⊥ = λ k. let ok = rw i at (code-as k) in false≢true (rw ok at wrong) in
+        let silent : reply_kind (layout_of id) ≡ Silent → ⊥ = λ k. let ok = rw i at (code-as k) in false≢true (rw ok at wrong) in
         let m = mode_of_number st.session.tool.mode in
-        let b = error-answer m st.session.tool.seq id seq code (reply_data st.session.settings guest id d) (layout_of id).reply wrong silent in
+        let b = error-answer m st.session.tool.seq id seq code (reply_data st.session.settings guest id d) (reply_kind (layout_of id)) wrong silent in
         rw b (ap (λ (x : Verdict). reporting_of q.padding (judged_of st id seq d out guest x)) (sym i) ∙ judged-as)
 
     -- the answer to what was done
@@ -136,14 +136,14 @@ module _ (st : State) (id seq : ℕ) (d out guest : List ℕ) (m : ReplyMode) (q
     -- a change is answered by a kind that serves its message, meets no error where nothing answers, and its answer is the message's
     abbrev pub Follows : Enacted → Type 0
     Follows x =
-        (serves (layout_of id).reply x.kind ≡ true)
-        × ((layout_of id).reply ≡ Silent → x.changed.code ≡ OK)
+        (serves (reply_kind (layout_of id)) x.kind ≡ true)
+        × (reply_kind (layout_of id) ≡ Silent → x.changed.code ≡ OK)
         × (answered-by x ≡ handled_of st id seq d out guest)
 
     pub does-as : (c : Change) (x : Enacted) → q.verdict ≡ Does c → x ≡ enacted_of st guest d c → Follows x
     unfolding judged_of answering_of
     does-as c x i k = let none : q.padding ≡ 0 = rw i at reports-as in (
-      ap (λ (y : Enacted). serves (layout_of id).reply y.kind) k ∙ (rw i at served-as),
+      ap (λ (y : Enacted). serves (reply_kind (layout_of id)) y.kind) k ∙ (rw i at served-as),
       λ q. ap (λ (y : Enacted). y.changed.code) k ∙ (rw i at (code-as q)),
       ap answered-by k
           ∙ ap (λ (n : ℕ). reporting_of n (answered-by (enacted_of st guest d c))) (sym none)

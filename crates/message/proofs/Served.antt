@@ -16,7 +16,7 @@ use Rattle.kvmi.specs.declared.Settings.{Settings}
 use Rattle.kvmi.specs.declared.Verdict.{Verdict}
 use Rattle.kvmi.specs.declared.Verdict.TheVariants.{Closes, Fails, Does}
 use Rattle.kvmi.specs.Codes.{OK, is_error}
-use Rattle.kvmi.specs.Message.{layout_of}
+use Rattle.kvmi.specs.Message.{layout_of, reply_kind}
 use Rattle.kvmi.specs.Model.{next_seq}
 use Rattle.kvmi.specs.Reply.{reply_bytes, answer_bytes, answer_seq, answer_of}
 use Rattle.kvmi.specs.Verdict.{verdict, change_of}
@@ -96,13 +96,13 @@ below-16 : (id : ℕ) → (leb 1 id && leb id 16) ≡ true → eqb id 16 ≡ fal
 below-16 id h e = omega (arith, leb-true id 16 (and_r (leb 1 id) (leb id 16) h), eqb-false id 16 e)
 
 module _ (s : Settings) (f : Facts) (id seq : ℕ) (d : List ℕ) where
-  does : Passed s f id d → serves (layout_of id).reply (kind_of (change_of id d)) ≡ true
+  does : Passed s f id d → serves (reply_kind (layout_of id)) (kind_of (change_of id d)) ≡ true
   unfolding layout_of change_of
-  does p = below (λ k. serves (layout_of k).reply (kind_of (change_of k d))) 16 id refl (below-16 id p.admitted.known p.command)
+  does p = below (λ k. serves (reply_kind (layout_of k)) (kind_of (change_of k d))) 16 id refl (below-16 id p.admitted.known p.command)
 
-  ends : id ≡ 16 → serves (layout_of id).reply Silent ≡ true
+  ends : id ≡ 16 → serves (reply_kind (layout_of id)) Silent ≡ true
   unfolding layout_of
   ends e = rw e
 
-  pub verdict-served : served (layout_of id).reply (verdict s f id seq d) ≡ true
-  verdict-served = verdict-cases (λ v. served (layout_of id).reply v ≡ true) s f id seq d refl (λ code e. e) does (λ a r. ends r.reply)
+  pub verdict-served : served (reply_kind (layout_of id)) (verdict s f id seq d) ≡ true
+  verdict-served = verdict-cases (λ v. served (reply_kind (layout_of id)) v ≡ true) s f id seq d refl (λ code e. e) does (λ a r. ends r.reply)

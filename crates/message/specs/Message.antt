@@ -11,7 +11,7 @@ use Rattle.kvmi.specs.Bits.{is_on}
 use Rattle.kvmi.specs.Codes.{OK}
 use Rattle.kvmi.specs.Limits.{least_out}
 use Rattle.kvmi.specs.Mode.{mode_of_number}
-use Rattle.kvmi.specs.Message.{layout_of, vcpu_of}
+use Rattle.kvmi.specs.Message.{layout_of, reply_kind, vcpu_of}
 use Rattle.kvmi.specs.Answer.{with_padding}
 use Rattle.kvmi.specs.Verdict.{verdict, reported_padding}
 use Rattle.kvmi.specs.Change.{signal_of, mode_for}
@@ -42,7 +42,7 @@ code_by st guest d (Does c) = (change st guest d c).code
 -- ---- a message
 unfoldable pub answering_of : ReplyMode → ℕ → ℕ → ℤ → List ℕ → Signal → List ℕ → List ℕ → State → Told
 answering_of mode id seq code d g out guest st =
-    told_written (answer_of (layout_of id).reply mode st.session.tool.seq id seq code (reply_data st.session.settings guest id d)) g
+    told_written (answer_of (reply_kind (layout_of id)) mode st.session.tool.seq id seq code (reply_data st.session.settings guest id d)) g
     (with_seq_of st (answer_seq mode st.session.tool.seq code))
     out
     guest

@@ -25,7 +25,7 @@ use Rattle.kvmi.specs.declared.Verdict.{Verdict}
 use Rattle.kvmi.specs.declared.Verdict.TheVariants.{Closes, Fails, Does}
 use Rattle.kvmi.specs.Answer.{lacks_page}
 use Rattle.kvmi.specs.Codes.{is_error}
-use Rattle.kvmi.specs.Message.{layout_of, vcpu_of, gpa_of, size_of}
+use Rattle.kvmi.specs.Message.{layout_of, reply_kind, vcpu_of, gpa_of, size_of}
 use Rattle.kvmi.specs.Change.{signal_of, mode_for}
 use Rattle.kvmi.specs.Event.{offer_fits}
 use Rattle.kvmi.specs.Reply.{reply_data, answer_bytes, answer_of}
@@ -129,14 +129,14 @@ module _ (st : State) (d out guest : List ℕ) (long : 4112 ≤ length out) wher
   does-past id seq c fits =
       let r = change st guest d c in
       let mode = mode_for (mode_of_number st.session.tool.mode) c in
-      let l = length-answer (layout_of id).reply mode r.state.session.tool.seq id seq r.code r.state.session.settings r.guest d fits in
+      let l = length-answer (reply_kind (layout_of id)) mode r.state.session.tool.seq id seq r.code r.state.session.settings r.guest d fits in
       written-past _ (signal_of c) _ out r.guest (omega arith)
 
   fails-past : (id seq : ℕ) (code : ℤ) → is_error code ≡ true → Past out (judged_of st id seq d out guest (Fails code))
   unfolding judged_of answering_of
   fails-past id seq code e =
       let mode = mode_of_number st.session.tool.mode in
-      let l = error-length (layout_of id).reply mode st.session.tool.seq id seq code (reply_data st.session.settings guest id d) e in
+      let l = error-length (reply_kind (layout_of id)) mode st.session.tool.seq id seq code (reply_data st.session.settings guest id d) e in
       written-past _ Quiet _ out guest (omega arith)
 
   closes-past : Past out (told_closing st out guest)

@@ -31,7 +31,7 @@ use Rattle.kvmi.specs.declared.Fault.{Fault}
 use Rattle.kvmi.specs.Feed.{no_fault, kept_of}
 use Rattle.kvmi.specs.Tables.{Vcpu, vcpu_at, resting, empty_tables, with_ready, with_pauses, with_vcpus, with_msrs, with_pages}
 use Rattle.kvmi.specs.Model.{Model, fresh, closed_model, with_tables, with_seq, with_awaited, next_seq, on_vcpu, awaited_by, is_some}
-use Rattle.kvmi.specs.Message.{layout_of, names_vcpu, vcpu_of, enables, event_of, register_of, gpa_of, size_of, count_of, count_fits, view_of, Entry, entries_of, is_vm_event, is_vcpu_event, takes_event}
+use Rattle.kvmi.specs.Message.{layout_of, reply_kind, names_vcpu, vcpu_of, enables, event_of, register_of, gpa_of, size_of, count_of, count_fits, view_of, Entry, entries_of, is_vm_event, is_vcpu_event, takes_event}
 use Rattle.kvmi.specs.Verdict.{facts_of, is_access, takes_access, in_one_page, is_invalid, is_busy, mode_of, change_of, verdict}
 use Rattle.kvmi.specs.Change.{Applied, applied, apply, signal_of, mode_for}
 use Rattle.kvmi.specs.Event.{offer_fits, is_asked_for}
@@ -214,12 +214,12 @@ seq-kept : (st : State) (x : ℕ) → WordsGood st → WordsGood (with_seq_of st
 seq-kept st x g = tool-kept st g _ refl g.opened g.mode
 
 answering-simulates : (st st' : State) (mode : ReplyMode) (id seq : ℕ) (code : ℤ) (d : List ℕ) (sig : Signal) (out guest : List ℕ)
-    → length (answer_of (layout_of id).reply mode st'.session.tool.seq id seq code (reply_data st'.session.settings guest id d)) ≤ length out
+    → length (answer_of (reply_kind (layout_of id)) mode st'.session.tool.seq id seq code (reply_data st'.session.settings guest id d)) ≤ length out
     → st'.session.settings ≡ st.session.settings → WordsGood st'
     → Simulates st (answering_of mode id seq code d sig out guest st') (model.answering st.session.settings mode id seq code d sig out guest (model_of st'))
 unfolding answering_of model.answering
 answering-simulates st st' mode id seq code d sig out guest h e g =
-    let bytes : Settings → List ℕ = λ x. answer_of (layout_of id).reply mode st'.session.tool.seq id seq code (reply_data x guest id d) in
+    let bytes : Settings → List ℕ = λ x. answer_of (reply_kind (layout_of id)) mode st'.session.tool.seq id seq code (reply_data x guest id d) in
     record {
       answer = λ j. handled (length (bytes (e j))) sig;
       out = store-start out (bytes st'.session.settings) h ∙ (λ j. bytes (e j) ++ drop (length (bytes (e j))) out);
@@ -248,7 +248,7 @@ module _ (st : State) (f : WellFormed st) (out guest : List ℕ) where
   does-simulates id seq d long c fits m =
       let r = change st guest d c in
       let mode = mode_for (mode_of_number st.session.tool.mode) c in
-      let l = length-answer (layout_of id).reply mode r.state.session.tool.seq id seq r.code r.state.session.settings r.guest d fits in
+      let l = length-answer (reply_kind (layout_of id)) mode r.state.session.tool.seq id seq r.code r.state.session.settings r.guest d fits in
       let here = answering-simulates st r.state mode id seq r.code d (signal_of c) out r.guest (omega arith) (change-keeps st guest d c) m.words in
       subst (λ (x : Model). S (answering_of mode id seq r.code d (signal_of c) out r.guest r.state) (model.answering cfg mode id seq (apply cfg (model_of st) guest d c).code d (signal_of c) out (apply cfg (model_of st) guest d c).guest x)) m.model
       (subst (λ (x : List ℕ). S (answering_of mode id seq r.code d (signal_of c) out r.guest r.state) (model.answering cfg mode id seq (apply cfg (model_of st) guest d c).code d (signal_of c) out x (model_of r.state))) m.guest
@@ -259,7 +259,7 @@ module _ (st : State) (f : WellFormed st) (out guest : List ℕ) where
   unfolding judged_of model.judged
   fails-simulates id seq d long code e =
       let mode = mode_of_number st.session.tool.mode in
-      let l = error-length (layout_of id).reply mode st.session.tool.seq id seq code (reply_data cfg guest id d) e in
+      let l = error-length (reply_kind (layout_of id)) mode st.session.tool.seq id seq code (reply_data cfg guest id d) e in
       answering-simulates st st mode id seq code d Quiet out guest (omega arith) refl f.words
 
   closes-simulates : (id seq : ℕ) (d : List ℕ) → S (judged_of st id seq d out guest Closes) (model.judged cfg (model_of st) id seq d out guest Closes)

@@ -1,36 +1,40 @@
 -- Laws of a reply's data: which it is, where it lies and how long it is. Assumes nothing.
 use mathlib.Core.Path.{◌≡◌, refl, sym, ap, ◌∙◌}
 use mathlib.Core.Logic.{⊎_elim}
-use mathlib.Core.List.{List, [], ◌∷◌}
-use mathlib.Core.Bool.{Bool, true, false, not, ◌&&◌, and-eq-true_iff, false≢true}
+use mathlib.Core.List.{List, []}
+use mathlib.Core.Bool.{Bool, true, false, ◌&&◌, and-eq-true_iff, false≢true}
 use Prim.Native.Nat.{ℕ, zero, suc, ◌+◌, ◌-◌, ◌≤◌, ◌<◌, min}
 use native.Mathlib.Nat.{not-suc-le-zero}
 use native.Mathlib.Omega.{arith}
 use lib.IntN.{ℤ}
 use lib.ListN.{length, take, drop, length-append, length-take, length-drop, drop_of_length-le, get_or-eq_default}
 use lib.Seq.{take_all, take-length, drop-length}
-use lib.Dec.{T, eqb}
-use mir.Val.{has_key}
+use lib.Dec.{eqb}
 use denote.Enum.Declared.{tag_of}
-use types.Run.{OneOf, miss}
 use borrow.Author.Tests.{ne_eqb, eqb-true}
+use Rattle.std.specs.Prelude.{Option, Some, None}
 use Rattle.wire.proofs.Laws.{le-or-lt, length-le}
 use Rattle.kvmi.specs.declared.Settings.{Settings}
 use Rattle.kvmi.specs.declared.Handler.{Handler}
+use Rattle.kvmi.specs.declared.Handler.TheVariants.{GetVersion, VmCheckCommand, VmCheckEvent, VmGetInfo, VmControlEvents, VmReadPhysical, VmWritePhysical, VcpuGetInfo, VcpuPause, VcpuControlEvents, VcpuControlCr, VcpuControlMsr, VmSetPageAccess, VcpuControlSinglestep, VmControlCmdResponse, EventReply}
 use Rattle.kvmi.specs.declared.Layout.{Layout}
 use Rattle.kvmi.specs.contracts.Handler.{the_type}
 use Rattle.kvmi.specs.Codes.{is_error}
 use Rattle.kvmi.specs.declared.ReplyKind.TheVariants.{CodeOnly}
-use Rattle.kvmi.specs.Message.{layout_of, messages, unknown, carries_data, gpa_of, size_of}
+use Rattle.kvmi.specs.Message.{layout_of, reply_kind, messages, carries_data, gpa_of, size_of}
 use Rattle.kvmi.specs.Reply.{reply_data}
 use Rattle.reply.specs.Contents.{contents_bytes, contents_count, contents_end, Chosen, Picked}
 use Rattle.reply.specs.declared.Contents.{Contents}
 use Rattle.reply.specs.declared.Contents.TheVariants.{Nothing, Version, VmInfo, VcpuInfo, Memory}
 
--- ---- the data of a reply, by the handler's place among the handlers: messages 1 to 16 have them in order
+-- ---- the data of a reply, by the handler's place among the handlers: messages 1 to 16 have them in order; 16 is the place of none
+
+abbrev tag_in : Option Layout → ℕ
+tag_in None = 16
+tag_in (Some row) = tag_of the_type row.handler
 
 abbrev handler_tag : ℕ → ℕ
-handler_tag id = tag_of the_type (layout_of id).handler
+handler_tag id = tag_in (layout_of id)
 
 -- f holds of each number below n
 abbrev pub all_below : (ℕ → Bool) → ℕ → Bool
@@ -52,7 +56,7 @@ place_in n h = eqb-true n (handler_tag (suc n)) (below (λ k. eqb k (handler_tag
 
 place-past : (n : ℕ) → 16 ≤ n → handler_tag (suc n) ≡ 16
 unfolding layout_of
-place-past n h = ap (λ (l : Layout). tag_of the_type l.handler) (get_or-eq_default messages unknown {n = suc n} (omega arith))
+place-past n h = ap tag_in (get_or-eq_default messages None {n = suc n} (omega arith))
 
 module _ (s : Settings) (guest d : List ℕ) where
   pub no-data : (n : ℕ) → (n ≡ 1 → ⊥) → (n ≡ 4 → ⊥) → (n ≡ 6 → ⊥) → (n ≡ 8 → ⊥) → reply_data s guest n d ≡ []
@@ -70,38 +74,57 @@ module _ (s : Settings) (guest d : List ℕ) where
       (le-or-lt 16 n)
 
   -- a message that a code alone answers has none
-  pub code-only : (id : ℕ) → (layout_of id).reply ≡ CodeOnly → reply_data s guest id d ≡ []
+  pub code-only : (id : ℕ) → reply_kind (layout_of id) ≡ CodeOnly → reply_data s guest id d ≡ []
   unfolding layout_of
   code-only id kind =
-      let no_such : (n : ℕ) → carries_data (layout_of n).reply ≡ true → id ≡ n → ⊥
-      = λ n has e. false≢true (sym (ap carries_data kind) ∙ ap (λ (k : ℕ). carries_data (layout_of k).reply) e ∙ has) in
+      let no_such : (n : ℕ) → carries_data (reply_kind (layout_of n)) ≡ true → id ≡ n → ⊥
+      = λ n has e. false≢true (sym (ap carries_data kind) ∙ ap (λ (k : ℕ). carries_data (reply_kind (layout_of k))) e ∙ has) in
       no-data id (no_such 1 refl) (no_such 4 refl) (no_such 6 refl) (no_such 8 refl)
 
--- the places of the handlers that answer without data
-abbrev pub bare : List ℕ
-bare = 1 ∷ 2 ∷ 4 ∷ 6 ∷ 8 ∷ 9 ∷ 10 ∷ 11 ∷ 12 ∷ 13 ∷ 14 ∷ 15 ∷ 16 ∷ []
-
-pub not-bare : (k t : ℕ) → T (not (has_key bare k)) → OneOf bare t → suc t ≡ suc k → ⊥
-not-bare k t h o e = let q : t ≡ k = omega arith in miss bare k h (rw q at o)
+-- the handlers that answer with data are four
+bare : (s : Settings) (guest d : List ℕ) (h : Handler) → (h ≡ GetVersion → ⊥) → (h ≡ VmGetInfo → ⊥) → (h ≡ VmReadPhysical → ⊥) → (h ≡ VcpuGetInfo → ⊥)
+    → reply_data s guest (suc (tag_of the_type h)) d ≡ []
+unfolding reply_data
+bare s guest d GetVersion a b c e = absurd (a refl)
+bare s guest d VmGetInfo a b c e = absurd (b refl)
+bare s guest d VmReadPhysical a b c e = absurd (c refl)
+bare s guest d VcpuGetInfo a b c e = absurd (e refl)
+bare s guest d VmCheckCommand a b c e = refl
+bare s guest d VmCheckEvent a b c e = refl
+bare s guest d VmControlEvents a b c e = refl
+bare s guest d VmWritePhysical a b c e = refl
+bare s guest d VcpuPause a b c e = refl
+bare s guest d VcpuControlEvents a b c e = refl
+bare s guest d VcpuControlCr a b c e = refl
+bare s guest d VcpuControlMsr a b c e = refl
+bare s guest d VmSetPageAccess a b c e = refl
+bare s guest d VcpuControlSinglestep a b c e = refl
+bare s guest d VmControlCmdResponse a b c e = refl
+bare s guest d EventReply a b c e = refl
 
 module _ (guest : List ℕ) (id : ℕ) (code : ℤ) (d : List ℕ) (ok : is_error code ≡ false) where
+  by_tag : (s : Settings) {o : Option Layout} → o ≡ layout_of id → reply_data s guest (suc (tag_in o)) d ≡ reply_data s guest id d
+  by_tag s e = ap (λ o. reply_data s guest (suc (tag_in o)) d) e ∙ sym (by_place s guest d id)
+
+  -- an id without a row has none
+  pub chosen_of_none : None ≡ layout_of id → Chosen guest id code d Nothing
+  unfolding contents_bytes contents_end reply_data
+  chosen_of_none e = record { bytes = λ s. by_tag s e ∙ rw ok; inside = omega arith }
+
   -- a handler's contents are those of the message
-  pub chosen : (h : Handler) (r : Contents) → (layout_of id).handler ≡ h
+  pub chosen : {row : Layout} → Some row ≡ layout_of id → (h : Handler) (r : Contents) → row.handler ≡ h
       → ((s : Settings) → contents_bytes s guest r ≡ reply_data s guest (suc (tag_of the_type h)) d)
       → contents_end r ≤ length guest → Chosen guest id code d r
-  chosen h r e same inside =
+  chosen e h r g same inside =
       record {
-        bytes = λ s. same s ∙ ap (λ (x : Handler). reply_data s guest (suc (tag_of the_type x)) d) (sym e) ∙ sym (by_place s guest d id) ∙ rw ok;
+        bytes = λ s. same s ∙ ap (λ (x : Handler). reply_data s guest (suc (tag_of the_type x)) d) (sym g) ∙ by_tag s e ∙ rw ok;
         inside = inside;
       }
 
-  pub chosen_none : (h : Handler) → (layout_of id).handler ≡ h → OneOf bare (tag_of the_type h) → Chosen guest id code d Nothing
+  pub chosen_none : {row : Layout} → Some row ≡ layout_of id → (row.handler ≡ GetVersion → ⊥) → (row.handler ≡ VmGetInfo → ⊥) → (row.handler ≡ VmReadPhysical → ⊥)
+      → (row.handler ≡ VcpuGetInfo → ⊥) → Chosen guest id code d Nothing
   unfolding contents_bytes contents_end
-  chosen_none h e o =
-      let n = tag_of the_type h in
-      chosen h Nothing e
-      (λ s. sym (no-data s guest d (suc n) (not-bare 0 n tt o) (not-bare 3 n tt o) (not-bare 5 n tt o) (not-bare 7 n tt o)))
-      (omega arith)
+  chosen_none {row} e p q r t = chosen e row.handler Nothing refl (λ s. sym (bare s guest d row.handler p q r t)) (omega arith)
 
 -- a command that fails has none
 pub chosen-error : (guest : List ℕ) (id : ℕ) (code : ℤ) (d : List ℕ) → is_error code ≡ true → Chosen guest id code d Nothing

@@ -78,9 +78,10 @@ fn choose(guest: &[u8], id: u16, code: i32, d: &[u8]) -> Contents
     if is_error(code) {
         return Contents::Nothing;
     }
-    let row = kvmi::table::layout(id);
-    let handler = row.handler;
-    match handler {
+    let Some(row) = kvmi::table::layout(id) else {
+        return Contents::Nothing;
+    };
+    match row.handler {
         Handler::GetVersion => Contents::Version,
         Handler::VmGetInfo => Contents::VmInfo,
         Handler::VmReadPhysical => memory(guest, d),

@@ -8,9 +8,8 @@ ghost use Rattle.kvmi.specs.Tables.{is_cr};
 ghost use Rattle.kvmi.specs.Message.{size_fits, carries_data, is_vm_event, is_vcpu_event};
 ghost use Rattle.kvmi.specs.Verdict.{replies_on, takes_access, in_one_page, mode_of};
 ghost use Rattle.kvmi.specs.Feed.{page_exists};
-ghost use Rattle.tests.specs.Known.{is_known};
 
-use kvmi::{Handler, ReplyKind, ReplyMode, Settings, SizeRule};
+use kvmi::{ReplyKind, ReplyMode, Settings, SizeRule};
 
 // ---- numbers; sets of them by `|`: a `matches!` of numbers is proved by answers to goals whose names may change
 
@@ -141,12 +140,6 @@ pub fn mode_from(enable: bool, flag: bool) -> ReplyMode
 
 // ---- the table's row of a message
 
-pub fn is_known(handler: Handler) -> bool
-    ensures { result ≡ is_known handler }
-{
-    !matches!(handler, Handler::Unknown)
-}
-
 pub fn carries_data(reply: ReplyKind) -> bool
     ensures { result ≡ carries_data reply }
 {
@@ -163,6 +156,5 @@ pub fn size_fits(rule: SizeRule, d: &[u8]) -> bool
         SizeRule::SizeField => 16 <= n && (n - 16) as u64 == wire::load::<u64>(d, 8),
         SizeRule::Entries => 8 <= n,
         SizeRule::ByEvent => 16 <= n,
-        SizeRule::Unruled => true,
     }
 }

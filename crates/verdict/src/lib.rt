@@ -27,7 +27,7 @@ fn refuse(mode: ReplyMode, code: i32) -> Verdict
     Verdict::Closes
 }
 
-// Whether a message of a known id passes tests 2 to 4.
+// Whether a message that has a row passes tests 2 to 4.
 fn passes(a: Asked, id: u16, row: Layout, d: &[u8]) -> bool
     ensures { result ≡ passes_row a row id d.now }
 {
@@ -43,14 +43,11 @@ fn passes(a: Asked, id: u16, row: Layout, d: &[u8]) -> bool
     tests::size_fits(size, d)
 }
 
-// What a message gets that does not pass them, or has an unknown id.
-fn refused(a: Asked, id: u16, handler: Handler) -> Verdict
-    ensures { result ≡ refusal a handler id }
+// What it gets if it does not.
+fn refused(a: Asked, id: u16) -> Verdict
+    ensures { result ≡ refusal a id }
 {
     let mode = a.mode;
-    if !tests::is_known(handler) {
-        return refuse(mode, causes::ENOSYS);
-    }
     if !tests::allows_command(a.settings.commands, id) {
         return refuse(mode, causes::EPERM);
     }
@@ -91,9 +88,10 @@ pub fn judge(a: Asked, vcpus: &[u64], id: u16, seq: u32, d: &[u8]) -> Judgement
         (reported_padding a.settings a.mode id d.now) }
 {
     let settings = a.settings;
-    let row = kvmi::table::layout(id);
-    let handler = row.handler;
-    match handler {
+    let Some(row) = kvmi::table::layout(id) else {
+        return unreported(refuse(a.mode, causes::ENOSYS));
+    };
+    match row.handler {
         Handler::GetVersion => {
             if passes(a, id, row, d) {
                 return unreported(Verdict::Does(Change::Nothing));
@@ -213,7 +211,6 @@ pub fn judge(a: Asked, vcpus: &[u64], id: u16, seq: u32, d: &[u8]) -> Judgement
                 return unreported(event_reply::judge_reply(facts_of(a, vcpus, d), seq, d));
             }
         }
-        Handler::Unknown => {}
     }
-    unreported(refused(a, id, handler))
+    unreported(refused(a, id))
 }

@@ -29,7 +29,3 @@ returns-in-Entries c = rw c.in-Entries.is
 pub returns-in-ByEvent : goal.returns-in-ByEvent
 unfolding size_fits
 returns-in-ByEvent c = rw c.in-ByEvent.is
-
-pub returns-in-Unruled : goal.returns-in-Unruled
-unfolding size_fits
-returns-in-Unruled c = rw c.in-Unruled.is

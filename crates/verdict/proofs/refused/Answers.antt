@@ -3,14 +3,10 @@ use Rattle.kvmi.specs.Settings.{allows_command}
 use Rattle.verdict.specs.Handlers.{refusal}
 use Rattle.verdict.proofs.refused.Goals as goal
 
-pub returns-then-not-is_known : goal.returns-then-not-is_known
-unfolding refusal allows_command
-returns-then-not-is_known c = rw (← c.is_known.ensures, c.if-not-is_known.true) c.refuse.ensures
-
 pub returns-then-not-allows_command : goal.returns-then-not-allows_command
 unfolding refusal allows_command
-returns-then-not-allows_command c = rw (← c.is_known.ensures, c.if-not-is_known.false, ← c.allows_command.ensures, c.if-not-allows_command.true) c.refuse-then-not-allows_command.ensures
+returns-then-not-allows_command c = rw (← c.allows_command.ensures, c.if-not-allows_command.true) c.refuse.ensures
 
 pub returns : goal.returns
 unfolding refusal allows_command
-returns c = rw (← c.is_known.ensures, c.if-not-is_known.false, ← c.allows_command.ensures, c.if-not-allows_command.false)
+returns c = rw (← c.allows_command.ensures, c.if-not-allows_command.false)
