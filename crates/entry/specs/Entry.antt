@@ -1,8 +1,9 @@
 -- The entry of a vCPU as code performs it: answer, session, and every lent word and byte after it, for any bits in the session.
 use Rattle.std.specs.Prelude.{ℕ, ◌-◌, ◌≡◌, List, [], Bool, false, cond, not, ◌&&◌, length, leb, ltb, eqb}
+use Rattle.std.specs.Option.{option_map_or}
 use Rattle.kvmi.specs.declared.Signal.TheVariants.{Quiet}
 use Rattle.kvmi.specs.declared.EventSwitch.{EventSwitch}
-use Rattle.kvmi.specs.declared.EventSwitch.TheVariants.{Unoffered, NoEvent, OfVm, OfVcpu, OfCr, OfMsr, OfPage}
+use Rattle.kvmi.specs.declared.EventSwitch.TheVariants.{NoEvent, OfVm, OfVcpu, OfCr, OfMsr, OfPage}
 use Rattle.kvmi.specs.Limits.{event_out, state_bytes}
 use Rattle.kvmi.specs.Bits.{is_on}
 use Rattle.kvmi.specs.Tables.{is_cr, cr_bit}
@@ -28,7 +29,6 @@ unfoldable pub is_guarded : List ℕ → ℕ → List ℕ → Bool
 is_guarded pages used own = ltb (view_named own) 8 && ltb (word_access pages used (key_of (view_named own) (page_named own))) 7
 
 unfoldable pub asked_for_by : Tool → List ℕ → List ℕ → ℕ → ℕ → List ℕ → EventSwitch → Bool
-asked_for_by t w pages vcpu event own Unoffered = false
 asked_for_by t w pages vcpu event own NoEvent = false
 asked_for_by t w pages vcpu event own OfVm = is_on t.events event
 asked_for_by t w pages vcpu event own OfVcpu = is_on (field w vcpu EVENTS) event
@@ -37,7 +37,7 @@ asked_for_by t w pages vcpu event own OfMsr = is_on (field w vcpu EVENTS) event 
 asked_for_by t w pages vcpu event own OfPage = is_on (field w vcpu EVENTS) event && is_guarded pages t.pages own
 
 unfoldable pub is_asked_for_of : Tool → List ℕ → List ℕ → ℕ → ℕ → List ℕ → Bool
-is_asked_for_of t w pages vcpu event own = asked_for_by t w pages vcpu event own (event_row_of event).switch
+is_asked_for_of t w pages vcpu event own = option_map_or (asked_for_by t w pages vcpu event own) (event_row_of event).switch false
 
 -- ---- what goes out: bytes, the vCPU words after it, and the next event's seq
 pub record Sent : Type 0 where

@@ -33,8 +33,7 @@ fn offer_fits(event: u32, own: &[u8]) -> bool
     ensures { result ≡ offer_fits event own.now }
 {
     let row = kvmi::events::row(event as u64);
-    let switch = row.switch;
-    kvmi::events::is_offered(switch) & (own.len() == row.own)
+    kvmi::events::is_offered(row.switch) & (own.len() == row.own)
 }
 
 // Whether a vCPU's switch for a control register is on; what has none is off.
@@ -77,10 +76,11 @@ fn is_on_for(vcpus: &[u64], vcpu: u16, event: u32) -> bool
 fn is_asked_for(tool: Tool, vcpus: &[u64], pages: &[u64], vcpu: u16, event: u32, own: &[u8]) -> bool
     ensures { result ≡ is_asked_for_of tool vcpus.now pages.now vcpu event own.now }
 {
-    let row = kvmi::events::row(event as u64);
-    let switch = row.switch;
+    let Some(switch) = kvmi::events::row(event as u64).switch else {
+        return false;
+    };
     match switch {
-        EventSwitch::Unoffered | EventSwitch::NoEvent => false,
+        EventSwitch::NoEvent => false,
         EventSwitch::OfVm => kvmi::bits::is_on(tool.events, event),
         EventSwitch::OfVcpu => is_on_for(vcpus, vcpu, event),
         EventSwitch::OfCr => {

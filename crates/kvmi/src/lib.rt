@@ -164,9 +164,7 @@ pub struct Layout {
 // bytes name.
 #[derive(Clone, Copy)]
 pub enum EventSwitch {
-    // An entry is not offered it.
-    Unoffered,
-    // No event is offered.
+    // Event 0, an entry without an event: it asks for no switch, and is not sent.
     NoEvent,
     OfVm,
     OfVcpu,
@@ -183,11 +181,11 @@ pub enum ReplyForm {
     Context,
 }
 
-// A row of the table of events: the switch that it asks for, whether its reply may be a retry and what form it has, how many bytes it has of its own
-// behind the state block, and how many data bytes its reply has.
+// A row of the table of events: the switch that it asks for, or None if an entry is not offered it; whether its reply may be a retry and what form it has;
+// how many bytes it has of its own behind the state block, and how many data bytes its reply has.
 #[derive(Clone, Copy)]
 pub struct EventRow {
-    pub switch: EventSwitch,
+    pub switch: Option<EventSwitch>,
     pub form: ReplyForm,
     pub retry: bool,
     pub own: usize,

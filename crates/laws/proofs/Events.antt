@@ -8,6 +8,7 @@ use lib.ListN.{length, get_or, get_or-eq_default}
 use lib.Dec.{leb, ltb, eqb}
 use borrow.Author.Tests.{leb-true, ltb-true, ltb-false, eqb-true, ne_eqb}
 use Rattle.wire.specs.Bytes.{le}
+use Rattle.std.specs.Option.{option_map_or}
 use Rattle.kvmi.specs.declared.EventRow.{EventRow}
 use Rattle.kvmi.specs.Bits.{every}
 use Rattle.kvmi.specs.Tables.{Tables}
@@ -36,7 +37,7 @@ module _ (t : Tables) (vcpu event : ℕ) (own : List ℕ) (h : is_asked_for t vc
   unfolding is_asked_for asks_for event_row_of
   asked-small =
       test (ltb event 15) (λ e. ltb-true event 15 e)
-      (λ e. let z : is_asked_for t vcpu event own ≡ false = ap (λ (r : EventRow). asks_for t vcpu event own r.switch) (get_or-eq_default events unoffered {n = event} (ltb-false event 15 e)) in clash h z)
+      (λ e. let z : is_asked_for t vcpu event own ≡ false = ap (λ (r : EventRow). option_map_or (asks_for t vcpu event own) r.switch false) (get_or-eq_default events unoffered {n = event} (ltb-false event 15 e)) in clash h z)
 
   -- it is not an event that no switch is asked of: none (0), or a pause (2)
   pub asked-other : (k : ℕ) → is_asked_for t vcpu k own ≡ false → eqb event k ≡ false

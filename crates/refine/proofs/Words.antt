@@ -11,10 +11,11 @@ use lib.Seq.{get_or-set_same, get_or-set_other}
 use lib.Dec.{ltb, leb, eqb}
 use borrow.Author.Tests.{ltb-true, ltb-false, lt-ltb, leb-true, eqb-true, eqb-false}
 use Rattle.std.specs.Prelude.{Option, Some, None}
+use Rattle.std.specs.Option.{option_map_or}
 use Rattle.msrs.specs.Place.{msr_place, is_msr}
 use Rattle.kvmi.specs.declared.Settings.{Settings}
 use Rattle.kvmi.specs.declared.EventSwitch.{EventSwitch}
-use Rattle.kvmi.specs.declared.EventSwitch.TheVariants.{Unoffered, NoEvent, OfVm, OfVcpu, OfCr, OfMsr, OfPage}
+use Rattle.kvmi.specs.declared.EventSwitch.TheVariants.{NoEvent, OfVm, OfVcpu, OfCr, OfMsr, OfPage}
 use Rattle.kvmi.specs.Bits.{is_on}
 use Rattle.kvmi.specs.Settings.{in_range}
 use Rattle.kvmi.specs.Tables.{Vcpu, resting, vcpu_at, is_cr, cr_bit, vm_event_on, event_on, cr_on, msr_on, access, page_key}
@@ -186,16 +187,20 @@ module _ (st : State) (g : WordsGood st) where
   pub asked-means : So (rising page_key 0 (tables_of st).pages) → (v event : ℕ) (own : List ℕ)
       → is_asked_for_of st.session.tool w st.pages v event own ≡ is_asked_for (tables_of st) v event own
   unfolding is_asked_for_of asked_for_by cr_bit_on is_asked_for asks_for vm_event_on
-  asked-means up v event own = by (event_row_of event).switch
+  asked-means up v event own = by_row (event_row_of event).switch
     where
       by : (x : EventSwitch) → asked_for_by st.session.tool w st.pages v event own x ≡ asks_for (tables_of st) v event own x
-      by Unoffered = refl
       by NoEvent = refl
       by OfVm = refl
       by OfVcpu = sym (event-means v event)
       by OfCr = rw (event-means v event, cr-means v (cr_named own))
       by OfMsr = rw (event-means v event, msr-means v (msr_named own))
       by OfPage = rw (event-means v event, guard-means up own)
+
+      by_row : (x : Option EventSwitch)
+          → option_map_or (asked_for_by st.session.tool w st.pages v event own) x false ≡ option_map_or (asks_for (tables_of st) v event own) x false
+      by_row None = refl
+      by_row (Some x) = by x
 
   -- what the tests ask is what the model says
   pub facts-mean : (guest v : ℕ) → facts_in st guest v ≡ facts_of (model_of st) guest v
