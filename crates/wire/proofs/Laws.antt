@@ -4,23 +4,23 @@ use mathlib.Core.Logic.{◌⊎◌, inl, inr, ⊎_elim}
 use mathlib.Core.List.{List, [], ◌∷◌, ◌++◌, append_assoc, append-nil}
 use mathlib.Core.Bool.{Bool, true, false, So, and-eq-true_iff}
 use Prim.Native.Nat.{ℕ, zero, suc, ◌+◌, ◌*◌, ◌/◌, ◌%◌, ◌^◌, ◌-◌, ◌≤◌, ◌<◌}
-use native.Mathlib.Nat.{add-zero, zero-add, suc-add, add_assoc, pow-suc, pow-succ', le_of_suc-le-suc, not-suc-le-zero, div-one, div-lt_iff_lt-mul, div-div-eq-div-mul, zero-lt-suc, one-le-pow}
+use native.Mathlib.Nat.{add-zero, zero-add, suc-add, add_assoc, mul_comm, pow-suc, pow-succ', le_of_suc-le-suc, not-suc-le-zero, div-one, div-lt_iff_lt-mul, div-div-eq-div-mul, zero-lt-suc, one-le-pow}
 use native.Mathlib.Numerals.{add-one}
 use native.Mathlib.Omega.{arith}
 use lib.Arith.{digits_div, digits_mod, mod-mul}
 use lib.Dec.{leb, ltb, eqb}
-use lib.ListN.{length, get_or, set, take, drop, length-append, length-take, length-drop, take-append-drop, get_or-eq_default, length-set}
+use lib.ListN.{length, get_or, set, take, drop, length-append, length-take, length-drop, take-append-drop, get_or-eq_default, length-set, length-replicate}
 use lib.Pow.{are_bytes}
 use lib.Seq.{drop_at, drop-cons, drop-drop, take_at, take-append_seam, take-add, drop-append-le, drop-append_seam, append_snoc, set_split, set_out, take-append-le, take-take, paste, paste-zero, paste-suc, take-length}
 use borrow.Rule.Slice.PartMut.{put_mid}
 use mir.Syntax.{Width, w8}
 use mir.Val.{Fits}
 use borrow.Author.Tests.{ltb-true, lt-ltb, le-leb, lt-leb, leb-true, leb-false, eqb-true, eq-eqb, ne_eqb}
-use Rattle.std.specs.Int.{byte_at, byte_len, bytes_low_first, to_le_bytes}
-use Rattle.wire.specs.Bytes.{le, num, load, store}
+use Rattle.std.specs.Int.{byte_at, byte_len, byte_worth, bytes_low_first, sum_through, to_le_bytes, from_le_bytes}
+use Rattle.wire.specs.Bytes.{le, num, load, store, bytes_at}
 use Rattle.wire.specs.Header.{is_whole, whole, header_of}
 use Rattle.wire.specs.declared.Header.{Header}
-use Rattle.std.specs.Prelude.{None}
+use Rattle.std.specs.Prelude.{None, replicate, slice_index}
 
 -- ---- tests
 
@@ -181,16 +181,6 @@ load-join j k s at h =
       drop-drop,
     )
 
--- as the library's `from_le_bytes` adds it up
-pub load_two : (s : List ℕ) (at next : ℕ) → next ≡ at + 1 → at + 2 ≤ length s → load 2 s at ≡ get_or s at 0 + 256 * get_or s next 0
-load_two s at next e h = rw e (omega (arith, load-join 1 1 s at h, load_byte s at, load_byte s (at + 1)))
-
-pub load_four : (s : List ℕ) (at third : ℕ) → third ≡ at + 2 → at + 4 ≤ length s → load 4 s at ≡ load 2 s at + 65536 * load 2 s third
-load_four s at third e h = rw e (load-join 2 2 s at h)
-
-pub load_eight : (s : List ℕ) (at : ℕ) → at + 8 ≤ length s → load 8 s at ≡ load 4 s at + 4294967296 * load 4 s (at + 4)
-load_eight s at h = load-join 4 4 s at h
-
 pub load-bound : (k : ℕ) (s : List ℕ) (at : ℕ) → So (are_bytes s) → load k s at < 256 ^ k
 load-bound k s at b = ⊎_elim
     (λ h. rw (load-whole k s at h) (num-bound k (drop at s) (bytes_drop at s b)))
@@ -232,6 +222,53 @@ load-behind k s t at = sym (load-drop k (length s) (s ++ t) at) ∙ rw drop-appe
 
 pub load-le : (k n : ℕ) (t : List ℕ) → n < 256 ^ k → load k (le k n ++ t) 0 ≡ n
 load-le k n t h = load-whole k (le k n ++ t) 0 (rw (length-append, length-le) (omega arith)) ∙ num-le k n t h
+
+-- ---- the number in bytes that were read
+
+pub bytes-inside : (k : ℕ) (s : List ℕ) (at : ℕ) → at + k ≤ length s → bytes_at k s at ≡ take k (drop at s)
+unfolding bytes_at
+bytes-inside k s at h = rw (le-leb (at + k) (length s) h)
+
+pub bytes-past : (k : ℕ) (s : List ℕ) (at : ℕ) → length s < at + k → bytes_at k s at ≡ replicate k 0
+unfolding bytes_at
+bytes-past k s at h = rw (lt-leb (at + k) (length s) h)
+
+length-bytes : (k : ℕ) (s : List ℕ) (at : ℕ) → length (bytes_at k s at) ≡ k
+length-bytes k s at = ⊎_elim
+    (λ h. rw (bytes-inside k s at h, length-take, length-drop) (omega arith))
+    (λ h. rw (bytes-past k s at h, length-replicate))
+    (le-or-lt (at + k) (length s))
+
+num-zeros : (k n : ℕ) → num k (replicate n 0) ≡ 0
+unfolding num
+num-zeros zero n = refl
+num-zeros (suc k) zero = refl
+num-zeros (suc k) (suc n) = rw (num-zeros k n)
+
+load-zeros : (k n : ℕ) → load k (replicate n 0) 0 ≡ 0
+load-zeros k n = ⊎_elim
+    (λ h. load-whole k (replicate n 0) 0 h ∙ num-zeros k n)
+    (load_past k (replicate n 0) 0)
+    (le-or-lt (0 + k) (length (replicate n 0)))
+
+load-bytes : (k : ℕ) (s : List ℕ) (at : ℕ) → load k (bytes_at k s at) 0 ≡ load k s at
+load-bytes k s at = ⊎_elim
+    (λ h. rw (bytes-inside k s at h) (load_part k at k s 0 (omega arith) h ∙ rw add-zero))
+    (λ h. rw (bytes-past k s at h, load_past k s at h) (load-zeros k k))
+    (le-or-lt (at + k) (length s))
+
+-- the library's `from_le_bytes` adds up the bytes by their worths
+worths-load : (k : ℕ) (s : List ℕ) → suc k ≤ length s → sum_through (λ i. byte_worth i (slice_index s i)) k ≡ load (suc k) s 0
+worths-load zero s h = sym (load_byte s 0)
+worths-load (suc k) s h =
+    let e : slice_index s (suc k) * 256 ^ suc k ≡ 256 ^ suc k * load 1 s (0 + suc k) = rw (load_byte, zero-add) (mul_comm (slice_index s (suc k)) (256 ^ suc k)) in
+    let joined : load (suc (suc k)) s 0 ≡ load (suc k) s 0 + 256 ^ suc k * load 1 s (0 + suc k) = rw add-one at (load-join (suc k) 1 s 0 (omega arith)) in
+    let low = worths-load k s (omega arith) in
+    rw (low, e) (sym joined)
+
+pub from_bytes : (w : Width) (s : List ℕ) (at : ℕ) → from_le_bytes w (bytes_at (byte_len w) s at) ≡ load (byte_len w) s at
+from_bytes w8 s at = worths-load 0 (bytes_at 1 s at) (omega (arith, length-bytes 1 s at)) ∙ load-bytes 1 s at
+from_bytes w s at = worths-load (byte_len w - 1) (bytes_at (byte_len w) s at) (omega (arith, length-bytes (byte_len w) s at)) ∙ load-bytes (byte_len w) s at
 
 -- ---- bytes at a place
 

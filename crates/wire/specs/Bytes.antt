@@ -1,5 +1,5 @@
 -- Numbers as bytes, lowest byte first ("All numbers are little-endian"), and their places in a list of bytes.
-use Rattle.std.specs.Prelude.{ℕ, zero, suc, ◌+◌, ◌*◌, ◌/◌, ◌%◌, List, [], ◌∷◌, ◌++◌, cond, length, take, drop, leb}
+use Rattle.std.specs.Prelude.{ℕ, zero, suc, ◌+◌, ◌*◌, ◌/◌, ◌%◌, List, [], ◌∷◌, ◌++◌, cond, length, take, drop, leb, replicate}
 
 -- the k lowest bytes of n
 unfoldable pub le : ℕ → ℕ → List ℕ
@@ -19,3 +19,7 @@ load k s at = cond (leb (at + k) (length s)) (num k (drop at s)) 0
 -- the list with the bytes v at a place; unchanged where they do not all lie inside
 unfoldable pub store : List ℕ → ℕ → List ℕ → List ℕ
 store s at v = cond (leb (at + length v) (length s)) (take at s ++ v ++ drop (at + length v) s) s
+
+-- the k bytes at a place; zeros where they do not all lie inside
+unfoldable pub bytes_at : ℕ → List ℕ → ℕ → List ℕ
+bytes_at k s at = cond (leb (at + k) (length s)) (take k (drop at s)) (replicate k 0)

@@ -14,7 +14,7 @@ pub returns-then-n-size : goal.returns-then-n-size
 returns-then-n-size c =
     let s = c.args.s.now in
     let g : length s ≡ 8 + load 2 s 2 = omega arith in
-    rw (c.get.ensures, c.get-size.ensures, c.get-then-n-size.ensures) (sym (header-whole s (omega arith) g))
+    rw (c.load.ensures, c.load-size.ensures, c.load-then-n-size.ensures) (sym (header-whole s (omega arith) g))
 
 pub returns-else-n-size : goal.returns-else-n-size
 returns-else-n-size c = sym (header-broken _ (λ h g. c.if-n-size.false (omega arith)))
