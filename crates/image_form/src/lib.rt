@@ -9,7 +9,7 @@ ghost use Rattle.kvmi.specs.Record.{VM, VC, MS, PA};
 ghost use Rattle.kvmi.specs.Image.{vcpu_of_row, page_of_row, is_idle, vm_form, vm_may, may_enable, vc_may, pa_may};
 ghost use Rattle.image_form.specs.Form.{size_of, mark_in, mark_at, row_at, vm_numbers, vc_numbers, ms_numbers, pa_numbers, vc_fits, ms_fits, pa_fits, Answers};
 
-use kvmi::{Settings, bits};
+use kvmi::{Settings, bits, marks};
 use session::Session;
 
 // The kinds of records, in the image's order.
@@ -72,7 +72,7 @@ pub struct PaRecord {
     pub page: u64,
 }
 
-// The kind of a record, if all of it is there. n bytes follow its start.
+// The kind, if a record of it fits into n bytes: those from the record's start to the end of the image.
 fn whole(kind: Kind, n: usize) -> Option<Kind>
     ensures { result ≡ cond (leb (size_of kind) n) (Some kind) None }
 {
@@ -86,11 +86,11 @@ fn mark_in(mark: u16, n: usize) -> Option<Kind>
     ensures { result ≡ mark_in mark n }
 {
     match mark {
-        0x4D56 => whole(Kind::Vm, n),
-        0x4356 => whole(Kind::Vc, n),
-        0x534D => whole(Kind::Ms, n),
-        0x4150 => whole(Kind::Pa, n),
-        0x4E45 => whole(Kind::En, n),
+        marks::VM => whole(Kind::Vm, n),
+        marks::VC => whole(Kind::Vc, n),
+        marks::MS => whole(Kind::Ms, n),
+        marks::PA => whole(Kind::Pa, n),
+        marks::EN => whole(Kind::En, n),
         _ => None,
     }
 }
@@ -282,7 +282,7 @@ impl PaRecord {
         ensures { result ≡ pa_fits pages (pa_numbers self) }
     {
         self.zero == 0
-            && self.view <= 7
+            && self.view < kvmi::VIEWS
             && self.access <= 5
             && self.access != 2
             && self.page < kvmi::PAGES

@@ -14,15 +14,10 @@ ghost use Rattle.image_form.specs.Form.{mark_at, row_at};
 use image_form::{Kind, MsRecord, PaRecord, VcRecord};
 use image_step::Stated;
 use kvmi::{Answer, Settings};
-use page_words::PageWords;
+use page_words::{PAGE, PageWords, VIEW};
 use session::{Done, Session, Shared, Tool};
 use store::words;
 use store::words::VcpuWords;
-
-// A page's word: the view from bit 55 on, the page from bit 3 on, and the access.
-const VIEW: u64 = 1 << 55;
-
-const PAGE: u64 = 1 << 3;
 
 // The kind of the record at an offset, if it loads words. VM and EN load none.
 fn loading_at(l: &[u8], at: usize) -> Option<Kind>
@@ -48,7 +43,9 @@ fn pages_of(kind: Kind) -> usize
 fn word_of(record: PaRecord) -> u64
     ensures { result ≡ word_of record.view record.page record.access }
 {
-    (record.view % 8) as u64 * VIEW + (record.page % kvmi::PAGES) * PAGE + record.access as u64
+    (record.view % kvmi::VIEWS) as u64 * VIEW
+        + (record.page % kvmi::PAGES) * PAGE
+        + record.access as u64
 }
 
 #[tactic(auto, unfolding(crate::specs::Read::vcpu_loaded))]

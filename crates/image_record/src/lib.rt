@@ -10,19 +10,8 @@ ghost use Rattle.kvmi.specs.Image.{vm_record, vc_record, ms_record, pa_record, e
 ghost use Rattle.store.specs.Meaning.{vcpu_of_words};
 ghost use Rattle.page_words.specs.Meaning.{page_of_word};
 
-// The marks of the records, ASCII.
-const VM: u16 = 0x4D56;
-
-const VC: u16 = 0x4356;
-
-const MS: u16 = 0x534D;
-
-const PA: u16 = 0x4150;
-
-const EN: u16 = 0x4E45;
-
-// Views stand in a page word from this number on, 2^55.
-const VIEW: u64 = 36028797018963968;
+use kvmi::marks::{EN, MS, PA, VC, VM};
+use page_words::VIEW;
 
 // The flags of a vCPU: 1 ready, 2 singlestep.
 #[tactic(auto, unfolding(kvmi::specs::Bits::bit))]

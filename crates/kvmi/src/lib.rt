@@ -4,11 +4,15 @@
 pub mod answers;
 pub mod bits;
 pub mod events;
+pub mod marks;
 pub mod mode;
 pub mod table;
 
 // How many pages a view has, 2^52.
 pub const PAGES: u64 = 4503599627370496;
+
+// How many views a session can have.
+pub const VIEWS: u16 = 8;
 
 // What the host allows and has, fixed for a session. Unsigned integers only: a flag is set where it is not 0.
 #[repr(C)]

@@ -1,31 +1,28 @@
 -- On a well-formed session each lookup is the model's; of one that is closed it is asked that it stands for the closed model. Assumes nothing.
 use mathlib.Core.Path.{◌≡◌, refl, sym, ap, ◌∙◌}
-use mathlib.Core.Logic.{◌≢◌}
-use Prim.Native.Nat.{ℕ, zero, suc, ◌+◌, ◌*◌, ◌/◌, ◌%◌, ◌^◌, ◌≤◌, ◌<◌, min}
+use Prim.Native.Nat.{ℕ, zero, suc, ◌≤◌, ◌<◌, min}
 use native.Mathlib.Nat.{not-suc-le-zero, le_of_suc-le-suc}
 use native.Mathlib.Omega.{arith}
 use mathlib.Core.List.{List, [], ◌∷◌, map}
 use mathlib.Core.Option.{none}
-use mathlib.Core.Bool.{Bool, true, false, cond, not, ◌&&◌, So, and-false}
-use lib.ListN.{length, get_or, take, set, replicate, length-take, get_or-map, get_or-eq_default}
-use lib.Seq.{set-get_or, get_or-take, length-take-le}
+use mathlib.Core.Bool.{Bool, true, false, ◌&&◌, So, and-false}
+use lib.ListN.{length, get_or, take, replicate, get_or-eq_default}
+use lib.Seq.{get_or-take, length-take-le}
 use lib.Dec.{ltb, eqb}
-use borrow.Author.Tests.{ltb-true, ltb-false, eqb-true, ne_eqb, not-true}
+use borrow.Author.Tests.{ltb-true, ltb-false}
 use Rattle.msrs.specs.Place.{is_msr}
-use Rattle.kvmi.specs.Bits.{bit, is_on, every, among}
-use Rattle.kvmi.specs.Settings.{in_range, is_set}
-use Rattle.kvmi.specs.Ascending.{rising, has, put}
-use Rattle.kvmi.specs.Tables.{Vcpu, Page, Tables, resting, page_key, is_cr, cr_bit, vcpu_at, vm_event_on, event_on, cr_on, msr_in, msr_on, access_in, access}
+use Rattle.kvmi.specs.Bits.{bit, is_on}
+use Rattle.kvmi.specs.Settings.{is_set}
+use Rattle.kvmi.specs.Ascending.{rising}
+use Rattle.kvmi.specs.Tables.{Vcpu, Tables, resting, page_key, is_cr, cr_bit, vcpu_at, vm_event_on, event_on, cr_on, msr_in, msr_on, access}
 use Rattle.kvmi.specs.Model.{Model, closed_model, awaited_by}
-use Rattle.kvmi.specs.Verdict.{is_access, awaited_event}
-use Rattle.store.specs.Words.{SINGLESTEP, CRS, EVENTS, PAUSES, AWAITED, field, msr_bit_on}
+use Rattle.kvmi.specs.Verdict.{awaited_event}
+use Rattle.store.specs.Words.{SINGLESTEP, CRS, EVENTS, PAUSES, AWAITED, field}
 use Rattle.store.specs.Meaning.{vcpu_of_words}
-use Rattle.page_words.specs.PageWords.{key_of, word_key, place_of, stands_at}
-use Rattle.page_words.specs.Meaning.{page_of_word, pages_of, good_word, PagesGood}
+use Rattle.page_words.specs.Meaning.{page_of_word, pages_of, PagesGood}
 use Rattle.session.specs.State.{State, is_closed}
 use Rattle.session.specs.Meaning.{tables_of, model_of, WordsGood, WellFormed}
-use Rattle.laws.proofs.Bool.{and_l, and_r, test, every-head, every-tail, every-get_d, among-every}
-use Rattle.laws.proofs.Lookup.{access-put, access-none}
+use Rattle.laws.proofs.Bool.{test}
 use Rattle.refine.proofs.Awaited.{event-read}
 use Rattle.refine.proofs.Words.{few-vcpus, field_past, vcpu-means, awaited-means, event-means, cr-means, msr-past, msr-means}
 use Rattle.refine.proofs.Access.{access-means}

@@ -1,5 +1,5 @@
 -- What the lookups give, for any bits in the session and in the lent words. `Looks` says that they are a model's lookups.
-use Rattle.std.specs.Prelude.{ℕ, ◌/◌, ◌%◌, ◌^◌, min, List, [], ◌∷◌, Bool, cond, not, ◌&&◌, length, get_or, ltb, eqb}
+use Rattle.std.specs.Prelude.{ℕ, ◌^◌, min, List, [], ◌∷◌, cond, not, ◌&&◌, get_or, ltb, eqb}
 use Rattle.kvmi.specs.Bits.{bit, is_on}
 use Rattle.kvmi.specs.Settings.{is_set}
 use Rattle.kvmi.specs.Tables.{Page, is_cr, cr_bit}

@@ -6,19 +6,13 @@
 ghost use Rattle.std.specs.Prelude.{◌≡◌};
 ghost use Rattle.lookup.specs.Lookup.{look_open, look_ready, look_vm_event, look_field, look_count, look_access, numbers_of, look_page, look_event, look_cr, look_msr, look_singlestep, look_pauses, look_awaited};
 
-use kvmi::PAGES;
-use page_words::PageWords;
+use kvmi::{PAGES, VIEWS};
+use page_words::{PageWords, VIEW};
 use session::Session;
 use store::words::VcpuWords;
 
-// How many views a session can have.
-const VIEWS: u32 = 8;
-
-// How many words can stand for pages of one view, 2^55.
-const VIEW_WORDS: u64 = 36028797018963968;
-
-// The access of a page that has no record: read, write and execute.
-const RWX: u32 = 7;
+// The access of a page that has no word, as the lookups give it.
+const RWX: u32 = page_words::RWX as u32;
 
 // How many words are lent for a page's numbers: view, page and access.
 pub const PAGE_NUMBERS: usize = 3;
@@ -124,7 +118,7 @@ pub fn page_count(s: Session) -> usize
 pub fn access(s: Session, pages: &PageWords, view: u32, page: u64) -> u32
     ensures { result ≡ look_access s pages.now view page }
 {
-    if VIEWS <= view {
+    if VIEWS as u32 <= view {
         return RWX;
     }
     if PAGES <= page {
@@ -140,7 +134,7 @@ pub fn page_at(s: Session, pages: &PageWords, i: usize, page: &mut PageNumbers) 
 {
     if i < page_count(s) {
         let word = store::words::word(pages, i);
-        *page = [word / VIEW_WORDS, word / 8 % PAGES, word % 8];
+        *page = [word / VIEW, word / 8 % PAGES, word % 8];
         (word % 8) as u32
     } else {
         *page = [0, 0, RWX as u64];

@@ -12,8 +12,13 @@ pub const PAGE_WORDS: usize = 1024;
 
 pub type PageWords = [u64; PAGE_WORDS];
 
+// A page's word is `view * VIEW + page * PAGE + access`.
+pub const VIEW: u64 = 1 << 55;
+
+pub const PAGE: u64 = 1 << 3;
+
 // The access of a page that no word stands for: read, write and execute.
-const RWX: u8 = 7;
+pub const RWX: u8 = 7;
 
 // How many keys a word can have, 2^61.
 const KEYS: u64 = 2305843009213693952;
@@ -223,7 +228,7 @@ pub fn put_entries(
 ) -> Taken
     ensures { page_table words.new result.count result.skipped ≡ run_entries limit view (entries_of n d.now) words.old count }
 {
-    let first = ((view % 8) as u64) * kvmi::PAGES;
+    let first = ((view % kvmi::VIEWS) as u64) * kvmi::PAGES;
     let mut t = Taken {
         count: count.min(words.len()),
         skipped: false,
@@ -261,7 +266,7 @@ pub fn would_skip(
     // An array lent as a slice is known to have its length.
     let lent: &[u64] = words;
     let mut copy = *words;
-    let first = ((view % 8) as u64) * kvmi::PAGES;
+    let first = ((view % kvmi::VIEWS) as u64) * kvmi::PAGES;
     let mut t = Taken {
         count: count.min(lent.len()),
         skipped: false,

@@ -176,6 +176,6 @@ pub fn in_range(settings: Settings) -> bool
     ensures { result ≡ in_range settings }
 {
     (1..=16).contains(&settings.vcpus)
-        && (1..=8).contains(&settings.views)
+        && (1..=kvmi::VIEWS as u32).contains(&settings.views)
         && (1..=2).contains(&settings.revision)
 }
