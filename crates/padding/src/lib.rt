@@ -1,13 +1,17 @@
-// Padding: bytes of a layout that are to be zero. Each function finds the first that is not, as its offset in the message, whose
-// header is 8 bytes long; 0 says that there is none. It is a number and no Option, since `first_padding` and the C result's word `padding` say 0 for none.
-// Clean padding is seen by whole loads, with no loop over bytes. Each layout has a function, since its number is in the promise: as a const parameter it
-// would stand beside constants that it does not give.
+// Padding: bytes of a layout that must be zero. Each function finds the first padding byte that is not, and gives its offset in the message, whose
+// header has 8 bytes; 0 says that there is none.
+// The offset is a number and no Option: 0 for none is what `first_padding` (kvmi's specs) and the word `padding` of the C result say.
+// Eight bytes are loaded at once, so clean padding costs a test and no loop over bytes.
+// Each layout has a function of its own. With the message's number as a const parameter, the offsets and lengths of its padding would still be
+// arguments beside it.
 #![tactic(auto)]
 
 pub mod entries;
 
-ghost use Rattle.std.specs.Prelude.{◌≡◌, ◌+◌, ◌*◌, ◌≤◌, eqb, length};
-ghost use Rattle.kvmi.specs.Message.{first_non_zero, first_of_runs, entry_padding, first_padding};
+ghost use Rattle.std.specs.Prelude.{◌≡◌, ◌+◌, ◌≤◌};
+ghost use Rattle.kvmi.specs.Message.{first_non_zero, first_padding};
+
+use entries::Entries;
 
 // Of the n bytes at a place of a message's data.
 pub fn first_nonzero(d: &[u8], at: usize, n: usize) -> usize
@@ -95,35 +99,6 @@ pub fn of_entry(e: &[u8]) -> usize
     in_word(e, 8, 1, 7)
 }
 
-// Of the entries of VM_SET_PAGE_ACCESS.
-fn of_entries(d: &[u8], count: usize) -> usize
-    requires { 8 + 16 * count ≤ length d.now }
-    ensures { result ≡ first_of_runs d.now (entry_padding 17 count) }
-{
-    for i in 0..count {
-        let a = 8 + 16 * i;
-        let r = of_entry(&d[a..a + 16]);
-        if r != 0 {
-            return a + r;
-        }
-    }
-    0
-}
-
-// Whether every entry's padding is clean. The usual case asks this alone: a loop that keeps no place is a load and two tests for an entry.
-fn entries_clean(d: &[u8], count: usize) -> bool
-    requires { 8 + 16 * count ≤ length d.now }
-    ensures { result ≡ eqb (first_of_runs d.now (entry_padding 17 count)) 0 }
-{
-    for i in 0..count {
-        let a = 8 + 16 * i;
-        if of_entry(&d[a..a + 16]) != 0 {
-            return false;
-        }
-    }
-    true
-}
-
 // Of VM_SET_PAGE_ACCESS. Its entries are looked at only if their count fits the size.
 pub fn of_pages(d: &[u8]) -> usize
     ensures { result ≡ first_padding 13 d.now }
@@ -132,12 +107,11 @@ pub fn of_pages(d: &[u8]) -> usize
     if head != 0 {
         return head;
     }
-    if !entries::count_fits(d) {
+    let Some(entries) = Entries::of(d) else {
+        return 0;
+    };
+    if entries.are_clean() {
         return 0;
     }
-    let count = wire::load::<u16>(d, 0) as usize;
-    if entries_clean(d, count) {
-        return 0;
-    }
-    of_entries(d, count)
+    entries.first_padding()
 }

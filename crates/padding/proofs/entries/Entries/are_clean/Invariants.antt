@@ -2,7 +2,7 @@
 use mathlib.Core.Path.{◌≡◌}
 use Rattle.kvmi.specs.Message.{first_of_runs, entry_padding}
 use Rattle.padding.proofs.Parts.{padding_from}
-use Rattle.padding.proofs.entries_clean.Given as goal
+use Rattle.padding.proofs.entries.Entries.are_clean.Given as goal
 
 abbrev pub invariant-loop-i : goal.invariant-loop-i
-invariant-loop-i l = padding_from l.d l.count l.i ≡ first_of_runs l.d (entry_padding 17 l.count)
+invariant-loop-i l = padding_from l.self.bytes.now l.self.count l.i ≡ first_of_runs l.self.bytes.now (entry_padding 17 l.self.count)

@@ -4,10 +4,10 @@ use mathlib.Core.Bool.{true, false}
 use native.Mathlib.Omega.{arith}
 use Rattle.kvmi.specs.Verdict.{takes_access}
 use Rattle.padding.proofs.Parts.{accesses-start, access-fits, access-unfit, accesses-end}
-use Rattle.padding.proofs.entries.accesses_fit.Goals as goal
+use Rattle.padding.proofs.entries.Entries.accesses_fit.Goals as goal
 
 pub loop-i-init : goal.loop-i-init
-loop-i-init c = accesses-start c.args.settings c.args.d.now c.args.count
+loop-i-init c = accesses-start c.args.settings c.args.self.bytes.now c.args.self.count
 
 pub returns-then-not-takes_access : goal.returns-then-not-takes_access
 returns-then-not-takes_access c =
