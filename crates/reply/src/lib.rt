@@ -2,7 +2,8 @@
 // What is written starts at the front of the output. Where it does not fit nothing is written, and the count is that of all of it.
 #![tactic(auto)]
 
-ghost use Rattle.std.specs.Prelude.{◌≡◌, [], ◌++◌, ◌+◌, ◌≤◌, length};
+ghost use Rattle.std.specs.Prelude.{◌≡◌, ℕ, List, [], ◌++◌, ◌+◌, ◌≤◌, length};
+ghost use Rattle.std.specs.Fn.{FnOnceReturnsAtMut};
 ghost use Rattle.wire.specs.Bytes.{le, store};
 ghost use Rattle.kvmi.specs.Codes.{is_error};
 ghost use Rattle.kvmi.specs.Model.{next_seq};
@@ -29,8 +30,8 @@ enum Contents {
     Memory { from: usize, count: usize },
 }
 
-// How many bytes an answer has, and whether it is a CMD_ERROR event, which takes a seq. The mark stands beside the count and not in its place: every answer
-// has a count, 0 too.
+// How many bytes an answer has, and whether it is a CMD_ERROR event, which takes a seq. Both are fields, and no enum: the count is needed whether or
+// not a seq was taken.
 #[derive(Clone, Copy)]
 pub struct Answered {
     pub count: usize,
@@ -253,31 +254,36 @@ fn answer_off(out: &mut [u8], a: Answering) -> Answered
     }
 }
 
-// What is written in answer to a command, a code alone.
-pub fn answer_code(out: &mut [u8], a: Answering) -> Answered
-    ensures { AnswerWritten out.old out.new result (answer_bytes (mode_of_number a.mode) a.next a.id a.seq a.code []) (tells (mode_of_number a.mode) a.code) }
+// What is written in answer to a command: its reply, which `put` writes, or while replies are off what tells an error.
+fn answer_by<F: FnOnce(&mut [u8]) -> usize>(out: &mut [u8], a: Answering, put: F) -> Answered
+    requires { F.IsAlwaysCallable put }
+    ensures { (d : List ℕ) → (FnOnceReturnsAtMut F.FnOnce put out.old result.count out.new → Written out.old out.new result.count (reply_bytes a.id a.seq a.code d))
+        → AnswerWritten out.old out.new result (answer_bytes (mode_of_number a.mode) a.next a.id a.seq a.code d) (tells (mode_of_number a.mode) a.code) }
 {
     if a.mode != 0 {
         return answer_off(out, a);
     }
     Answered {
-        count: put_code(out, a.id, a.seq, a.code),
+        count: put(out),
         took_seq: false,
     }
 }
 
-// The same with the data of the command's reply.
+// The answer to a command whose reply is a code alone.
+pub fn answer_code(out: &mut [u8], a: Answering) -> Answered
+    ensures { AnswerWritten out.old out.new result (answer_bytes (mode_of_number a.mode) a.next a.id a.seq a.code []) (tells (mode_of_number a.mode) a.code) }
+{
+    answer_by(out, a, |out| put_code(out, a.id, a.seq, a.code))
+}
+
+// The answer to a command whose reply has data.
 fn answer_data(out: &mut [u8], settings: Settings, guest: &[u8], a: Answering, d: &[u8]) -> Answered
     ensures { AnswerWritten out.old out.new result
         (answer_bytes (mode_of_number a.mode) a.next a.id a.seq a.code (reply_data settings guest.now a.id d.now)) (tells (mode_of_number a.mode) a.code) }
 {
-    if a.mode != 0 {
-        return answer_off(out, a);
-    }
-    Answered {
-        count: put_reply(out, settings, guest, a.id, a.seq, a.code, d),
-        took_seq: false,
-    }
+    answer_by(out, a, |out| {
+        put_reply(out, settings, guest, a.id, a.seq, a.code, d)
+    })
 }
 
 // What is written in answer to a message, by the kind of its reply.

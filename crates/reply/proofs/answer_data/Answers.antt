@@ -1,14 +1,6 @@
--- Replies off, or on. Assumes nothing.
-use mathlib.Core.Path.{refl}
-use mir.Syntax.{w32}
-use mir.Val.{SFits}
-use mir.Facts.{to_z-of_z}
-use borrow.Author.Rules.{rules}
-use Rattle.reply.proofs.Off.{off-as, on-as}
+-- The reply is what `put_reply` writes. Assumes nothing.
+use Rattle.std.proofs.Common.{rules}
 use Rattle.reply.proofs.answer_data.Goals as goal
 
-pub returns-then-a-ne0 : goal.returns-then-a-ne0
-returns-then-a-ne0 c = off-as _ _ _ _ _ _ c.if-a-ne0.true c.answer_off.ensures
-
 pub returns : goal.returns
-returns c = let f : SFits w32 c.args.a.code = search rules in on-as _ _ _ _ _ _ c.if-a-ne0.false (rw (to_z-of_z f) at c.put_reply.ensures) refl
+returns c = c.answer_by.ensures _ (λ called. search rules)
