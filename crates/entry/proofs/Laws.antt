@@ -1,9 +1,9 @@
 -- What goes out of an entry. Assumes nothing.
 use mathlib.Core.Path.{◌≡◌, refl, sym, ap, ◌∙◌}
-use mathlib.Core.List.{List, [], ◌++◌}
+use mathlib.Core.List.{List, []}
 use Prim.Native.Nat.{ℕ, ◌+◌, ◌-◌, ◌*◌, ◌/◌, ◌%◌, ◌^◌, ◌<◌}
 use native.Mathlib.Omega.{arith}
-use lib.ListN.{length, replicate}
+use lib.ListN.{length}
 use borrow.Author.Tests.{lt-leb, le-leb, eq-eqb}
 use Rattle.wire.specs.Bytes.{le, store}
 use Rattle.wire.proofs.Laws.{store-none}
@@ -11,7 +11,7 @@ use Rattle.kvmi.specs.declared.Answer.{Answer}
 use Rattle.kvmi.specs.declared.Signal.TheVariants.{Quiet}
 use Rattle.kvmi.specs.Answer.{paper, handled}
 use Rattle.kvmi.specs.Model.{next_seq}
-use Rattle.kvmi.specs.Reply.{message_bytes, event_bytes, pause_event}
+use Rattle.kvmi.specs.Reply.{event_bytes, pause_event}
 use Rattle.store.specs.Words.{field, set_field, PAUSES, AWAITED}
 use Rattle.page_words.specs.PageWords.{key_of}
 use Rattle.entry.specs.declared.HandedOut.{HandedOut}

@@ -9,7 +9,7 @@ ghost use Rattle.session.specs.State.{state};
 ghost use Rattle.session.specs.Calls.{told};
 ghost use Rattle.entry.specs.Entry.{is_guarded, is_asked_for_of, cr_bit_on, awaiting_words, fault_words, Went, sending_of, dequeuing_of, sent_of, entered_of, enter_of};
 
-use kvmi::{Answer, EventSwitch, Fault};
+use kvmi::{Answer, EventSwitch, Fault, VIEWS};
 use page_words::PageWords;
 use session::{Done, Session, Tool};
 use store::words::VcpuWords;
@@ -21,11 +21,16 @@ struct HandedOut {
     next: u32,
 }
 
+// An event that a vCPU is offered at its entry: its number (0: none) and its own bytes, which are few.
+#[derive(Clone, Copy)]
+struct Offer<'a> {
+    event: u32,
+    own: &'a [u8],
+    ghost few: { length own.now ≤ 65535 },
+}
+
 // The least output that an entry is given: the bytes of a CR, an MSR or a page fault event.
 pub const EVENT_OUT: usize = 576;
-
-// How many views a session can have.
-const VIEWS: u16 = 8;
 
 // Whether an event's number is one that can be offered, and its own bytes are as many as it has.
 #[tactic(auto, unfolding(kvmi::specs::Event::offer_fits))]
@@ -73,9 +78,11 @@ fn is_on_for(vcpus: &[u64], vcpu: u16, event: u32) -> bool
 
 // Whether the tool asked for an event: what its row names is on among the VM's switches or the vCPU's, and a page that it names is guarded.
 #[tactic(auto, unfolding(crate::specs::Entry::is_asked_for_of, crate::specs::Entry::asked_for_by))]
-fn is_asked_for(tool: Tool, vcpus: &[u64], pages: &[u64], vcpu: u16, event: u32, own: &[u8]) -> bool
-    ensures { result ≡ is_asked_for_of tool vcpus.now pages.now vcpu event own.now }
+fn is_asked_for(tool: Tool, vcpus: &[u64], pages: &[u64], vcpu: u16, offer: Offer<'_>) -> bool
+    ensures { result ≡ is_asked_for_of tool vcpus.now pages.now vcpu offer.entry.event offer.entry.own.now }
 {
+    let event = offer.event;
+    let own = offer.own;
     let Some(switch) = kvmi::events::row(event as u64).switch else {
         return false;
     };
@@ -108,10 +115,11 @@ fn await_reply(vcpus: &mut [u64], vcpu: u16, event: u32, seq: u32)
 
 // Of a page fault its addresses and access are kept until its reply comes.
 #[tactic(auto, unfolding(crate::specs::Entry::fault_words, kvmi::specs::Feed::kept_of))]
-fn keep_fault(vcpus: &mut [u64], vcpu: u16, event: u32, own: &[u8])
-    ensures { vcpus.new ≡ fault_words vcpus.old vcpu event own.now }
+fn keep_fault(vcpus: &mut [u64], vcpu: u16, offer: Offer<'_>)
+    ensures { vcpus.new ≡ fault_words vcpus.old vcpu offer.entry.event offer.entry.own.now }
 {
-    if event as u64 == kvmi::events::PF {
+    let own = offer.own;
+    if offer.event as u64 == kvmi::events::PF {
         let fault = Fault {
             gva: wire::load(own, 0),
             gpa: wire::load(own, 8),
@@ -127,19 +135,18 @@ fn send(
     vcpu: u16,
     seq: u32,
     block: &[u8],
-    event: u32,
-    own: &[u8],
+    offer: Offer<'_>,
     out: &mut [u8],
 ) -> HandedOut
-    requires { length own.now ≤ 65535 }
-    ensures { Went vcpus.new out.old out.new result (sending_of vcpus.old vcpu seq block.now event own.now) }
+    ensures { Went vcpus.new out.old out.new result (sending_of vcpus.old vcpu seq block.now offer.entry.event offer.entry.own.now) }
 {
     // numbers that are offered are below 15
-    reply::event(out, seq, vcpu as u32, (event % 256) as u8, block, own);
-    await_reply(vcpus, vcpu, event, seq);
-    keep_fault(vcpus, vcpu, event, own);
+    let event = (offer.event % 256) as u8;
+    reply::event(out, seq, vcpu as u32, event, block, offer.own);
+    await_reply(vcpus, vcpu, offer.event, seq);
+    keep_fault(vcpus, vcpu, offer);
     HandedOut {
-        count: block.len() + own.len() + 16,
+        count: block.len() + offer.own.len() + 16,
         next: reply::next_seq(seq),
     }
 }
@@ -172,17 +179,15 @@ fn hand_out(
     pages: &[u64],
     vcpu: u16,
     block: &[u8],
-    event: u32,
-    own: &[u8],
+    offer: Offer<'_>,
     out: &mut [u8],
 ) -> HandedOut
-    requires { length own.now ≤ 65535 }
-    ensures { Went vcpus.new out.old out.new result (sent_of (state s vcpus.old pages.now) vcpu block.now event own.now) }
+    ensures { Went vcpus.new out.old out.new result (sent_of (state s vcpus.old pages.now) vcpu block.now offer.entry.event offer.entry.own.now) }
 {
     let seq = s.tool.seq;
     let tool = s.tool;
-    if is_asked_for(tool, vcpus, pages, vcpu, event, own) {
-        send(vcpus, vcpu, seq, block, event, own, out)
+    if is_asked_for(tool, vcpus, pages, vcpu, offer) {
+        send(vcpus, vcpu, seq, block, offer, out)
     } else {
         dequeue(vcpus, vcpu, seq, block, out)
     }
@@ -196,18 +201,16 @@ fn enter_open(
     pages: &[u64],
     vcpu: u16,
     block: &[u8],
-    event: u32,
-    own: &[u8],
+    offer: Offer<'_>,
     out: &mut [u8],
 ) -> Done
-    requires { length own.now ≤ 65535 }
-    ensures { told result vcpus.new pages.now out.new [] ≡ entered_of (state s vcpus.old pages.now) vcpu block.now event own.now out.old }
+    ensures { told result vcpus.new pages.now out.new [] ≡ entered_of (state s vcpus.old pages.now) vcpu block.now offer.entry.event offer.entry.own.now out.old }
 {
     let awaited = store::words::read_field(vcpus, vcpu, store::words::AWAITED);
     if awaited != 0 {
         return s.answers(Answer::Waiting);
     }
-    let went = hand_out(s, vcpus, pages, vcpu, block, event, own, out);
+    let went = hand_out(s, vcpus, pages, vcpu, block, offer, out);
     s.with_seq(went.next)
         .answers(kvmi::answers::wrote(went.count))
 }
@@ -239,5 +242,6 @@ pub fn enter(
     if out.len() < EVENT_OUT {
         return s.answers(Answer::ShortOut);
     }
-    enter_open(s, vcpus, pages, vcpu, block, event, own, out)
+    let offer = Offer { event, own };
+    enter_open(s, vcpus, pages, vcpu, block, offer, out)
 }

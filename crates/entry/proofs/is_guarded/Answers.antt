@@ -1,6 +1,5 @@
 -- The key of the page at an address. Assumes nothing.
 use mathlib.Core.Path.{◌≡◌}
-use Prim.Native.Nat.{ℕ}
 use native.Mathlib.Omega.{arith}
 use borrow.Author.Tests.{lt-ltb}
 use Rattle.wire.specs.Bytes.{load}
