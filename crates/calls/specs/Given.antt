@@ -1,6 +1,7 @@
 -- What an exported call gives: document 01's number of its answer, the session after it, every lent word and byte, and the answer's values as words.
-use Rattle.std.specs.Prelude.{ℕ, min, List, [], ◌∷◌, ◌++◌, cond, length}
+use Rattle.std.specs.Prelude.{ℕ, min, List, [], ◌∷◌, ◌++◌, cond, length, set}
 use Rattle.kvmi.specs.declared.Feed.{Feed}
+use Rattle.kvmi.specs.declared.Resumption.{Resumption}
 use Rattle.kvmi.specs.declared.Source.{Source}
 use Rattle.kvmi.specs.declared.Source.TheVariants.{Unfed, Message, Guest, Missing}
 use Rattle.kvmi.specs.declared.Signal.{Signal}
@@ -70,6 +71,12 @@ signal_feed Quiet = unfed
 signal_feed (Kick wait vcpu) = unfed
 signal_feed (Crash vcpu) = unfed
 signal_feed (Resume r) = shown_feed r.feed
+
+-- words with what a resume has at 5 to 9; no bytes are named of a page that is missing
+abbrev pub resumed : List ℕ → Resumption → List ℕ
+resumed words r =
+    let going = set (set words 5 r.action) 6 r.value in
+    cond (is_missing r.feed.source) going (set (set (set going 7 (source_number r.feed.source)) 8 r.feed.at) 9 r.feed.length)
 
 -- how many words are lent for an answer's values
 abbrev pub result_word_count : ℕ

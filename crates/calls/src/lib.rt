@@ -9,9 +9,9 @@ ghost use Rattle.session.specs.Calls.{told};
 ghost use Rattle.session.specs.State.{state};
 ghost use Rattle.message.specs.Moves.{message_move, session_after};
 ghost use Rattle.vcpu_list.specs.List.{one, one_ready, one_cr};
-ghost use Rattle.calls.specs.Given.{result_words, given, fresh_given, ready_given, message_given, enter_given, size_given, write_given, read_given, one_given};
+ghost use Rattle.calls.specs.Given.{resumed, result_words, given, fresh_given, ready_given, message_given, enter_given, size_given, write_given, read_given, one_given};
 
-use kvmi::{Answer, Signal, Source};
+use kvmi::{Answer, Resumption, Signal, Source};
 use message::After;
 use page_words::PageWords;
 use session::Session;
@@ -39,6 +39,21 @@ pub struct Received {
 
 // ---- an answer as numbers
 
+// How a vCPU goes on, into words 5 to 9, which are the same in the result of a call and of a batch. Words 7 to 9 stay as they are where the bytes are those
+// of a page that is missing.
+pub fn put_resumption(res: &mut ResultWords, resumption: Resumption)
+    ensures { res.new ≡ resumed res.old resumption }
+{
+    let feed = resumption.feed;
+    res[5] = resumption.action as u64;
+    res[6] = resumption.value;
+    if !matches!(feed.source, Source::Missing) {
+        res[7] = feed.source as u64;
+        res[8] = feed.at;
+        res[9] = feed.length as u64;
+    }
+}
+
 // An answer's values, into the words lent for them; its number is given back. The numbers are written here, as in `stream::answer_number`: by a call of
 // that function a small command takes 8 instructions more, and an entry 50.
 fn put_result(res: &mut ResultWords, a: Answer) -> u32
@@ -62,17 +77,12 @@ fn put_result(res: &mut ResultWords, a: Answer) -> u32
                     res[3] = vcpu as u64;
                 }
                 Signal::Resume(resumption) => {
-                    let feed = resumption.feed;
                     res[2] = 3;
                     res[3] = resumption.vcpu as u64;
-                    res[5] = resumption.action as u64;
-                    res[6] = resumption.value;
-                    if matches!(feed.source, Source::Missing) {
+                    put_resumption(res, resumption);
+                    if matches!(resumption.feed.source, Source::Missing) {
                         return 12;
                     }
-                    res[7] = feed.source as u64;
-                    res[8] = feed.at;
-                    res[9] = feed.length as u64;
                 }
             }
             0

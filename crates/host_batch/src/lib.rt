@@ -7,7 +7,7 @@ ghost use Rattle.std.specs.Prelude.{◌≡◌};
 ghost use Rattle.batch_given.specs.Given.{batch_words, batch_given};
 
 use calls::{RESULT_WORDS, ResultWords, Returned};
-use kvmi::{Resumption, Source};
+use kvmi::Resumption;
 use page_words::PageWords;
 use session::Session;
 use store::words::VcpuWords;
@@ -30,16 +30,9 @@ fn put_batch(
     res[1] = count as u64;
     res[2] = listed as u64;
     if let Some(resumption) = resume {
-        let feed = resumption.feed;
         res[3] = RESUME;
         res[4] = resumption.vcpu as u64;
-        res[5] = resumption.action as u64;
-        res[6] = resumption.value;
-        if !matches!(feed.source, Source::Missing) {
-            res[7] = feed.source as u64;
-            res[8] = feed.at;
-            res[9] = feed.length as u64;
-        }
+        calls::put_resumption(res, resumption);
     }
 }
 
