@@ -5,13 +5,14 @@
 // beginning all of it. They are the raw calls: the header has calls over a struct of session and tables beside them, by these.
 #![tactic(auto)]
 
-ghost use Rattle.std.specs.Prelude.{◌≡◌};
+ghost use Rattle.std.specs.Prelude.{◌≡◌, ◌<◌, ◌≤◌, length, set, slice_index_or};
+ghost use Rattle.calls.specs.declared.ListReturned.{ListReturned};
 ghost use Rattle.calls.specs.Given.{fresh_given, ready_given, message_given, enter_given, size_given, write_given, read_given};
 ghost use Rattle.lookup.specs.Lookup.{look_open, look_ready, look_vm_event, look_count, look_access, numbers_of, look_page, look_event, look_cr, look_msr, look_singlestep, look_pauses, look_awaited};
-ghost use Rattle.vcpu_list.specs.List.{marked_ready, cr_set};
+ghost use Rattle.vcpu_list.specs.List.{blank, marked_ready, cr_set};
 ghost use Rattle.kvmi.specs.Settings.{is_set};
 
-use calls::ResultWords;
+use calls::{ListReturned, ResultWords};
 use lookup::PageNumbers;
 use message::After;
 use page_words::PageWords;
@@ -265,32 +266,38 @@ pub extern "C" fn semblurick_raw_page_at(
 
 // ---- vCPU records that a host keeps in a list of its own
 
+// Record i as `change` leaves it, and the number of its answer; 4 where there is no such record. `vcpu_list` has one like it, by an `Answer`: this one is
+// passed calls, whose answer is a number.
+#[tactic(auto, using(std::proofs::lemmas::List::get_or_default))]
+fn at_record<F: FnOnce(Vcpu) -> ListReturned>(vcpus: &mut [Vcpu], i: usize, change: F) -> u32
+    requires { F.IsAlwaysCallable change }
+    ensures inside { i < length vcpus.old → (c : ListReturned) × F.post change (slice_index_or vcpus.old i blank) c × (result ≡ c.code) × (vcpus.new ≡ set vcpus.old i c.vcpu) }
+    ensures outside { length vcpus.old ≤ i → (result ≡ 4) × (vcpus.new ≡ vcpus.old) }
+{
+    if i < vcpus.len() {
+        let vcpu = &mut vcpus[i];
+        let changed = change(*vcpu);
+        *vcpu = changed.vcpu;
+        changed.code
+    } else {
+        4
+    }
+}
+
 // Record i can be introspected from now on.
+#[tactic(auto, unfolding(vcpu_list::specs::List::marked_ready, vcpu_list::specs::List::on_record))]
 #[unsafe(no_mangle)]
 pub extern "C" fn semblurick_list_ready(vcpus: &mut [Vcpu], i: usize) -> u32
     ensures { (result ≡ (marked_ready vcpus.old i).answer.number) × (vcpus.new ≡ (marked_ready vcpus.old i).vcpus) }
 {
-    if i < vcpus.len() {
-        let p = &mut vcpus[i];
-        let c = calls::list_ready(*p);
-        *p = c.vcpu;
-        return c.code;
-    } else {
-        return 4;
-    }
+    at_record(vcpus, i, calls::list_ready)
 }
 
 // One CR switch of record i: on where `on` is not 0.
+#[tactic(auto, unfolding(vcpu_list::specs::List::cr_set, vcpu_list::specs::List::on_record))]
 #[unsafe(no_mangle)]
 pub extern "C" fn semblurick_list_cr(vcpus: &mut [Vcpu], i: usize, cr: u32, on: u32) -> u32
     ensures { (result ≡ (cr_set vcpus.old i cr (is_set on)).answer.number) × (vcpus.new ≡ (cr_set vcpus.old i cr (is_set on)).vcpus) }
 {
-    if i < vcpus.len() {
-        let p = &mut vcpus[i];
-        let c = calls::list_cr(*p, cr, on);
-        *p = c.vcpu;
-        return c.code;
-    } else {
-        return 4;
-    }
+    at_record(vcpus, i, |v| calls::list_cr(v, cr, on))
 }
