@@ -2,7 +2,7 @@
 // told on standard error.
 #![tactic(auto)]
 
-ghost use Rattle.std.specs.Prelude.{IfSome, OnSome, OnOk, take};
+ghost use Rattle.std.specs.Prelude.{◌≤◌, IfSome, OnSome, OnOk, length, take};
 ghost use Rattle.std.specs.Str.{IsUtf8};
 ghost use Rattle.std.specs.Io.KnownBytes.{Appends, Consumes};
 ghost use Rattle.files.specs.Counts.{IsPrefixLen};
@@ -71,6 +71,7 @@ pub fn read_full<R: Read>(from: &mut R, buf: &mut [u8]) -> usize
     ensures counts { IsPrefixLen result buf.new }
     ensures bytes { Consumes (R.remaining from.old) (R.remaining from.new) (take result buf.new) }
 {
+    // by a count and no slice that shrinks: the count is what is answered
     let mut done = 0;
     while done < buf.len() {
         match from.read(&mut buf[done..]) {
@@ -91,7 +92,7 @@ pub fn write_all<W: Write>(to: &mut W, buf: &[u8]) -> io::Result<()>
 // Opens the file that has a name, reads it into `room` as far as that goes, and hands on the name and what was read. A file that can't be opened is
 // told of, and left out.
 fn run_file<F: Fn(&[u8], &[u8])>(rt: &HostRuntime, name: &[u8], room: &mut [u8], run: &F)
-    requires { F.IsAlwaysCallable run.now }
+    requires { (named : _) (read : _) → IsUtf8 named.now → length read.now ≤ length room.old → F.pre run.now named read }
 {
     if let Some(mut file) = open(rt, name) {
         let n = read_full(&mut file, room);
@@ -102,8 +103,10 @@ fn run_file<F: Fn(&[u8], &[u8])>(rt: &HostRuntime, name: &[u8], room: &mut [u8],
 
 // Runs over the files that the program's arguments name, in their order: each is read into `room` as far as that goes, and its name and what was read
 // are handed on. One that can't be opened is told of, and left out.
+// The `requires` is a promise to `run`: a name that it is given is text, and it is given no more bytes than the room has. There is no `ensures`: no clause
+// can say what the arguments and the files are, nor what `run` prints.
 pub fn run_files<F: Fn(&[u8], &[u8])>(rt: &HostRuntime, room: &mut [u8], run: F)
-    requires { F.IsAlwaysCallable run }
+    requires { (named : _) (read : _) → IsUtf8 named.now → length read.now ≤ length room.old → F.pre run named read }
 {
     for i in 1..usize::MAX {
         let mut name = [0u8; 4096];
