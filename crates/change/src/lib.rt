@@ -31,7 +31,8 @@ pub enum Moved {
 }
 
 // What a change gives: what kind of reply answers it, what it moves of the tool, the code of the reply (0 or the error that it met, a number, since it
-// is what the reply's code field says), the number of the mode by which it is answered, and what the host is to do.
+// is what the reply's code field says), the number of the mode by which it is answered, and what the host is to do. The mode is a number as
+// in the session, which C lends (`mode` of semblurick_session).
 #[derive(Clone, Copy)]
 pub struct Effect {
     pub kind: ReplyKind,

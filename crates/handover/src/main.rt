@@ -257,7 +257,7 @@ fn run_script(rt: &HostRuntime, script: &[u8]) {
     }
 }
 
-// Prints a file's name, and runs the script that was read from it.
+// Prints a file's name and then runs its script, of which `script` has all that fits into the room.
 fn run_named(rt: &HostRuntime, name: &[u8], script: &[u8]) {
     let _ = files::write_all(&mut rt.stdout(), name);
     let _ = files::write_all(&mut rt.stdout(), b"\n");

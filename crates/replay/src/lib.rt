@@ -15,7 +15,8 @@ use session::Session;
 use store::words::{VCPU_WORDS, VcpuWords};
 use stream::{Cut, End, Line};
 
-// What a message leaves: the session for the next one, the facts of its line, and whether it closed the session.
+// What a message leaves: the session for the next one, the facts of its line, and whether it closed the session. The mark is a field of its own, and the
+// session no Option: a session that closed is handed on too, and `passed_of` promises it.
 #[derive(Clone, Copy)]
 pub struct Passed {
     pub session: Session,

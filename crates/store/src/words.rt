@@ -43,8 +43,8 @@ pub fn word(words: &[u64], at: usize) -> u64
     words.get(at).copied().unwrap_or(0)
 }
 
-// A word stored at a place; past the end nothing changes. By a test and an index: after a write through `get_mut` the check does not find
-// what the whole slice holds.
+// Stores a word at an index; past the end nothing changes. It is written with a test and an index, since the check doesn't find what the whole slice
+// holds after a write through `get_mut`.
 fn set_word(words: &mut [u64], at: usize, x: u64)
     ensures { words.new ≡ slice_set words.old at x }
 {
@@ -73,7 +73,7 @@ fn awaited_from(event: u64, seq: u64, fault: Fault) -> Option<Awaited>
     (event != 0).then_some(Awaited { event, seq, fault })
 }
 
-// What is pending of a vCPU. One test finds that all of it is there; the second form alone would test each of the six fields.
+// What is pending of a vCPU. One test covers all six fields when the vCPU's words are there. Otherwise each field is read with a test of its own.
 #[tactic(auto, unfolding(crate::specs::Words::field))]
 pub fn read_pending(words: &[u64], vcpu: u16) -> Pending
     ensures { result ≡ pending words.now vcpu }

@@ -21,7 +21,8 @@ pub enum Cut {
 }
 
 // What is told of a message: its id and seq, each where all of it is there, the host answer's number, how many bytes were written, and the error
-// in them, where there are any.
+// in them, where there are any. The answer is its number, which is what the line prints; `line_of` takes it from any answer on paper (`Paper`), and not
+// every one of those is an `Answer`.
 #[derive(Clone, Copy)]
 pub struct Line {
     pub id: Option<u32>,

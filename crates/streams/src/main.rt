@@ -51,7 +51,7 @@ fn serve(rt: &HostRuntime, all: &[u8]) {
     }
 }
 
-// Prints a file's name, and runs the stream that was read from it.
+// Prints a file's name and then runs its stream. A stream that fills the room may have been cut, so it is rejected, and its name is not printed.
 fn run_named(rt: &HostRuntime, name: &[u8], all: &[u8]) {
     if all.len() == ROOM {
         let _ = rt.eprintln("stream too long");

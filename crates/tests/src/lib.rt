@@ -11,7 +11,7 @@ ghost use Rattle.kvmi.specs.Feed.{page_exists};
 
 use kvmi::{ReplyKind, ReplyMode, Settings, SizeRule};
 
-// ---- numbers; sets of them by `|`: a `matches!` of numbers is proved by answers to goals whose names may change
+// ---- numbers; sets of them by `|`: as patterns of `matches!` a small command takes 4 instructions more, and a message 13 one more an entry
 
 // Whether a flag of the settings is set.
 pub fn is_set(flag: u8) -> bool
