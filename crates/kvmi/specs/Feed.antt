@@ -14,7 +14,7 @@ abbrev pub PF : ℕ
 PF = 10
 
 -- ---- a fault's own bytes: gva u64, gpa u64, access u8, padding, view u16, padding
--- of any other event nothing is kept
+-- the awaited record keeps a `Fault` of them; of any other event nothing is kept
 abbrev pub no_fault : Fault
 no_fault = record { gva = 0; gpa = 0; access = 0 }
 

@@ -8,7 +8,7 @@ use Rattle.kvmi.specs.declared.Awaited.{Awaited}
 use Rattle.kvmi.specs.Tables.{Vcpu, Tables, empty_tables, vcpu_at, set_vcpu}
 use Rattle.kvmi.specs.declared.Fault.{Fault}
 
--- one with its seq
+-- an event that was sent and whose reply has not come
 abbrev pub awaiting : ℕ → ℕ → Fault → Awaited
 awaiting event seq fault = record { event = event; seq = seq; fault = fault }
 
