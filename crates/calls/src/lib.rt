@@ -121,7 +121,7 @@ fn finish(done: session::Done, res: &mut ResultWords) -> Returned
 pub fn vcpu_number(vcpu: u32) -> u16
     ensures { result ≡ min vcpu 65535 }
 {
-    if vcpu < 65535 { vcpu as u16 } else { 65535 }
+    vcpu.min(65535) as u16
 }
 
 // ---- the calls

@@ -78,13 +78,6 @@ fn quiet(mode: u32) -> Effect
     still(ReplyKind::CodeOnly, mode, Signal::Quiet)
 }
 
-// The data behind its first bytes; where it has fewer, none.
-fn behind(d: &[u8], first: usize) -> &[u8]
-    ensures { result.now ≡ drop first d.now }
-{
-    d.get(first..).unwrap_or(&[])
-}
-
 // VM_WRITE_PHYSICAL: the bytes after the 16 that name the place, where all of them lie inside.
 fn write_guest(guest: &mut [u8], gpa: u64, d: &[u8])
     ensures { guest.new ≡ store guest.old gpa (drop 16 d.now) }
@@ -101,7 +94,7 @@ fn set_pages(tool: Tool, pages: &mut [u64], view: u16, count: u16, d: &[u8]) -> 
     ensures { pages_effect result pages.new ≡ pages_set tool pages.old view count d.now }
 {
     let used = tool.pages as usize;
-    let entries = behind(d, 8);
+    let entries = wire::behind(d, 8);
     let taken = page_words::put_entries(pages, used, Session::PAGE_LIMIT, view, count, entries);
     Effect {
         moved: Moved::Pages(taken.count as u64),
@@ -142,7 +135,7 @@ fn would_skip(pages: &PageWords, used: u64, view: u16, count: u16, d: &[u8]) -> 
         Session::PAGE_LIMIT,
         view,
         count,
-        behind(d, 8),
+        wire::behind(d, 8),
     )
 }
 

@@ -8,7 +8,7 @@ ghost use Rattle.feed.specs.Fed.{fed_bytes};
 use kvmi::{Feed, Source};
 
 // An address that is not known: all ones.
-const UNKNOWN: u64 = 18446744073709551615;
+const UNKNOWN: u64 = u64::MAX;
 
 // The most bytes that a reply supplies.
 const CONTEXT_BYTES: u32 = 256;

@@ -146,18 +146,11 @@ fn may_enable(s: Settings, event: u32) -> bool
     bits::is_on(s.events as u64, event) && !held_by_host
 }
 
-// The bytes from an offset on; past the end, none.
-fn behind(l: &[u8], at: usize) -> &[u8]
-    ensures { result.now ≡ drop at l.now }
-{
-    l.get(at..).unwrap_or(&[])
-}
-
 impl VmRecord {
     pub fn read(l: &[u8], at: usize) -> VmRecord
         ensures { vm_numbers result ≡ row_at VM l.now at }
     {
-        let record = behind(l, at);
+        let record = wire::behind(l, at);
         VmRecord {
             version: wire::load(record, 2),
             vcpus: wire::load(record, 4),
@@ -185,7 +178,7 @@ impl VcRecord {
     pub fn read(l: &[u8], at: usize) -> VcRecord
         ensures { vc_numbers result ≡ row_at VC l.now at }
     {
-        let record = behind(l, at);
+        let record = wire::behind(l, at);
         VcRecord {
             vcpu: wire::load(record, 2),
             flags: wire::byte(record, 4),
@@ -246,7 +239,7 @@ impl MsRecord {
     pub fn read(l: &[u8], at: usize) -> MsRecord
         ensures { ms_numbers result ≡ row_at MS l.now at }
     {
-        let record = behind(l, at);
+        let record = wire::behind(l, at);
         MsRecord {
             vcpu: wire::load(record, 2),
             msr: wire::load(record, 4),
@@ -267,7 +260,7 @@ impl PaRecord {
     pub fn read(l: &[u8], at: usize) -> PaRecord
         ensures { pa_numbers result ≡ row_at PA l.now at }
     {
-        let record = behind(l, at);
+        let record = wire::behind(l, at);
         PaRecord {
             view: wire::load(record, 2),
             access: wire::byte(record, 4),

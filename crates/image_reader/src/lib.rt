@@ -126,16 +126,6 @@ fn opened(settings: Settings, stated: Stated) -> Session
     }
 }
 
-// Closed, with the answer that says why.
-fn refused(settings: Settings, answer: Answer) -> Done
-    ensures { (result.answer ≡ answer) × (result.session ≡ closed_session settings) }
-{
-    Done {
-        answer,
-        session: Session::shut(settings),
-    }
-}
-
 // A session begins as an image states, on whatever words are lent. Settings out of range and an image that is not accepted
 // are refused: no word changes, and the session that is handed back is closed.
 pub fn read_image(
@@ -147,18 +137,15 @@ pub fn read_image(
     ensures { told result vcpus.new pages.new [] [] ≡ read_of settings l.now vcpus.old pages.old }
 {
     if !session::in_range(settings) {
-        return refused(settings, Answer::BadSettings);
+        return Session::shut(settings).answers(Answer::BadSettings);
     }
     match image_test::test(settings, l) {
-        Err(refusal) => refused(settings, Answer::from(refusal)),
+        Err(refusal) => Session::shut(settings).answers(Answer::from(refusal)),
         Ok(stated) => {
             words::clear(vcpus);
             words::clear(pages);
             load(l, vcpus, pages);
-            Done {
-                answer: kvmi::answers::done(),
-                session: opened(settings, stated),
-            }
+            opened(settings, stated).answers(kvmi::answers::done())
         }
     }
 }

@@ -58,6 +58,5 @@ fn put_image(s: Session, vcpus: &[u64], pages: &[u64], out: &mut [u8]) -> Answer
 pub fn write_image(s: Session, vcpus: &[u64], pages: &[u64], out: &mut [u8]) -> Done
     ensures { told result vcpus.now pages.now out.new [] ≡ image_of (state s vcpus.now pages.now) out.old }
 {
-    let answer = put_image(s, vcpus, pages, out);
-    Done { session: s, answer }
+    s.answers(put_image(s, vcpus, pages, out))
 }

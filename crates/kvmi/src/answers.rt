@@ -46,10 +46,11 @@ fn quiet() -> Values
 pub fn failed(count: usize, padding: usize) -> Answer
     ensures { paper result ≡ with_padding padding (handled count Quiet) }
 {
-    let mut values = quiet();
-    values.count = count;
-    values.padding = padding;
-    Answer::Handled(values)
+    Answer::Handled(Values {
+        count,
+        padding,
+        ..quiet()
+    })
 }
 
 // The values of an answer; one that has none of its own wrote nothing, signals nothing and reports nothing.

@@ -9,7 +9,7 @@ pub mod mode;
 pub mod table;
 
 // How many pages a view has, 2^52.
-pub const PAGES: u64 = 4503599627370496;
+pub const PAGES: u64 = 1 << 52;
 
 // How many views a session can have.
 pub const VIEWS: u16 = 8;

@@ -69,7 +69,7 @@ fn record(ready: u64, crs: u64, pauses: u64) -> Vcpu {
         events: 2072,
         pauses,
         awaited: 2,
-        awaited_seq: 4294967295,
+        awaited_seq: u32::MAX,
     }
 }
 

@@ -21,10 +21,10 @@ pub const PAGE: u64 = 1 << 3;
 pub const RWX: u8 = 7;
 
 // How many keys a word can have, 2^61.
-const KEYS: u64 = 2305843009213693952;
+const KEYS: u64 = 1 << 61;
 
 // The top bit of a word.
-const TOP: u64 = 9223372036854775808;
+const TOP: u64 = 1 << 63;
 
 // How many words are in use after entries were taken, and whether one was skipped for want of room. The words themselves are lent beside it:
 // `put_entries` promises their count as a plain value, and a struct that borrowed them could not be handed back.
@@ -131,7 +131,7 @@ fn change_word(words: &mut [u64], t: Taken, at: usize, wanted: Wanted) -> Taken
         remove(words, t.count, at);
         Taken {
             count: t.count - 1,
-            skipped: t.skipped,
+            ..t
         }
     } else {
         words[at] = wanted.word();
@@ -151,13 +151,10 @@ fn add_word(words: &mut [u64], t: Taken, limit: usize, at: usize, wanted: Wanted
         insert(words, t.count, at, wanted.word());
         Taken {
             count: t.count + 1,
-            skipped: t.skipped,
+            ..t
         }
     } else {
-        Taken {
-            count: t.count,
-            skipped: true,
-        }
+        Taken { skipped: true, ..t }
     }
 }
 

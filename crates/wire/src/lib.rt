@@ -3,7 +3,7 @@
 // not all inside changes nothing.
 #![tactic(auto)]
 
-ghost use Rattle.std.specs.Prelude.{◌≡◌, ℕ, ◌+◌, ◌≤◌, refl, min, leb, length, get_or, replicate};
+ghost use Rattle.std.specs.Prelude.{◌≡◌, ℕ, ◌+◌, ◌≤◌, refl, min, leb, length, drop, get_or, replicate};
 ghost use Rattle.wire.specs.Bytes.{le, load, store, bytes_at};
 ghost use Rattle.wire.specs.Header.{header_of};
 ghost use Rattle.wire.specs.Code.{negated, twos, code_bytes};
@@ -35,6 +35,13 @@ pub fn byte(s: &[u8], at: usize) -> u8
     ensures { result ≡ get_or s.now at 0 }
 {
     s.get(at).copied().unwrap_or(0)
+}
+
+// The bytes from an offset on; past the end, none.
+pub fn behind(s: &[u8], at: usize) -> &[u8]
+    ensures { result.now ≡ drop at s.now }
+{
+    s.get(at..).unwrap_or(&[])
 }
 
 // The K bytes at a place, or zeros where they do not all lie inside.

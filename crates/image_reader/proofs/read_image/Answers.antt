@@ -7,15 +7,16 @@ use Rattle.image_reader.proofs.read_image.Goals as goal
 
 pub returns-then-not-in_range : goal.returns-then-not-in_range
 unfolding read_of
-returns-then-not-in_range c = simp (sym c.in_range.ensures ∙ c.if-not-in_range.true, c.refused.ensures.0, c.refused.ensures.1)
+returns-then-not-in_range c = simp (sym c.in_range.ensures ∙ c.if-not-in_range.true, c.answers.ensures.0, c.answers.ensures.1, c.shut.ensures)
 
 pub returns-in-Err : goal.returns-in-Err
 unfolding read_of
 returns-in-Err c =
     simp (
       sym c.in_range.ensures ∙ c.if-not-in_range.false,
-      c.refused-in-Err.ensures.0,
-      c.refused-in-Err.ensures.1,
+      c.answers-in-Err.ensures.0,
+      c.answers-in-Err.ensures.1,
+      c.shut-in-Err.ensures,
       c.from.ensures,
     ) (told-refusal c.args.settings _ _ (load_image c.args.settings c.args.l.now) c.in-Err.refusal (sym c.test.ensures ∙ c.in-Err.is))
 
@@ -24,6 +25,8 @@ unfolding read_of
 returns-in-Ok c =
     simp (
       sym c.in_range.ensures ∙ c.if-not-in_range.false,
+      c.answers-in-Ok.ensures.0,
+      c.answers-in-Ok.ensures.1,
       c.done.ensures,
       c.opened.ensures,
     ) (told-accepted c.args.settings _ _ (load_image c.args.settings c.args.l.now) c.in-Ok.stated _ _ (sym c.test.ensures ∙ c.in-Ok.is) (λ u e.
