@@ -15,14 +15,14 @@ use page_words::PageWords;
 use session::{Done, Session};
 use store::words::VcpuWords;
 
-// A kick's number in the list of signals: this, twice the vCPU, and 1 more with wait.
+// A kick's number in the list of signals, which C lends: this, twice the vCPU, and 1 more with wait.
 const KICK: u32 = 256;
 
 // A crash's: this and the vCPU.
 const CRASH: u32 = 512;
 
 // How far a batch is, or where it ended: the answer's number, how many bytes of the input are used, bytes of the output written and signals listed,
-// the session after the messages that were taken, and the resume that ended it, if one did. The numbers stand first: behind the other two the compiler
+// the session after the messages that were taken, and the resume that ended it, if one did. The answer is a number, since 11 is no `Answer`. The numbers stand first: behind the other two the compiler
 // keeps fewer of them in registers, and a message of a batch takes ten instructions more.
 #[derive(Clone, Copy)]
 pub struct Batched {
@@ -111,7 +111,7 @@ fn resume_of(start: usize, signal: Signal) -> Option<Resumption>
 }
 
 // Whether there is a next message, and room for whatever it writes and signals. The tests stand one by one and in this order: as a chain of `&&` a message of
-// a batch takes 14 instructions more, and in other orders 2 to 12.
+// a batch takes 162 instructions and not 145 (150 are its bound), and in the five other orders that were counted 150 to 161.
 #[tactic(auto, using(std::proofs::lemmas::Bool::Decides::nat_tests), unfolding(kvmi::specs::Batch::goes_on))]
 fn goes_on(b: Batched, input: &[u8], out: &[u8], signals: &[u32]) -> bool
     requires { b.count ≤ length out.now }

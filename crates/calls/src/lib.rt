@@ -23,7 +23,7 @@ pub const RESULT_WORDS: usize = 12;
 
 pub type ResultWords = [u64; RESULT_WORDS];
 
-// What a call gives: the answer's number, and the session after it.
+// What a call gives: the answer's number, which is what the exported function returns, and the session after it.
 #[derive(Clone, Copy)]
 pub struct Returned {
     pub code: u32,

@@ -216,7 +216,7 @@ fn enter_open(
 }
 
 // A vCPU enters the guest, with its register block. It is offered an event by its number (0: none), with the event's own bytes. The
-// reply to what goes out is awaited.
+// reply to what goes out is awaited. The number is no Option: `enter_of` takes it as C passes it.
 #[tactic(auto, unfolding(crate::specs::Entry::enter_of))]
 pub fn enter(
     s: Session,

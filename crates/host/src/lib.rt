@@ -73,6 +73,7 @@ pub extern "C" fn semblurick_raw_message(
     let d = calls::message(*s, vcpus, pages, msg, out, guest, res);
     if !matches!(d.after, After::Same) {
         let after = message::session_after(*s, d.after);
+        // number by number: a store of the whole struct would write the four bytes behind the seq too, which are the host's
         s.tool.events = after.tool.events;
         s.tool.pages = after.tool.pages;
         s.tool.opened = after.tool.opened;

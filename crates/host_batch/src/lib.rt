@@ -12,7 +12,7 @@ use page_words::PageWords;
 use session::Session;
 use store::words::VcpuWords;
 
-// The number of a resume among the signals.
+// The number of a resume among the signals, as the header has it.
 const RESUME: u64 = 3;
 
 // A batch's values, into the words lent for them.
@@ -87,6 +87,7 @@ pub extern "C" fn semblurick_raw_batch(
         × (res.new ≡ (batch_given s.old vcpus.old pages.old input.now out.old signals.old guest.old).result) }
 {
     let d = take(*s, vcpus, pages, input, out, signals, guest, res);
+    // number by number: a store of the whole struct would write the four bytes behind the seq too, which are the host's
     s.tool.events = d.session.tool.events;
     s.tool.pages = d.session.tool.pages;
     s.tool.opened = d.session.tool.opened;

@@ -14,7 +14,7 @@ fn row(size: SizeRule, reply: ReplyKind, handler: Handler) -> Option<Layout>
     })
 }
 
-// The row of a message with `bytes` data bytes that an error code alone answers.
+// The row of a message with `bytes` data bytes that an error code alone answers. This and `asking` are two names, since the table below reads by them.
 fn plain(bytes: u16, handler: Handler) -> Option<Layout>
     ensures { result ≡ row (SizeRule.Exactly bytes) ReplyKind.CodeOnly handler }
 {

@@ -70,8 +70,9 @@ fn is_below(word: u64, key: u64) -> usize
     }
 }
 
-// Where a key stands among the first `count` words, or belongs. By hand and not by the library's binary search: which half is left is
-// computed and not branched on, since the processor's guess at it would be wrong half of the time.
+// Where a key stands among the first `count` words, or belongs. By hand and not by the library's binary search, which promises an index only for words in
+// order: `place_of` gives one for any words. Which half is left is computed and not branched on, since the processor's guess at it would be wrong half of the
+// time.
 #[tactic(auto, using(crate::proofs::PageLaws::turn_inside))]
 pub fn place(words: &[u64], count: usize, key: u64) -> usize
     ensures { result ≡ place_of words.now (min count (length words.now)) key }

@@ -1,5 +1,6 @@
 // Test 6 for each command on the VM: its causes of error, and its change. Every function takes any data. Those whose message has padding are handed what
-// the padding test found: the message offset of the first byte that is not zero, or 0.
+// the padding test found: the message offset of the first byte that is not zero, or 0. Each command has a function of its own, also where two differ
+// little: its message's number is in its promise, and one function for two of them would be handed each test that they do not share.
 #![tactic(auto)]
 
 ghost use Rattle.std.specs.Prelude.{◌≡◌};
