@@ -69,7 +69,7 @@ fn record(ready: u64, crs: u64, pauses: u64) -> Vcpu {
         events: 2072,
         pauses,
         awaited: 2,
-        awaited_seq: u32::MAX,
+        awaited_seq: u64::from(u32::MAX),
     }
 }
 
