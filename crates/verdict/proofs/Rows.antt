@@ -109,11 +109,15 @@ unfolding command_judgement command_verdict
 judged-by s f id d e h = rw (e, h)
 
 -- ---- an id without a row, and the arms of a `match` on the handler of a message's row
-pub unlisted : (a : Asked) (v : List ℕ) (id seq : ℕ) (d : List ℕ) → None ≡ layout_of id → judgement (refuse a.mode ENOSYS) 0 ≡ by_tests a v id seq d
+pub unlisted : (a : Asked) (v : List ℕ) (id seq : ℕ) (d : List ℕ) {o : Option Layout} → o ≡ None → o ≡ layout_of id
+    → judgement (refuse a.mode ENOSYS) 0 ≡ by_tests a v id seq d
 unfolding by_row
-unlisted a v id seq d e = by_row_lem a v None id seq d e
+unlisted a v id seq d is e = by_row_lem a v None id seq d (sym is ∙ e)
 
-module _ (a : Asked) (id : ℕ) (row : Layout) (d : List ℕ) {b : Bool} (its : Some row ≡ layout_of id) (p : b ≡ passes_row a row id d) where
+module _ (a : Asked) (id : ℕ) (row : Layout) (d : List ℕ) {o : Option Layout} {b : Bool} (is : o ≡ Some row) (e : o ≡ layout_of id) (p : b ≡ passes_row a row id d) where
+  its : Some row ≡ layout_of id
+  its = sym is ∙ e
+
   -- data of the fixed size that a message's row says is its own part of that length
   pub part : (h : Handler) (n : ℕ) {k : ReplyKind} {g : Handler} → layout_of (id_of h) ≡ message_row (Exactly n) k g → row.handler ≡ h → b ≡ true
       → (n ≡ length (take n d)) × (take n d ≡ d)

@@ -2,8 +2,7 @@
 // one change; and which padding byte was not zero. `judge` asks the table of messages once, and goes by its row.
 #![tactic(auto)]
 
-ghost use Rattle.std.specs.Prelude.{◌≡◌, Some};
-ghost use Rattle.kvmi.specs.Message.{layout_of};
+ghost use Rattle.std.specs.Prelude.{◌≡◌};
 ghost use Rattle.kvmi.specs.Verdict.{refuse, verdict, judgement, reported_padding};
 ghost use Rattle.verdict.specs.Handlers.{facts_for, passes_row, refusal};
 
@@ -65,7 +64,9 @@ fn unreported(verdict: Verdict) -> Judgement
     }
 }
 
-// What tests 5 and 6 ask, for the vCPU that a message names.
+// What tests 5 and 6 ask, for the vCPU that a message names. It is put into each arm of `judge`, so that the arm reads what it asks for alone: behind the test
+// for an id without a row the compiler takes the arms for seldom, and would call it, which costs a small command 20 instructions.
+#[inline(always)]
 fn facts_of(a: Asked, vcpus: &[u64], d: &[u8]) -> Facts
     ensures { result ≡ facts_for a vcpus.now d.now }
 {
@@ -79,17 +80,19 @@ fn facts_of(a: Asked, vcpus: &[u64], d: &[u8]) -> Facts
     }
 }
 
-// Tests 2 to 6 of a message that has a row, in their order. The `match` comes first and the tests of the row stand in its arms, so that the compiler makes one
-// jump of the table and the `match`, and each arm knows its row and reads those facts alone that it asks for. (As guards of the arms they cost a small command
+// Tests 2 to 6, in their order. The `match` comes first and the tests of the row stand in its arms, so that the compiler makes one jump of
+// the table and the `match`, and each arm knows its row and reads those facts alone that it asks for. (As guards of the arms they cost a small command
 // up to 43 instructions more.) Data of a fixed size goes on as a
 // part of that length, so that no load tests the length again. The padding test is made here, but for VCPU_PAUSE and EVENT_REPLY,
 // and what it finds goes to the command and into the answer.
-fn judge_row(a: Asked, vcpus: &[u64], id: u16, row: Layout, seq: u32, d: &[u8]) -> Judgement
-    requires { Some row ≡ layout_of id }
+pub fn judge(a: Asked, vcpus: &[u64], id: u16, seq: u32, d: &[u8]) -> Judgement
     ensures { result ≡ judgement (verdict a.settings (facts_for a vcpus.now d.now) id seq d.now)
         (reported_padding a.settings a.mode id d.now) }
 {
     let settings = a.settings;
+    let Some(row) = kvmi::table::layout(id) else {
+        return unreported(refuse(a.mode, causes::ENOSYS));
+    };
     match row.handler {
         Handler::GetVersion => {
             if passes(a, id, row, d) {
@@ -212,16 +215,4 @@ fn judge_row(a: Asked, vcpus: &[u64], id: u16, row: Layout, seq: u32, d: &[u8]) 
         }
     }
     unreported(refused(a, id))
-}
-
-// Tests 2 to 6. An id without a row is answered before the `match` of `judge_row`, in a function of its own: with the test above the `match` the compiler takes
-// its arms for seldom, and calls there what it else puts in, which costs each message 16 instructions.
-pub fn judge(a: Asked, vcpus: &[u64], id: u16, seq: u32, d: &[u8]) -> Judgement
-    ensures { result ≡ judgement (verdict a.settings (facts_for a vcpus.now d.now) id seq d.now)
-        (reported_padding a.settings a.mode id d.now) }
-{
-    match kvmi::table::layout(id) {
-        Some(row) => judge_row(a, vcpus, id, row, seq, d),
-        None => unreported(refuse(a.mode, causes::ENOSYS)),
-    }
 }

@@ -71,7 +71,8 @@ pub fn read_physical(settings: Settings, facts: Facts, d: &[u8]) -> Verdict
     c.decide(Change::Nothing)
 }
 
-// VM_WRITE_PHYSICAL.
+// VM_WRITE_PHYSICAL. It is put into `judge`, as the others are by themselves.
+#[inline(always)]
 pub fn write_physical(settings: Settings, facts: Facts, d: &[u8]) -> Verdict
     ensures { result ≡ command_verdict settings facts 7 d.now }
 {
