@@ -46,11 +46,10 @@ fn quiet() -> Values
 pub fn failed(count: usize, padding: usize) -> Answer
     ensures { paper result ≡ with_padding padding (handled count Quiet) }
 {
-    Answer::Handled(Values {
-        count,
-        padding,
-        ..quiet()
-    })
+    let mut values = quiet();
+    values.count = count;
+    values.padding = padding;
+    Answer::Handled(values)
 }
 
 // The values of an answer; one that has none of its own wrote nothing, signals nothing and reports nothing.

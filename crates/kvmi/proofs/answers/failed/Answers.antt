@@ -2,4 +2,4 @@
 use Rattle.kvmi.proofs.answers.failed.Goals as goal
 
 pub returns : goal.returns
-returns c = rw c.quiet.ensures.1
+returns c = rw c.quiet-values.ensures.1
