@@ -8,11 +8,11 @@ ghost use Rattle.kvmi.specs.Verdict.{is_awaited, reply_fits, feed_by, event_repl
 
 use kvmi::{Awaited, Change, EventRow, Facts, Fault, Feed, ReplyForm, Verdict};
 
-// Whether a reply is the one to an awaited event.
+// Whether a reply is the one to an awaited event; 0 is none.
 fn is_awaited(awaited: Awaited, seq: u32, event: u8) -> bool
     ensures { result ≡ is_awaited awaited seq event }
 {
-    awaited.seq == seq as u64 && awaited.event == event as u64
+    awaited.event != 0 && awaited.seq == seq as u64 && awaited.event == event as u64
 }
 
 // Whether a reply has the size of the awaited event's, and an action that it takes.

@@ -388,6 +388,9 @@ module _ (event : ℕ) (known : So (among event replied)) where
   reply-form : (d : List ℕ) → form_fits (event_row_of event).form d ≡ cond (eqb event 10) (context_fits d) true
   reply-form d = (by_form (event_row_of event).form form-right no_fault 0 d).2
 
+  some-event : event ≢ 0
+  some-event = eqb-false event 0 (not-true _ (among-every (λ k. not (eqb k 0)) event replied refl known))
+
   reply-long : leb 16 (reply_length event) ≡ true
   reply-long = pick (λ (n : ℕ). leb 16 n ≡ true) (eqb event 10) 288 _ (λ _. refl) (λ _. pick (λ (n : ℕ). leb 16 n ≡ true) (has_value event) 24 16 (λ _. refl) (λ _. refl))
 
@@ -423,6 +426,7 @@ reply-does s m guest vcpu event seq fault msg waits known q =
       q.size,
       reply-long event known,
       eq-eqb (first_padding 16 d) 0 q.padding,
+      ne_eqb event 0 (some-event event known),
       eq-eqb seq seq refl,
       eq-eqb event (replied_event d) (sym q.of),
       reply-length event known,

@@ -152,7 +152,7 @@ command_verdict s f id d = command_verdict_by (first_padding id d) s f id d
 -- W1: "Replies carry 24 data bytes for CR and MSR [..], and 16 otherwise", "Retry is taken for BREAKPOINT and DESCRIPTOR only", "a wrong reply closes"; W5: "288
 -- data bytes", "context size above 256 or rep flag above 1 closes"
 unfoldable pub is_awaited : Awaited → ℕ → ℕ → Bool
-is_awaited a seq event = eqb a.seq seq && eqb a.event event
+is_awaited a seq event = not (eqb a.event 0) && eqb a.seq seq && eqb a.event event
 
 -- its size, its action and what it has behind its first 16 bytes are as the awaited event's row says
 unfoldable pub reply_fits : EventRow → List ℕ → Bool
