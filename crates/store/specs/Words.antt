@@ -63,6 +63,10 @@ awaited_from event seq fault = cond (eqb event 0) None (Some (record { event = e
 abbrev pub fault_in : List ℕ → ℕ → Fault
 fault_in w vcpu = record { gva = field w vcpu FAULT_GVA; gpa = field w vcpu FAULT_GPA; access = field w vcpu FAULT_ACCESS }
 
+-- the words of an awaited event, one that is awaited or not
+abbrev pub awaited_words : List ℕ → ℕ → Awaited
+awaited_words w vcpu = record { event = field w vcpu AWAITED; seq = field w vcpu AWAITED_SEQ; fault = fault_in w vcpu }
+
 -- what is pending of a vCPU
 abbrev pub pending : List ℕ → ℕ → Pending
 pending w vcpu =

@@ -1,6 +1,6 @@
 // The vCPU words: a block for each vCPU, plain fields first and then a bit for each MSR switch.
 ghost use Rattle.std.specs.Prelude.{◌≡◌, set, slice_index, slice_set};
-ghost use Rattle.store.specs.Words.{field, set_field, pending, msr_bit_on, set_msr_bit, queued_pause, switched_field, switched_cr, set_fault, ended_wait, cleared, awaited_from};
+ghost use Rattle.store.specs.Words.{field, set_field, pending, msr_bit_on, set_msr_bit, queued_pause, switched_field, switched_cr, set_fault, ended_wait, cleared, awaited_from, awaited_words};
 
 use crate::bits::{put_bit, put_cr};
 use kvmi::{Awaited, Fault, Pending};
@@ -73,10 +73,12 @@ fn awaited_from(event: u64, seq: u64, fault: Fault) -> Option<Awaited>
     (event != 0).then_some(Awaited { event, seq, fault })
 }
 
-// What is pending of a vCPU. One test covers all six fields when the vCPU's words are there. Otherwise each field is read with a test of its own.
+// A vCPU's pauses, and the words of its awaited event. One test covers all six fields when the vCPU's words are there. Otherwise each field is read with
+// a test of its own.
 #[tactic(auto, unfolding(crate::specs::Words::field))]
-pub fn read_pending(words: &[u64], vcpu: u16) -> Pending
-    ensures { result ≡ pending words.now vcpu }
+fn read_standing(words: &[u64], vcpu: u16) -> (u64, Awaited)
+    ensures pauses { result.0 ≡ field words.now vcpu PAUSES }
+    ensures awaited { result.1 ≡ awaited_words words.now vcpu }
 {
     let at = (vcpu as usize) * BLOCK_WORDS;
     if at + FAULT_ACCESS < words.len() {
@@ -85,21 +87,42 @@ pub fn read_pending(words: &[u64], vcpu: u16) -> Pending
             gpa: words[at + FAULT_GPA],
             access: words[at + FAULT_ACCESS],
         };
-        return Pending {
-            pauses: words[at + PAUSES],
-            awaited: awaited_from(words[at + AWAITED], words[at + AWAITED_SEQ], fault),
+        let awaited = Awaited {
+            event: words[at + AWAITED],
+            seq: words[at + AWAITED_SEQ],
+            fault,
         };
+        return (words[at + PAUSES], awaited);
     }
     let fault = Fault {
         gva: read_field(words, vcpu, FAULT_GVA),
         gpa: read_field(words, vcpu, FAULT_GPA),
         access: read_field(words, vcpu, FAULT_ACCESS),
     };
-    let event = read_field(words, vcpu, AWAITED);
-    let seq = read_field(words, vcpu, AWAITED_SEQ);
+    let awaited = Awaited {
+        event: read_field(words, vcpu, AWAITED),
+        seq: read_field(words, vcpu, AWAITED_SEQ),
+        fault,
+    };
+    (read_field(words, vcpu, PAUSES), awaited)
+}
+
+// The words of a vCPU's awaited event. They are read as they stand where none is awaited, too: its number is 0 then.
+pub fn read_awaited(words: &[u64], vcpu: u16) -> Awaited
+    ensures { result ≡ awaited_words words.now vcpu }
+{
+    let (_, awaited) = read_standing(words, vcpu);
+    awaited
+}
+
+// What is pending of a vCPU.
+pub fn read_pending(words: &[u64], vcpu: u16) -> Pending
+    ensures { result ≡ pending words.now vcpu }
+{
+    let (pauses, awaited) = read_standing(words, vcpu);
     Pending {
-        pauses: read_field(words, vcpu, PAUSES),
-        awaited: awaited_from(event, seq, fault),
+        pauses,
+        awaited: awaited_from(awaited.event, awaited.seq, awaited.fault),
     }
 }
 
