@@ -56,6 +56,7 @@ use Rattle.change.specs.Change.{change}
 use Rattle.message.specs.Message.{facts_in, answering_of, reporting_of, judged_of, headed_of, message_of}
 use Rattle.batch.specs.Batch.{message_takes}
 use Rattle.feed.specs.Fed.{part_of, address_in, size_in, fed_bytes}
+use Rattle.calls.specs.Given.{source_number}
 use Rattle.laws.proofs.Feeds.{in-from, in-to, reply-inside}
 use Rattle.laws.proofs.Verdicts.{pick, verdict-cases}
 use Rattle.refine.specs.Errors.{HasId}
@@ -63,8 +64,53 @@ use Rattle.laws.proofs.Bool.{and_l, and_r, test, clash, every-head, every-tail}
 use Rattle.refine.proofs.Simulate.{both}
 use Rattle.history.specs.History.{step_of, after_of, BeganOn}
 use Rattle.history.specs.Events.{switches_on, signalled, Replies}
-use Rattle.history.specs.Faults.{Names, feed_of_signal, feed_of_resume, without_feed, Lies, Lacked, ButFeed, Faults}
+use Rattle.history.specs.Faults.{Part, Names, feed_of_signal, feed_of_resume, without_feed, Lies, Lacked, ButFeed, Faults}
 use Rattle.history.proofs.Events.{says_of, reply-verdict, events}
+
+-- ---- the source, by the number that a host is told
+is-1 : (s : Source) → source_number s ≡ 1 → s ≡ Message
+is-1 Unfed h = absurd (omega arith)
+is-1 Message h = refl
+is-1 Guest h = absurd (omega arith)
+is-1 Missing h = absurd (omega arith)
+
+is-2 : (s : Source) → source_number s ≡ 2 → s ≡ Guest
+is-2 Unfed h = absurd (omega arith)
+is-2 Message h = absurd (omega arith)
+is-2 Guest h = refl
+is-2 Missing h = absurd (omega arith)
+
+is-3 : (s : Source) → source_number s ≡ 3 → s ≡ Missing
+is-3 Unfed h = absurd (omega arith)
+is-3 Message h = absurd (omega arith)
+is-3 Guest h = absurd (omega arith)
+is-3 Missing h = refl
+
+few_sources : (s : Source) → source_number s ≤ 3
+few_sources Unfed = omega arith
+few_sources Message = omega arith
+few_sources Guest = omega arith
+few_sources Missing = omega arith
+
+not_0 : (s : Source) → (0 < source_number s) ↔ (s ≢ Unfed)
+not_0 Unfed = (λ h. absurd (omega arith), λ h. absurd (h refl))
+not_0 Message = (λ h e. absurd (cc), λ h. omega arith)
+not_0 Guest = (λ h e. absurd (cc), λ h. omega arith)
+not_0 Missing = (λ h e. absurd (cc), λ h. omega arith)
+
+named : (msg guest : List ℕ) (f : Feed) (bytes : List ℕ) → (f.source ≡ Message → Part msg f bytes) → (f.source ≡ Guest → Part guest f bytes) → Names msg guest f bytes
+named msg guest f bytes one two =
+    record { source = few_sources f.source; of_message = λ n. one (is-1 f.source n); of_guest = λ n. two (is-2 f.source n) }
+
+lain : (msg guest : List ℕ) (f : Feed) → (f.source ≡ Message → f.at + f.length ≤ length msg) → (f.source ≡ Guest → f.at + f.length ≤ length guest)
+    → (f.source ≡ Missing → f.length ≡ 0) → Lies msg guest f
+lain msg guest f one two three =
+    record {
+      source = few_sources f.source;
+      of_message = λ n. one (is-1 f.source n);
+      of_guest = λ n. two (is-2 f.source n);
+      of_none = λ n. three (is-3 f.source n);
+    }
 
 -- ---- the part that a choice names
 module _ (msg guest : List ℕ) (gva gpa : ℕ) (long : length (drop 8 msg) ≡ 288) (few : load 4 (drop 8 msg) 24 ≤ 256) where
@@ -89,19 +135,19 @@ module _ (msg guest : List ℕ) (gva gpa : ℕ) (long : length (drop 8 msg) ≡ 
       let b = in-to gva (address_in msg) (size_in msg) i in
       let n : size_in msg ≤ 256 = rw same_size at few in
       let w = whole in
-      rw i (record { of_message = λ _. record { inside = omega arith; any = omega arith; same = refl }; of_guest = λ e. absurd (cc) }))
+      rw i (named _ _ _ _ (λ _. record { inside = omega arith; any = omega arith; same = refl }) (λ e. absurd (cc))))
       (λ i. rw i
       (test (page_exists (length guest) gpa)
       (λ p. let l = page-inside p in
-      rw p (record { of_message = λ e. absurd (cc); of_guest = λ _. record { inside = omega arith; any = omega arith; same = refl } }))
-      (λ p. rw p (record { of_message = λ e. absurd (cc); of_guest = λ e. absurd (cc) })))))
+      rw p (named _ _ _ _ (λ e. absurd (cc)) (λ _. record { inside = omega arith; any = omega arith; same = refl })))
+      (λ p. rw p (named _ _ _ _ (λ e. absurd (cc)) (λ e. absurd (cc)))))))
     where
       page-inside : page_exists (length guest) gpa ≡ true → (gpa / 4096 + 1) * 4096 ≤ length guest
       page-inside p = leb-true ((gpa / 4096 + 1) * 4096) (length guest) (unfold page_exists in p)
 
 -- no bytes are named where none are wanted
 none_named : (msg guest bytes : List ℕ) → Names msg guest unfed bytes
-none_named msg guest bytes = record { of_message = λ e. absurd (cc); of_guest = λ e. absurd (cc) }
+none_named msg guest bytes = named _ _ _ _ (λ e. absurd (cc)) (λ e. absurd (cc))
 
 -- ---- what is signalled for a fault's reply
 feed-signalled : (vcpu : ℕ) (fault : Fault) (guest : ℕ) (d : List ℕ)
@@ -161,10 +207,10 @@ module _ (s : Settings) (st : State) (m : Model) (began : BeganOn s st m) (cs : 
       test (in_context fault.gva (address_of data_of) (supplied_size data_of)) (λ i. rw i (λ e. cc))
       (λ i. rw i (test (page_exists (length guest) fault.gpa) (λ p. rw p (λ e. cc)) (λ p. rw p (λ e. cc))))
 
-  fed-wanted : ((feed_of_signal given.signal).source ≢ Unfed) ↔ ((action_of data_of ≡ 0) × (is_on fault.access 0 ≡ true))
+  fed-wanted : (0 < source_number (feed_of_signal given.signal).source) ↔ ((action_of data_of ≡ 0) × (is_on fault.access 0 ≡ true))
   fed-wanted = (
-    λ l. test wants wants-both (λ w. let z : (feed_of_signal given.signal).source ≡ Unfed = ap (λ (f : Feed). f.source) fed-is ∙ rw w in absurd (l z)),
-    λ q. subst (λ (f : Feed). f.source ≢ Unfed) (sym fed-is) (rw (both-wants q) chosen-source),
+    λ l. test wants wants-both (λ w. let z : (feed_of_signal given.signal).source ≡ Unfed = ap (λ (f : Feed). f.source) fed-is ∙ rw w in absurd ((not_0 _).0 l z)),
+    λ q. (not_0 _).1 (subst (λ (f : Feed). f.source ≢ Unfed) (sym fed-is) (rw (both-wants q) chosen-source)),
   )
 
   -- which choice is missing
@@ -298,20 +344,17 @@ feed-back start (Resume r) = refl
 
 feed-moved : (input guest : List ℕ) (start n : ℕ) (f : Feed) (bytes : List ℕ) → Names (take n (drop start input)) guest f bytes → Names input guest (feed_in start f) bytes
 feed-moved input guest start n f bytes h =
+    named _ _ _ _
+    (λ one. let p = h.of_message (ap source_number one) in
+    let e : cond (is_message f.source) (start + f.at) f.at ≡ start + f.at = rw one in
     record {
-      of_message = λ one.
-          let p = h.of_message one in
-          let e : cond (is_message f.source) (start + f.at) f.at ≡ start + f.at = rw one in
-          record {
-            inside = rw e (part-inside input start n f.at f.length p.inside p.any);
-            any = p.any;
-            same = rw e (sym (part_moved input start n f.at f.length p.inside) ∙ p.same);
-          };
-      of_guest = λ two.
-          let p = h.of_guest two in
-          let e : cond (is_message f.source) (start + f.at) f.at ≡ f.at = rw two in
-          record { inside = rw e p.inside; any = p.any; same = rw e p.same };
-    }
+      inside = rw e (part-inside input start n f.at f.length p.inside p.any);
+      any = p.any;
+      same = rw e (sym (part_moved input start n f.at f.length p.inside) ∙ p.same);
+    })
+    (λ two. let p = h.of_guest (ap source_number two) in
+    let e : cond (is_message f.source) (start + f.at) f.at ≡ f.at = rw two in
+    record { inside = rw e p.inside; any = p.any; same = rw e p.same })
 
 turn-names : (input : List ℕ) (b : Batch State) (bytes : List ℕ)
     → let r = message_of b.state (next_of input b) (out_left b) b.guest in
@@ -369,7 +412,7 @@ reply-feeds P resumes vcpu action value f n y =
     pick (λ (g : Signal). P (feed_of_signal g)) (eqb action 2) _ _ (λ _. n) (λ _. pick (λ (g : Signal). P (feed_of_signal g)) resumes (resume vcpu action value f) Quiet (λ _. y) (λ _. n))
 
 unfed-lies : (msg guest : List ℕ) → Lies msg guest unfed
-unfed-lies msg guest = record { of_message = λ e. absurd (cc); of_guest = λ e. absurd (cc); of_none = λ e. absurd (cc) }
+unfed-lies msg guest = lain _ _ _ (λ e. absurd (cc)) (λ e. absurd (cc)) (λ e. absurd (cc))
 
 answer-seq : (mode : ReplyMode) (n : ℕ) → answer_seq mode n OK ≡ n
 unfolding answer_seq
@@ -398,11 +441,7 @@ module _ (st : State) (msg out guest : List ℕ) where
       let inside = reply-inside st.session.settings facts a id seq body p in
       let long = length-drop 8 msg in
       reply-feeds (Lies msg guest) (not (eqb a.event 2)) (vcpu_of body) (action_of body) (value_of form body) x (unfed-lies msg guest)
-      (record {
-        of_message = λ one. let i = inside one in let whole = i.0 in let few = i.1 in omega arith;
-        of_guest = rest.of_guest;
-        of_none = rest.of_none;
-      }))
+      (lain _ _ _ (λ one. let i = inside one in let whole = i.0 in let few = i.1 in omega arith) rest.of_guest rest.of_none))
 
   headed-lies : (h : HeaderRead) → Lies msg guest (feed_of_signal (headed_of st body out guest h).answer.signal)
   unfolding headed_of

@@ -2,11 +2,10 @@
 -- that feed the instruction. Said of every session that began, after every list of calls, but `moves`, which is said of any model, and `lies`, `kept`, `lacked`
 -- and `in_batch`, which are said of any session, whatever bits it holds. That a fault's reply is taken or closes, and what is signalled for it, `Events` says
 -- with the other events.
-use Rattle.std.specs.Prelude.{Option, Some, None, ◌≡◌, ◌≢◌, ◌↔◌, ℕ, ◌+◌, ◌/◌, ◌%◌, ◌^◌, ◌≤◌, ◌<◌, List, true, false, length, drop}
+use Rattle.std.specs.Prelude.{Option, Some, None, ◌≡◌, ◌↔◌, ℕ, ◌+◌, ◌/◌, ◌%◌, ◌^◌, ◌≤◌, ◌<◌, List, true, false, length, drop}
 use Rattle.std.proofs.Math.Option.{some}
 use Rattle.wire.specs.Bytes.{load}
 use Rattle.kvmi.specs.declared.Feed.{Feed}
-use Rattle.kvmi.specs.declared.Source.TheVariants.{Unfed, Message, Guest, Missing}
 use Rattle.kvmi.specs.declared.Resumption.{Resumption}
 use Rattle.kvmi.specs.Answer.{resume}
 use Rattle.kvmi.specs.declared.Settings.{Settings}
@@ -28,6 +27,7 @@ use Rattle.session.specs.Calls.{Told}
 use Rattle.message.specs.Message.{message_of}
 use Rattle.batch.specs.Batch.{message_takes}
 use Rattle.feed.specs.Fed.{part_of, fed_bytes}
+use Rattle.calls.specs.Given.{source_number}
 use Rattle.refine.specs.Errors.{HasId}
 use Rattle.history.specs.History.{step_of, after_of, BeganOn}
 use Rattle.history.specs.Unsteered.{written}
@@ -40,10 +40,11 @@ pub record Part (buffer : List ℕ) (f : Feed) (bytes : List ℕ) : Type 0 where
   pub any : 0 < f.length
   pub same : part_of buffer f.at f.length ≡ bytes
 
--- by its source: the message or guest memory; of any other none are named
+-- by its source, as the number that a host is told: 1 the message, 2 guest memory; of any other none are named
 pub record Names (msg guest : List ℕ) (f : Feed) (bytes : List ℕ) : Type 0 where
-  pub of_message : f.source ≡ Message → Part msg f bytes
-  pub of_guest : f.source ≡ Guest → Part guest f bytes
+  pub source : source_number f.source ≤ 3
+  pub of_message : source_number f.source ≡ 1 → Part msg f bytes
+  pub of_guest : source_number f.source ≡ 2 → Part guest f bytes
 
 -- what feeds a signalled vCPU
 abbrev pub feed_of_signal : Signal → Feed
@@ -66,9 +67,10 @@ without_feed (Resume r) = resume r.vcpu r.action r.value unfed
 
 -- the part that a feed names lies inside its buffer, and one that is missing has no bytes
 pub record Lies (msg guest : List ℕ) (f : Feed) : Type 0 where
-  pub of_message : f.source ≡ Message → f.at + f.length ≤ length msg
-  pub of_guest : f.source ≡ Guest → f.at + f.length ≤ length guest
-  pub of_none : f.source ≡ Missing → f.length ≡ 0
+  pub source : source_number f.source ≤ 3
+  pub of_message : source_number f.source ≡ 1 → f.at + f.length ≤ length msg
+  pub of_guest : source_number f.source ≡ 2 → f.at + f.length ≤ length guest
+  pub of_none : source_number f.source ≡ 3 → f.length ≡ 0
 
 -- what answer 12 leaves: an EVENT_REPLY was taken, which writes nothing and hands back no bytes; of the session the awaited record alone goes
 pub record Lacked (st : State) (msg out guest : List ℕ) (r : Told) : Type 0 where
@@ -106,7 +108,7 @@ pub record Faults : Type 0 where
   -- "On a continued read (access bit R) the host wants the bytes": exactly then there are some, or the page is missing
   pub wanted : (s : Settings) (st : State) (m : Model) → BeganOn s st m → (cs : List Call) (vcpu seq : ℕ) (fault : Fault) (msg out guest : List ℕ)
       → awaited_by (after s m cs) vcpu ≡ some (awaiting 10 seq fault) → Replies vcpu 10 seq msg → least_out ≤ length out
-      → ((feed_of_signal (step_of (after_of st cs) (message msg out guest)).answer.signal).source ≢ Unfed)
+      → (0 < source_number (feed_of_signal (step_of (after_of st cs) (message msg out guest)).answer.signal).source)
       ↔ ((action_of (drop 8 msg) ≡ 0) × (is_on fault.access 0 ≡ true))
   -- "a continue that needs the guest page where none exists is answer 12"
   pub missing : (s : Settings) (st : State) (m : Model) → BeganOn s st m → (cs : List Call) (vcpu seq : ℕ) (fault : Fault) (msg out guest : List ℕ)
