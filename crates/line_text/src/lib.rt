@@ -102,7 +102,7 @@ impl Text {
             None => self.push_all(b" -"),
             Some(e) if e < 0 => {
                 self.push_all(b" -");
-                self.push_decimal(e.unsigned_abs() as u64);
+                self.push_decimal(wire::negate(e).unsigned_abs());
             }
             Some(e) => self.push_field(e.unsigned_abs() as u64),
         }
