@@ -2,7 +2,7 @@
 // told on standard error.
 #![tactic(auto)]
 
-ghost use Rattle.std.specs.Prelude.{◌≤◌, IfSome, OnSome, OnOk, length, take};
+ghost use Rattle.std.specs.Prelude.{IfSome, OnSome, OnOk, take};
 ghost use Rattle.std.specs.Str.{IsUtf8};
 ghost use Rattle.std.specs.Io.KnownBytes.{Appends, Consumes};
 ghost use Rattle.files.specs.Counts.{IsPrefixLen};
@@ -89,30 +89,14 @@ pub fn write_all<W: Write>(to: &mut W, buf: &[u8]) -> io::Result<()>
     to.write_all(buf)
 }
 
-// Opens the file that has a name, reads it into `room` as far as that goes, and hands on the name and what was read. A file that can't be opened is
-// told of, and left out.
-fn run_file<F: Fn(&[u8], &[u8])>(rt: &HostRuntime, name: &[u8], room: &mut [u8], run: &F)
-    requires { (named : _) (read : _) → IsUtf8 named.now → length read.now ≤ length room.old → F.pre run.now named read }
+// Reads the file that has a name, which is text, into `room` as far as that goes, and answers how many bytes it put at the start. A file that can't be
+// opened is told of.
+pub fn read_file(rt: &HostRuntime, name: &[u8], room: &mut [u8]) -> Option<usize>
+    ensures text { OnSome result (IsUtf8 name.now) }
+    ensures counts { IfSome result (λ n. IsPrefixLen n room.new) }
 {
-    if let Some(mut file) = open(rt, name) {
-        let n = read_full(&mut file, room);
-        drop(file);
-        run(name, &room[..n]);
-    }
-}
-
-// Runs over the files that the program's arguments name, in their order: each is read into `room` as far as that goes, and its name and what was read
-// are handed on. One that can't be opened is told of, and left out.
-// The `requires` is a promise to `run`: a name that it is given is text, and it is given no more bytes than the room has. There is no `ensures`: no clause
-// can say what the arguments and the files are, nor what `run` prints.
-pub fn run_files<F: Fn(&[u8], &[u8])>(rt: &HostRuntime, room: &mut [u8], run: F)
-    requires { (named : _) (read : _) → IsUtf8 named.now → length read.now ≤ length room.old → F.pre run named read }
-{
-    for i in 1..usize::MAX {
-        let mut name = [0u8; 4096];
-        let Some(n) = argument(rt, i, &mut name) else {
-            return;
-        };
-        run_file(rt, &name[..n], room, &run);
-    }
+    let mut file = open(rt, name)?;
+    let n = read_full(&mut file, room);
+    drop(file);
+    Some(n)
 }

@@ -266,5 +266,13 @@ fn run_named(rt: &HostRuntime, name: &[u8], script: &[u8]) {
 
 fn main(rt: HostRuntime) {
     let mut room = [0u8; 65536];
-    files::run_files(&rt, &mut room, |name, script| run_named(&rt, name, script));
+    for i in 1..usize::MAX {
+        let mut name = [0u8; 4096];
+        let Some(n) = files::argument(&rt, i, &mut name) else {
+            return;
+        };
+        if let Some(count) = files::read_file(&rt, &name[..n], &mut room) {
+            run_named(&rt, &name[..n], &room[..count]);
+        }
+    }
 }
