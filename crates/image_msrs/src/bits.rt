@@ -18,7 +18,7 @@ pub struct BitsOn {
 
 impl BitsOn {
     // All bits of a word that are on; its lowest bit is number `first`.
-    pub fn of(word: u64, first: usize) -> Self
+    pub(crate) fn of(word: u64, first: usize) -> Self
         requires { first ≤ 262144 }
         ensures { (result.left ≡ word) × (result.at ≡ first) × (result.end ≡ first + 64) }
     {
