@@ -111,7 +111,7 @@ fn resume_of(start: usize, signal: Signal) -> Option<Resumption>
 }
 
 // Whether there is a next message, and room for whatever it writes and signals. The tests stand one by one and in this order: as a chain of `&&` a message of
-// a batch takes 162 instructions and not 145 (150 are its bound), and in the five other orders that were counted 150 to 161.
+// a batch takes 162 instructions and not 143 (150 are its bound), and in the five other orders that were counted 150 to 161.
 #[tactic(auto, using(std::proofs::lemmas::Bool::Decides::nat_tests), unfolding(kvmi::specs::Batch::goes_on))]
 fn goes_on(b: Batched, input: &[u8], out: &[u8], signals: &[u32]) -> bool
     requires { b.count ≤ length out.now }
