@@ -8,6 +8,22 @@ ghost use Rattle.line_text.specs.Text.{ascii, decimal, number_text, code_text, l
 use std::marker::Model;
 use stream::{End, Line};
 
+// The digits of a number at a place, its highest first; answers the place behind them. The place goes from call to call by value: with `push` for each
+// digit a stream whose seqs have ten digits takes a third more time.
+fn put_digits(bytes: &mut [u8; 128], at: usize, n: u64) -> usize
+    requires { at + length (decimal n) ≤ 128 }
+    ensures place { result ≡ at + length (decimal n) }
+    ensures digits { take result bytes.new ≡ take at bytes.old ++ decimal n }
+{
+    let last = if n >= 10 {
+        put_digits(bytes, at, n / 10)
+    } else {
+        at
+    };
+    bytes[last] = b'0' + (n % 10) as u8;
+    last + 1
+}
+
 // The text of a line as it grows, of at most 128 bytes. Library crates allocate nothing, so it has fixed memory.
 #[derive(Drop)]
 struct Text {
@@ -57,15 +73,12 @@ impl Text {
         }
     }
 
-    // A number in decimal, its highest digits first.
+    // A number in decimal.
     fn push_decimal(&mut self, n: u64)
         requires { length self.old + length (decimal n) ≤ 128 }
         ensures { self.new ≡ self.old ++ decimal n }
     {
-        if n >= 10 {
-            self.push_decimal(n / 10);
-        }
-        self.push(b'0' + (n % 10) as u8);
+        self.len = put_digits(&mut self.bytes, self.len, n);
     }
 
     // A space, and a number.

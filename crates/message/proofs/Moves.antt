@@ -16,6 +16,11 @@ pub stays : (s : Session) → session_after s Same ≡ s
 unfolding session_after
 stays s = refl
 
+-- nor does it change where it is said to have moved, and no seq was taken and no number moved
+pub stays-changed : (s : Session) → session_after s (Changed false Nothing) ≡ s
+unfolding session_after tool_after
+stays-changed s = refl
+
 -- one of the tool's numbers, and a seq where an event took it
 pub moved_as : (s : Session) (moved : Moved) (took : Bool) → session_after s (and_seq moved took) ≡ with_tool s (seq_taken took (tool_after s.tool moved))
 unfolding session_after tool_after

@@ -1,0 +1,5 @@
+-- What is left of the number. Assumes nothing.
+use Rattle.line_text.proofs.+put_digits.Given as goal
+
+abbrev pub decreases-put_digits : goal.decreases-put_digits
+decreases-put_digits l = l.n

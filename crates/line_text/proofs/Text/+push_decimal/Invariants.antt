@@ -1,5 +1,0 @@
--- What is left of the number. Assumes nothing.
-use Rattle.line_text.proofs.Text.+push_decimal.Given as goal
-
-abbrev pub decreases-push_decimal : goal.decreases-push_decimal
-decreases-push_decimal l = l.n
