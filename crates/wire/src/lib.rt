@@ -106,7 +106,7 @@ impl Number for u16 {
     }
 
     fn put(self, out: &mut [u8], at: usize) {
-        put_bytes(out, at, self.to_le_bytes());
+        put_bytes(out, at, u16::to_le_bytes(self));
     }
 }
 
@@ -120,7 +120,7 @@ impl Number for u32 {
     }
 
     fn put(self, out: &mut [u8], at: usize) {
-        put_bytes(out, at, self.to_le_bytes());
+        put_bytes(out, at, u32::to_le_bytes(self));
     }
 }
 
@@ -134,7 +134,7 @@ impl Number for u64 {
     }
 
     fn put(self, out: &mut [u8], at: usize) {
-        put_bytes(out, at, self.to_le_bytes());
+        put_bytes(out, at, u64::to_le_bytes(self));
     }
 }
 
