@@ -73,12 +73,11 @@ fn awaited_from(event: u64, seq: u64, fault: Fault) -> Option<Awaited>
     (event != 0).then_some(Awaited { event, seq, fault })
 }
 
-// A vCPU's pauses, and the words of its awaited event. One test covers all six fields when the vCPU's words are there. Otherwise each field is read with
-// a test of its own.
+// The words of a vCPU's awaited event. They are read as they stand where none is awaited, too: its number is 0 then. One test covers all five when the
+// vCPU's words are there. Otherwise each is read with a test of its own.
 #[tactic(auto, unfolding(crate::specs::Words::field))]
-fn read_standing(words: &[u64], vcpu: u16) -> (u64, Awaited)
-    ensures pauses { result.0 ≡ field words.now vcpu PAUSES }
-    ensures awaited { result.1 ≡ awaited_words words.now vcpu }
+pub fn read_awaited(words: &[u64], vcpu: u16) -> Awaited
+    ensures { result ≡ awaited_words words.now vcpu }
 {
     let at = (vcpu as usize) * BLOCK_WORDS;
     if at + FAULT_ACCESS < words.len() {
@@ -87,41 +86,31 @@ fn read_standing(words: &[u64], vcpu: u16) -> (u64, Awaited)
             gpa: words[at + FAULT_GPA],
             access: words[at + FAULT_ACCESS],
         };
-        let awaited = Awaited {
+        return Awaited {
             event: words[at + AWAITED],
             seq: words[at + AWAITED_SEQ],
             fault,
         };
-        return (words[at + PAUSES], awaited);
     }
     let fault = Fault {
         gva: read_field(words, vcpu, FAULT_GVA),
         gpa: read_field(words, vcpu, FAULT_GPA),
         access: read_field(words, vcpu, FAULT_ACCESS),
     };
-    let awaited = Awaited {
+    Awaited {
         event: read_field(words, vcpu, AWAITED),
         seq: read_field(words, vcpu, AWAITED_SEQ),
         fault,
-    };
-    (read_field(words, vcpu, PAUSES), awaited)
-}
-
-// The words of a vCPU's awaited event. They are read as they stand where none is awaited, too: its number is 0 then.
-pub fn read_awaited(words: &[u64], vcpu: u16) -> Awaited
-    ensures { result ≡ awaited_words words.now vcpu }
-{
-    let (_, awaited) = read_standing(words, vcpu);
-    awaited
+    }
 }
 
 // What is pending of a vCPU.
 pub fn read_pending(words: &[u64], vcpu: u16) -> Pending
     ensures { result ≡ pending words.now vcpu }
 {
-    let (pauses, awaited) = read_standing(words, vcpu);
+    let awaited = read_awaited(words, vcpu);
     Pending {
-        pauses,
+        pauses: read_field(words, vcpu, PAUSES),
         awaited: awaited_from(awaited.event, awaited.seq, awaited.fault),
     }
 }
