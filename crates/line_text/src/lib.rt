@@ -115,7 +115,7 @@ impl Text {
             None => self.push_all(b" -"),
             Some(e) if e < 0 => {
                 self.push_all(b" -");
-                self.push_decimal(wire::negate(e).unsigned_abs());
+                self.push_decimal(wire::negate(e) as u64);
             }
             Some(e) => self.push_field(e.unsigned_abs() as u64),
         }

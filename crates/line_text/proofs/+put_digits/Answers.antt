@@ -1,6 +1,7 @@
 -- Its last digit stands behind the others. Assumes nothing.
-use Rattle.std.proofs.Common.{◌+◌, ◌%◌, ◌<◌, arith, rules, append_assoc, length}
+use Rattle.std.proofs.Common.{ℕ, [], ◌∷◌, ◌++◌, ◌/◌, ◌<◌, ap, arith, rules, append_assoc, length, take}
 use Rattle.std.proofs.lemmas.List.{take_more_set}
+use Rattle.line_text.specs.Text.{decimal}
 use Rattle.line_text.proofs.Texts.{decimal-one, decimal-more, length-decimal_one, length-decimal_more}
 use Rattle.line_text.proofs.+put_digits.Goals as goal
 use Rattle.line_text.proofs.+put_digits.Goals.{then-n-ge10, else-n-ge10}
@@ -30,9 +31,11 @@ returns-clause-digits t c =
       | then-n-ge10 w ↦ rw w.last-is (omega (arith, w.put_digits-last.ensures.place, length-decimal_more c.args.n w.if-n-ge10.true (omega arith)))
       | else-n-ge10 w ↦ rw w.last-is (omega (arith, length-decimal_one c.args.n w.if-n-ge10.false))
     ]) in
-    rw (take_more_set c.if-n-ge10.bytes c.if-n-ge10.last (48 + c.args.n % 10) inside)
+    rw (take_more_set c.if-n-ge10.bytes c.if-n-ge10.last _ inside)
     (elim c.if-n-ge10.branch [
       | then-n-ge10 w ↦
           rw (w.last-is, w.bytes-is, w.put_digits-last.ensures.digits, decimal-more c.args.n w.if-n-ge10.true (omega arith), append_assoc)
-      | else-n-ge10 w ↦ rw (w.last-is, w.bytes-is, decimal-one c.args.n w.if-n-ge10.false)
+          (ap (λ (d : ℕ). take c.args.at c.args.bytes.now ++ (decimal (c.args.n / 10) ++ d ∷ [])) (omega arith))
+      | else-n-ge10 w ↦
+          rw (w.last-is, w.bytes-is, decimal-one c.args.n w.if-n-ge10.false) (ap (λ (d : ℕ). take c.args.at c.args.bytes.now ++ d ∷ []) (omega arith))
     ])

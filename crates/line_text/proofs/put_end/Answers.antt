@@ -1,5 +1,5 @@
 -- Each arm has its text, which is far shorter than the buffer. Assumes nothing.
-use Rattle.std.proofs.Common.{◌≡◌, ◌≤◌, List, ℕ, length, arith, ap, ◌∙◌}
+use Rattle.std.proofs.Common.{◌≡◌, ◌≤◌, length, arith, ap}
 use Rattle.stream.specs.declared.End.{End}
 use Rattle.stream.specs.declared.End.TheVariants.{Open, Closed, Long}
 use Rattle.line_text.specs.Text.{end_text}
