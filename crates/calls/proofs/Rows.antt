@@ -1,4 +1,4 @@
--- The words that tell a host of a resume, as include/semblurick.h has them: of what feeds the instruction, source, at and length stand at 7 to 9.
+-- The words of a resume, as include/semblurick.h has them. Words 7 to 9 say what feeds the instruction: source, at and length.
 use Rattle.std.specs.Prelude.{◌≡◌, ℕ, List, [], ◌∷◌}
 use Rattle.std.proofs.Common.{refl}
 use Rattle.kvmi.specs.declared.Source.{Source}

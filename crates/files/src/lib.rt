@@ -89,8 +89,8 @@ pub fn write_all<W: Write>(to: &mut W, buf: &[u8]) -> io::Result<()>
     to.write_all(buf)
 }
 
-// Reads the file that has a name, which is text, into `room` as far as that goes, and answers how many bytes it put at the start. A file that can't be
-// opened is told of.
+// Reads the file that has a name into `room`, as far as that goes, and answers how many bytes it put at the start.
+// The name is text. A file that can't be opened is reported on standard error.
 pub fn read_file(rt: &HostRuntime, name: &[u8], room: &mut [u8]) -> Option<usize>
     ensures text { OnSome result (IsUtf8 name.now) }
     ensures counts { IfSome result (λ n. IsPrefixLen n room.new) }

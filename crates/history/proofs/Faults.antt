@@ -67,7 +67,7 @@ use Rattle.history.specs.Events.{switches_on, signalled, Replies}
 use Rattle.history.specs.Faults.{Part, Names, feed_of_signal, feed_of_resume, without_feed, Lies, Lacked, ButFeed, Faults}
 use Rattle.history.proofs.Events.{says_of, reply-verdict, events}
 
--- ---- the source, by the number that a host is told
+-- ---- the source, by the number that a host gets
 is-1 : (s : Source) → source_number s ≡ 1 → s ≡ Message
 is-1 Unfed h = absurd (omega arith)
 is-1 Message h = refl

@@ -40,7 +40,7 @@ pub record Part (buffer : List ℕ) (f : Feed) (bytes : List ℕ) : Type 0 where
   pub any : 0 < f.length
   pub same : part_of buffer f.at f.length ≡ bytes
 
--- by its source, as the number that a host is told: 1 the message, 2 guest memory; of any other none are named
+-- by its source, as the number that a host gets: 1 the message, 2 guest memory; of any other none are named
 pub record Names (msg guest : List ℕ) (f : Feed) (bytes : List ℕ) : Type 0 where
   pub source : source_number f.source ≤ 3
   pub of_message : source_number f.source ≡ 1 → Part msg f bytes

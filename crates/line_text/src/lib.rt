@@ -8,8 +8,8 @@ ghost use Rattle.line_text.specs.Text.{ascii, decimal, number_text, code_text, l
 use std::marker::Model;
 use stream::{End, Line};
 
-// The digits of a number at a place, its highest first; answers the place behind them. The place goes from call to call by value: with `push` for each
-// digit a stream whose seqs have ten digits takes a third more time.
+// The digits of a number from a place on, the highest first; answers the place after them.
+// Each call gets the place by value. With a `push` for each digit, a stream whose seqs have ten digits takes a third more time.
 fn put_digits(bytes: &mut [u8; 128], at: usize, n: u64) -> usize
     requires { at + length (decimal n) ≤ 128 }
     ensures place { result ≡ at + length (decimal n) }

@@ -73,8 +73,8 @@ fn awaited_from(event: u64, seq: u64, fault: Fault) -> Option<Awaited>
     (event != 0).then_some(Awaited { event, seq, fault })
 }
 
-// The words of a vCPU's awaited event. They are read as they stand where none is awaited, too: its number is 0 then. One test covers all five when the
-// vCPU's words are there. Otherwise each is read with a test of its own.
+// The words of a vCPU's awaited event, as they are. The event's number is 0 where none is awaited.
+// One test covers all five where the vCPU's words are there. Otherwise each is read with a test of its own.
 #[tactic(auto, unfolding(crate::specs::Words::field))]
 pub fn read_awaited(words: &[u64], vcpu: u16) -> Awaited
     ensures { result ≡ awaited_words words.now vcpu }

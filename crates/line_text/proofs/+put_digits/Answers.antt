@@ -1,4 +1,4 @@
--- Its last digit stands behind the others. Assumes nothing.
+-- The last digit follows the others. Assumes nothing.
 use Rattle.std.proofs.Common.{ℕ, [], ◌∷◌, ◌++◌, ◌/◌, ◌<◌, ap, arith, rules, append_assoc, length, take}
 use Rattle.std.proofs.lemmas.List.{take_more_set}
 use Rattle.line_text.specs.Text.{decimal}
@@ -25,12 +25,7 @@ returns-clause-place t c =
 
 pub returns-clause-digits : goal.returns-clause-digits
 returns-clause-digits t c =
-    let inside : c.if-n-ge10.last < length c.if-n-ge10.bytes
-    = rw c.if-n-ge10.array_long
-    (elim c.if-n-ge10.branch [
-      | then-n-ge10 w ↦ rw w.last-is (omega (arith, w.put_digits-last.ensures.place, length-decimal_more c.args.n w.if-n-ge10.true (omega arith)))
-      | else-n-ge10 w ↦ rw w.last-is (omega (arith, length-decimal_one c.args.n w.if-n-ge10.false))
-    ]) in
+    let inside : c.if-n-ge10.last < length c.if-n-ge10.bytes = rw c.if-n-ge10.array_long (omega (arith, returns-clause-place t c)) in
     rw (take_more_set c.if-n-ge10.bytes c.if-n-ge10.last _ inside)
     (elim c.if-n-ge10.branch [
       | then-n-ge10 w ↦

@@ -1,4 +1,4 @@
--- A negative number has a minus sign before it, and its negation behind that. Assumes nothing.
+-- A negative number is a minus sign and then its negation. Assumes nothing.
 use Rattle.std.proofs.Common.{◌≡◌, refl, ap, ◌∙◌, true, zero, suc, arith, rules, length-append, append_assoc}
 use lib.Dec.{T}
 use lib.IntN.{ℤ, pos, negsuc, nat_abs}
